@@ -1,0 +1,29 @@
+-- Tests over the numbers below n and over the elements of a list.
+use mathlib.Core.Bool.{Bool, true, false}
+use mathlib.Core.List.{List, [], _∷_}
+use Prim.Native.Nat.{ℕ, zero, suc, max}
+
+-- some number below n passes
+abbrev pub some-below : ℕ → (ℕ → Bool) → Bool
+some-below zero f = false
+some-below (suc n) f = elim (f n) [ true ↦ true | false ↦ some-below n f ]
+
+-- every number below n passes
+abbrev pub all-below : ℕ → (ℕ → Bool) → Bool
+all-below zero f = true
+all-below (suc n) f = elim (f n) [ true ↦ all-below n f | false ↦ false ]
+
+-- the greatest f i with i below n, 0 if there is none
+abbrev pub most-below : ℕ → (ℕ → ℕ) → ℕ
+most-below zero f = 0
+most-below (suc n) f = max (f n) (most-below n f)
+
+-- every element of the list passes
+abbrev pub all-in : {A : Type 0} → (A → Bool) → List A → Bool
+all-in f [] = true
+all-in f (x ∷ xs) = elim (f x) [ true ↦ all-in f xs | false ↦ false ]
+
+-- the first element that passes, or d
+abbrev pub first-in : {A : Type 0} → (A → Bool) → A → List A → A
+first-in f d [] = d
+first-in f d (x ∷ xs) = elim (f x) [ true ↦ x | false ↦ first-in f d xs ]

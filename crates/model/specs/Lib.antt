@@ -1,0 +1,3 @@
+-- The planner's mathematics, in the order of document 01.
+pub mod Below
+pub mod Problem

@@ -1,0 +1,60 @@
+-- A packing problem with precedences, and its feasible packings (document 01, "Fit").
+-- Axes are 0 (x), 1 (y) and 2 (t); items count from 0.
+use mathlib.Core.Bool.{Bool, _&&_, _||_}
+use mathlib.Core.List.{List, List·Memᴰ}
+use mathlib.Core.Logic.{_⊎_, _≢_}
+use Prim.Native.Nat.{ℕ, _+_, _<_, _≤_}
+use lib.Dec.{leb, eqb}
+use Rattle.model.specs.Below.{some-below, all-below, all-in}
+
+-- the axis t, on which precedences act
+abbrev pub time : ℕ
+time = 2
+
+-- "order u, v": u is lifted before v is set
+pub record Precedence : Type 0 where
+  pub predecessor : ℕ
+  pub successor : ℕ
+
+-- a hall with its pieces and orders: how many items, their measures by axis and item, the container's measures by axis, the precedences
+pub record Problem : Type 0 where
+  pub items : ℕ
+  pub size : ℕ → ℕ → ℕ
+  pub capacity : ℕ → ℕ
+  pub precedences : List Precedence
+
+-- "A plan gives each piece x, y and t": the start of each item, by axis and item
+abbrev pub Positions : Type 0
+Positions = ℕ → ℕ → ℕ
+
+-- "one ends at or before the other's start (touching is allowed)": u's start plus its measure is at most v's start
+unfoldable pub EndsBefore : Problem → Positions → ℕ → ℕ → ℕ → Type 0
+EndsBefore p q a u v = q a u + p .size a u ≤ q a v
+
+-- "A plan fits when:"
+pub record Feasible (p : Problem) (q : Positions) : Type 0 where
+  -- "on each axis, start plus measure is at most the hall's measure"
+  pub inside : (a u : ℕ) → a < 3 → u < p .items → q a u + p .size a u ≤ p .capacity a
+  -- "each two pieces are apart on some axis"
+  pub apart : (u v : ℕ) → u < p .items → v < p .items → u ≢ v → (a : ℕ) × (a < 3) × (EndsBefore p q a u v ⊎ EndsBefore p q a v u)
+  -- "for each order u, v: u's end in t is at most v's start"
+  pub ordered : (o : Precedence) → List·Memᴰ o (p .precedences) → EndsBefore p q time (o .predecessor) (o .successor)
+
+-- The same as tests. proofs/Feasible shows that they agree.
+unfoldable pub ends-before : Problem → Positions → ℕ → ℕ → ℕ → Bool
+ends-before p q a u v = leb (q a u + p .size a u) (q a v)
+
+unfoldable pub inside-test : Problem → Positions → Bool
+inside-test p q = all-below 3 (λ a. all-below (p .items) (λ u. leb (q a u + p .size a u) (p .capacity a)))
+
+unfoldable pub apart-on-some-axis : Problem → Positions → ℕ → ℕ → Bool
+apart-on-some-axis p q u v = some-below 3 (λ a. ends-before p q a u v || ends-before p q a v u)
+
+unfoldable pub apart-test : Problem → Positions → Bool
+apart-test p q = all-below (p .items) (λ u. all-below (p .items) (λ v. eqb u v || apart-on-some-axis p q u v))
+
+unfoldable pub ordered-test : Problem → Positions → Bool
+ordered-test p q = all-in (λ (o : Precedence). ends-before p q time (o .predecessor) (o .successor)) (p .precedences)
+
+unfoldable pub feasible : Problem → Positions → Bool
+feasible p q = inside-test p q && (apart-test p q && ordered-test p q)
