@@ -1,0 +1,3 @@
+pub mod Readers
+pub mod Rows
+pub mod Writers

@@ -1,0 +1,93 @@
+use borrow.Author.Needs.{needs}
+use native.Mathlib.Omega.{arith}
+use native.Mathlib.Nat.{add-zero}
+use mathlib.Core.Path.{_≡_, refl, sym, ap, _∙_}
+use Prim.Native.Nat.{ℕ, _+_, _-_, _*_, _≤_}
+use lib.ListN.{length, getD, take, length-append}
+use lib.Seq.{sets, length-take-le}
+use Rattle.records.specs.Bytes.{precedence-bytes, precedences-bytes}
+use Rattle.records.specs.Answers.{no-precedence}
+use Rattle.records.proofs.Writers.{row-none, row-next, sets-append, precedences-length}
+use Rattle.records.proofs.write.write_precedences.Statement.{statement}
+use Rattle.records.proofs.write.write_precedences.Tie as tie
+use Rattle.records.proofs.write.write_precedences.Reads as reads
+use Rattle.records.proofs.write.write_precedences.Lts as lts
+use Rattle.records.proofs.write.write_precedence.Reads as write-precedence-reads
+
+abbrev Inv-loop : tie.InvT-loop
+Inv-loop out₀ at m precedences k₀ i₀ out k i =
+    (i ≤ m)
+    × (k ≡ at + 2 * i)
+    × (out ≡ sets out₀ at (precedences-bytes (take i precedences)))
+    × (length out ≡ length out₀)
+
+abbrev μ-loop : tie.MeasureT-loop
+μ-loop out₀ at m precedences k₀ i₀ out k i = m - i
+
+-- src/write.rt:121:5
+loop-holds : tie.Need-loop-holds Inv-loop μ-loop
+loop-holds c = (omega arith, omega arith, rw (row-none precedence-bytes) refl, refl)
+
+-- src/write.rt:122:38
+mul-write-precedence : tie.Need-mul-write-precedence Inv-loop μ-loop
+mul-write-precedence c = search needs
+
+-- src/write.rt:122:38
+array-copy-out-write-precedence : tie.Need-array-copy-out-write-precedence Inv-loop μ-loop
+array-copy-out-write-precedence c = search needs
+
+-- src/write.rt:122:9
+write-precedence-requires : tie.Need-write-precedence-requires Inv-loop μ-loop
+write-precedence-requires c κs = omega arith
+
+-- src/write.rt:123:13
+add-i : tie.Need-add-i Inv-loop μ-loop
+add-i c = search needs
+
+-- src/write.rt:121:5
+loop-less : tie.Need-loop-less Inv-loop μ-loop
+loop-less c = search needs
+
+-- src/write.rt:121:5
+loop-again : tie.Need-loop-again Inv-loop μ-loop
+loop-again c =
+    let l = c .before .before .before .before .before .before .loop in
+    let a = c .before .before .before .before .before .before .before .before .args in
+    let w = c .before .before .write-precedence in
+    let h : length (a .t3) ≡ 90 = search needs in
+    let next = row-next precedence-bytes (a .t3) (l .i) no-precedence (omega arith) in
+    let many : length (precedences-bytes (take (l .i) (a .t3))) ≡ 2 * l .i = precedences-length (take (l .i) (a .t3)) ∙ ap (λ (x : ℕ). 2 * x) (length-take-le (l .i) (a .t3) (omega arith)) in
+    let here : l .k ≡ a .at + length (precedences-bytes (take (l .i) (a .t3))) = omega arith in (
+      search needs,
+      omega arith,
+      rw (next, w .ensures .1, here, l .inv .2)
+          (sets-append (precedences-bytes (take (l .i) (a .t3))) (precedence-bytes (getD (a .t3) (l .i) no-precedence)) (a .out .now) (a .at)),
+      omega (arith, w .kept .0),
+    )
+
+-- src/write.rt:114:1
+same-length : tie.Need-same-length Inv-loop μ-loop
+same-length c = c .before .loop .inv .3
+
+-- src/write.rt:114:1
+returns : tie.Need-returns Inv-loop μ-loop
+returns c =
+    let l = c .before .loop in
+    let e : l .i ≡ c .before .before .before .args .m = omega arith in
+    (omega arith, rw (← e) (l .inv .2))
+
+pub write-precedences-spec : {M : Type 1} → statement M
+write-precedences-spec =
+    tie.close
+    (tie.spec
+    Inv-loop
+    μ-loop
+    loop-holds
+    mul-write-precedence
+    array-copy-out-write-precedence
+    write-precedence-requires
+    add-i
+    loop-less
+    loop-again
+    same-length
+    returns)

@@ -1,0 +1,4 @@
+pub mod Precedences
+pub mod Bytes
+pub mod Reading
+pub mod Answers
