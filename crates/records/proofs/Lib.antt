@@ -1,3 +1,4 @@
 pub mod Readers
 pub mod Rows
 pub mod Writers
+pub mod Tests

@@ -65,13 +65,6 @@ abbrev pub row-within : ℕ → Stop → Type 0
 row-within n (E.After used) = used ≤ n
 row-within n (E.Refused e) = Unit {0}
 
--- "Entries of a sheet past its counts are no part of it; reading leaves them 0"
-abbrev pub no-item : Item
-no-item = record { size = record { width = 0; depth = 0; shifts = 0 } }
-
-abbrev pub no-precedence : Precedence
-no-precedence = record { predecessor = 0; successor = 0 }
-
 -- of `room` entries those from n on are blank, where the row was read
 abbrev pub blank-after : {A : Type 0} → ℕ → A → ℕ → Stop → List A → Type 0
 blank-after room blank n (E.After used) xs = xs ≡ take n xs ++ replicate (room - n) blank

@@ -1,3 +1,4 @@
+pub mod Sizes
 pub mod Precedences
 pub mod Bytes
 pub mod Reading

@@ -2,6 +2,7 @@
 use refusal::Refusal;
 
 pub mod read;
+pub mod stand;
 pub mod write;
 
 // The measures of the container or of an item.

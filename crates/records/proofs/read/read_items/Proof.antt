@@ -6,7 +6,8 @@ use Prim.Native.Nat.{ℕ, suc, _+_, _-_, _≤_, _<_}
 use lib.ListN.{length, drop, length-drop}
 use lib.Seq.{drop-drop}
 use Rattle.records.specs.Reading.{items, item}
-use Rattle.records.specs.Answers.{no-item, item-read, item-within}
+use Rattle.records.specs.Answers.{item-read, item-within}
+use Rattle.records.specs.Sizes.{no-item}
 use Rattle.records.proofs.Readers.{rest-of}
 use Rattle.records.proofs.Rows.{Along, along-start, along-next, along-refused, along-done, items-next, items-refused, items-done}
 use Rattle.records.proofs.read.read_items.Statement.{statement}

@@ -6,7 +6,8 @@ use Prim.Native.Nat.{ℕ, suc, _+_, _-_, _≤_, _<_}
 use lib.ListN.{length, drop, length-drop}
 use Rattle.records.specs.declared.Previous.the-variants.{Nothing}
 use Rattle.records.specs.Reading.{precedences, precedence}
-use Rattle.records.specs.Answers.{no-precedence, precedence-read, precedence-within}
+use Rattle.records.specs.Answers.{precedence-read, precedence-within}
+use Rattle.records.specs.Sizes.{no-precedence}
 use Rattle.records.proofs.Readers.{rest-of}
 use Rattle.records.proofs.Rows.{Along, along-start, along-next, along-refused, along-done, precedences-next, precedences-refused, precedences-done}
 use Rattle.records.proofs.read.read_precedences.Statement.{statement}

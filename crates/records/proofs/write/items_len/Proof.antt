@@ -4,7 +4,7 @@ use Prim.Native.Nat.{ℕ, _+_, _-_, _*_, _≤_}
 use mathlib.Core.Path.{_≡_, refl, sym}
 use lib.ListN.{length, take, length-append}
 use Rattle.records.specs.Bytes.{item-bytes, items-bytes}
-use Rattle.records.specs.Answers.{no-item}
+use Rattle.records.specs.Sizes.{no-item}
 use Rattle.records.proofs.Writers.{row-none, row-next}
 use Rattle.records.proofs.write.items_len.Statement.{statement}
 use Rattle.records.proofs.write.items_len.Tie as tie

@@ -6,7 +6,7 @@ use Prim.Native.Nat.{ℕ, _+_, _-_, _*_, _≤_}
 use lib.ListN.{length, take, length-append}
 use lib.Seq.{sets, length-take-le}
 use Rattle.records.specs.Bytes.{item-bytes, items-bytes, precedence-bytes, precedences-bytes}
-use Rattle.records.specs.Answers.{no-item, no-precedence}
+use Rattle.records.specs.Sizes.{no-item, no-precedence}
 use Rattle.records.proofs.Writers.{row-none, row-next, row-room, sets-append, precedences-length}
 use Rattle.records.proofs.write.write_items.Statement.{statement}
 use Rattle.records.proofs.write.write_items.Tie as tie

@@ -6,7 +6,7 @@ use Prim.Native.Nat.{ℕ, _+_, _-_, _*_, _≤_}
 use lib.ListN.{length, getD, take, length-append}
 use lib.Seq.{sets, length-take-le}
 use Rattle.records.specs.Bytes.{precedence-bytes, precedences-bytes}
-use Rattle.records.specs.Answers.{no-precedence}
+use Rattle.records.specs.Sizes.{no-precedence}
 use Rattle.records.proofs.Writers.{row-none, row-next, sets-append, precedences-length}
 use Rattle.records.proofs.write.write_precedences.Statement.{statement}
 use Rattle.records.proofs.write.write_precedences.Tie as tie

@@ -1,0 +1,41 @@
+-- An instance as a packing problem, and a packing's positions. Axes are numbered x 0, y 1, t 2.
+use mathlib.Core.List.{map}
+use Prim.Native.Nat.{ℕ, zero, suc}
+use lib.ListN.{getD}
+use Rattle.model.specs.Problem as M
+use Rattle.records.specs.declared.Size.{Size}
+use Rattle.records.specs.declared.Precedence.{Precedence}
+use Rattle.records.specs.Sizes.{no-item}
+use Rattle.instance.specs.declared.Instance.{Instance}
+use Rattle.instance.specs.declared.Position.{Position}
+use Rattle.instance.specs.declared.Packing.{Packing}
+use Rattle.instance.specs.Valid.{precedences-of}
+use Rattle.instance.specs.Values.{origin}
+
+-- the measure on an axis
+abbrev pub measure : ℕ → Size → ℕ
+measure zero s = s .width
+measure (suc zero) s = s .depth
+measure (suc (suc a)) s = s .shifts
+
+-- the start on an axis
+abbrev pub start : ℕ → Position → ℕ
+start zero p = p .x
+start (suc zero) p = p .y
+start (suc (suc a)) p = p .t
+
+abbrev pub precedence-of : Precedence → M.Precedence
+precedence-of o = record { predecessor = o .predecessor; successor = o .successor }
+
+-- what an instance asks for
+unfoldable pub problem-of : Instance → M.Problem
+problem-of i = record {
+  items = i .«item_count»;
+  size = λ a u. measure a (getD (i .items) u no-item .size);
+  capacity = λ a. measure a (i .container);
+  precedences = map precedence-of (precedences-of i);
+}
+
+-- where a packing puts each item
+unfoldable pub positions-of : Packing → M.Positions
+positions-of q a u = start a (getD (q .positions) u origin)

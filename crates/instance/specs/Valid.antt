@@ -1,0 +1,28 @@
+-- When a value is an instance (document 01, refusal 9).
+use mathlib.Core.Bool.{Bool, _&&_}
+use mathlib.Core.List.{List}
+use Prim.Native.Nat.{ℕ}
+use lib.Dec.{leb}
+use lib.ListN.{take}
+use Rattle.records.specs.declared.Item.{Item}
+use Rattle.records.specs.declared.Precedence.{Precedence}
+use Rattle.records.specs.declared.Previous.the-variants.{Nothing}
+use Rattle.records.specs.Precedences.{all-stand}
+use Rattle.records.specs.Sizes.{positive, all-have-size}
+use Rattle.instance.specs.declared.Instance.{Instance}
+
+-- "Entries of a sheet past its counts are no part of it"
+abbrev pub items-of : Instance → List Item
+items-of i = take (i .«item_count») (i .items)
+
+abbrev pub precedences-of : Instance → List Precedence
+precedences-of i = take (i .«precedence_count») (i .precedences)
+
+-- none of: "over 10 pieces, over 90 orders, a measure 0, or an order that would get 5 or 6"
+unfoldable pub valid : Instance → Bool
+valid i =
+    leb (i .«item_count») 10
+    && (leb (i .«precedence_count») 90
+    && (positive (i .container)
+    && (all-have-size (items-of i)
+    && all-stand (i .«item_count») Nothing (precedences-of i))))
