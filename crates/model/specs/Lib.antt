@@ -1,3 +1,7 @@
 -- The planner's mathematics, in the order of document 01.
 pub mod Below
 pub mod Problem
+pub mod Domains
+pub mod Rules
+pub mod Propagate
+pub mod Branching
