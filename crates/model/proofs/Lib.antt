@@ -1,2 +1,5 @@
 pub mod Below
 pub mod Feasible
+pub mod Slots
+pub mod Order
+pub mod Domains

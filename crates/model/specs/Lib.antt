@@ -5,3 +5,5 @@ pub mod Domains
 pub mod Rules
 pub mod Propagate
 pub mod Branching
+pub mod Order
+pub mod Admits
