@@ -94,6 +94,9 @@ pub all-of : (n : ℕ) (f : ℕ → Bool) → ((i : ℕ) → i < n → f i ≡ t
 all-of zero f h = refl
 all-of (suc n) f h = all-cons (f n) (all-below n f) (h n (omega arith)) (all-of n f (λ i l. h i (omega arith)))
 
+pub all-mono : (n : ℕ) {f g : ℕ → Bool} → ((i : ℕ) → Implies (f i) (g i)) → Implies (all-below n f) (all-below n g)
+all-mono n {f} {g} h e = all-of n g (λ i l. h i (all-at n f e i l))
+
 -- a number at which some test passes
 some-case : (b c : Bool) → elim b as (λ _. Bool) [ true ↦ true | false ↦ c ] ≡ true → (b ≡ true) ⊎ (c ≡ true)
 some-case true c e = inl refl
