@@ -6,3 +6,5 @@ pub mod Domains
 pub mod Joined
 pub mod Monotone
 pub mod Pass
+pub mod Propagate
+pub mod Removal
