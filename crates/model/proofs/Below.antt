@@ -147,3 +147,24 @@ in-at f (y ∷ l) e x m = go (List·Memᴰ·cases-cons m) (in-at f l (all-case (
 pub in-of : {A : Type 0} (f : A → Bool) (l : List A) → ((x : A) → List·Memᴰ x l → f x ≡ true) → all-in f l ≡ true
 in-of f [] h = refl
 in-of f (y ∷ l) h = all-cons (f y) (all-in f l) (h y (List·Memᴰ·head refl)) (in-of f l (λ x m. h x (List·Memᴰ·tail m)))
+
+-- the greatest below n
+pub most-at : (n : ℕ) (f : ℕ → ℕ) (i : ℕ) → i < n → f i ≤ most-below n f
+most-at zero f i h = absurd (omega arith)
+most-at (suc n) f i h = go (eq-or-lt-of-le (le-of-suc-le-suc h)) (most-at n f i)
+  where
+    go : (i ≡ n) ⊎ (i < n) → (i < n → f i ≤ most-below n f) → f i ≤ max (f n) (most-below n f)
+    go (inl e) ih = rw e (omega arith)
+    go (inr l) ih = omega (arith, ih l)
+
+pub most-le : (n : ℕ) (f : ℕ → ℕ) (c : ℕ) → ((i : ℕ) → i < n → f i ≤ c) → most-below n f ≤ c
+most-le zero f c h = omega arith
+most-le (suc n) f c h = omega (arith, h n (omega arith), most-le n f c (λ i l. h i (omega arith)))
+
+-- a test that does not fail passes
+pub stays : (b : Bool) → (b ≡ false → ⊥) → b ≡ true
+stays true f = refl
+stays false f = absurd (f refl)
+
+pub clash : {b : Bool} → b ≡ true → b ≡ false → ⊥
+clash p q = false≢true (sym q ∙ p)

@@ -3,8 +3,9 @@ pub mod Feasible
 pub mod Slots
 pub mod Order
 pub mod Domains
-pub mod Joined
+pub mod Ends
 pub mod Monotone
 pub mod Pass
 pub mod Propagate
 pub mod Removal
+pub mod Chains

@@ -12,7 +12,7 @@ use Rattle.model.specs.Domains.{Domains, index-of, has-overlap, has-befo
 use Rattle.model.specs.Rules.{joined, ending, starting, greatest-ending, greatest-starting, rule1, rule2, rule3, rule4, rule5, asks-overlap, asks-before}
 use Rattle.model.specs.Order.{Subdomain, _⊑_}
 use Rattle.model.proofs.Below.{Implies, and-mono, or-mono, not-mono, some-mono, all-mono, most-mono, ltb-mono}
-use Rattle.model.proofs.Joined.{joined-mono}
+use Rattle.model.proofs.Ends.{joined-mono}
 
 has-overlap-mono : (o : Ordering) {m j : ℕ} → Subdomain m j → Implies (has-overlap o m) (has-overlap o j)
 has-overlap-mono Ordering·lt r = r .overlap-in
