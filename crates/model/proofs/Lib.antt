@@ -9,3 +9,4 @@ pub mod Pass
 pub mod Propagate
 pub mod Removal
 pub mod Chains
+pub mod Sound

@@ -76,13 +76,17 @@ module _ (p : Problem) where
   pub propagate-mono : (j k : Domains) → j ⊑ k → propagate p j ⊑ propagate p k
   propagate-mono j k h = propagate-greatest (propagate p j) k (propagate-rests j) (below-trans (propagate p j) j k (propagate-less j) h)
 
-  passes-well-formed : (f : ℕ) (k : Domains) → WellFormed k → WellFormed (passes p f k)
-  passes-well-formed zero k w = rw passes-zero w
-  passes-well-formed (suc f) k w = passes-case WellFormed f k (λ e. w) (λ e. passes-well-formed f (pass p k) (pass-well-formed p k w))
+  -- what a pass keeps, propagation keeps
+  pub propagate-keeps : (P : Domains → Type 0) → ((k : Domains) → P k → P (pass p k)) → (k : Domains) → P k → P (propagate p k)
+  unfolding propagate
+  propagate-keeps P kept k h = go (sum k) k h
+    where
+      go : (f : ℕ) (k : Domains) → P k → P (passes p f k)
+      go zero k h = rw passes-zero h
+      go (suc f) k h = passes-case P f k (λ e. h) (λ e. go f (pass p k) (kept k h))
 
   pub propagate-well-formed : (k : Domains) → WellFormed k → WellFormed (propagate p k)
-  unfolding propagate
-  propagate-well-formed k w = passes-well-formed (sum k) k w
+  propagate-well-formed = propagate-keeps WellFormed (pass-well-formed p)
 
   -- propagation leaves no relation that a rule asks for
   pub propagate-at-rest : p .items ≤ 10 → (k : Domains) → WellFormed k → AtRest p (propagate p k)
