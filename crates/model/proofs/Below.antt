@@ -6,9 +6,10 @@ use Prim.Native.Nat.{ℕ, zero, suc, _+_, _≤_, _<_, max}
 use native.Mathlib.Nat.{eq-or-lt-of-le, le-of-suc-le-suc}
 use native.Mathlib.Omega.{arith}
 use lib.Dec.{ltb}
+use lib.ListN.{getD, length}
 use borrow.Author.Tests.{ltb-true, lt-ltb}
 use mathlib.Core.List.{List, [], _∷_, List·Memᴰ, List·Memᴰ·head, List·Memᴰ·tail, List·Memᴰ·not-nil, List·Memᴰ·cases-cons}
-use Rattle.model.specs.Below.{some-below, all-below, most-below, all-in}
+use Rattle.model.specs.Below.{some-below, all-below, most-below, all-in, first-in}
 
 -- where the first test passes, so does the second
 abbrev pub Implies : Bool → Bool → Type 0
@@ -168,3 +169,35 @@ stays false f = absurd (f refl)
 
 pub clash : {b : Bool} → b ≡ true → b ≡ false → ⊥
 clash p q = false≢true (sym q ∙ p)
+
+-- the first element of a list that passes: it is found if some element passes, and it is the one before which none does
+pub record First {A : Type 0} (f : A → Bool) (d : A) (l : List A) (j : ℕ) : Type 0 where
+  pub within : j < length l
+  pub passes : f (getD l j d) ≡ true
+  pub earlier : (m : ℕ) → m < j → f (getD l m d) ≡ false
+
+pub first-is : {A : Type 0} (f : A → Bool) (d : A) (l : List A) (j : ℕ) → First f d l j → first-in f d l ≡ getD l j d
+first-is {A} f d [] j h = absurd (omega (arith, h .within))
+first-is {A} f d (x ∷ l) zero h = go (f x) (h .passes)
+  where
+    go : (b : Bool) → b ≡ true → elim b as (λ _. A) [ true ↦ x | false ↦ first-in f d l ] ≡ x
+    go true e = refl
+    go false e = absurd (false≢true e)
+first-is {A} f d (x ∷ l) (suc j) h = go (f x) (h .earlier zero (omega arith)) (first-is f d l j (record { within = omega (arith, h .within); passes = h .passes; earlier = λ m g. h .earlier (suc m) (omega arith) }))
+  where
+    go : (b : Bool) → b ≡ false → first-in f d l ≡ getD l j d → elim b as (λ _. A) [ true ↦ x | false ↦ first-in f d l ] ≡ getD l j d
+    go true e ih = absurd (false≢true (sym e))
+    go false e ih = ih
+
+pub first-exists : {A : Type 0} (f : A → Bool) (d : A) (l : List A) (i : ℕ) → i < length l → f (getD l i d) ≡ true → (j : ℕ) × (j ≤ i) × First f d l j
+first-exists f d [] i h e = absurd (omega arith)
+first-exists f d (x ∷ l) zero h e = (zero, omega arith, record { within = omega arith; passes = e; earlier = λ m g. absurd (omega arith) })
+first-exists f d (x ∷ l) (suc i) h e = go (f x) refl (first-exists f d l i (omega arith) e)
+  where
+    go : (b : Bool) → f x ≡ b → (j : ℕ) × (j ≤ i) × First f d l j → (j : ℕ) × (j ≤ suc i) × First f d (x ∷ l) j
+    go true q ih = (zero, omega arith, record { within = omega arith; passes = q; earlier = λ m g. absurd (omega arith) })
+    go false q (j, le, r) = (suc j, omega arith, record { within = omega (arith, r .within); passes = r .passes; earlier = before })
+      where
+        before : (m : ℕ) → m < suc j → f (getD (x ∷ l) m d) ≡ false
+        before zero g = q
+        before (suc m) g = r .earlier m (omega arith)

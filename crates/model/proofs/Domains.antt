@@ -4,6 +4,7 @@ use mathlib.Core.List.{List, [], _∷_}
 use mathlib.Core.Logic.{_⊎_, inl, inr, _≢_}
 use mathlib.Core.Path.{_≡_, refl, sym, _∙_, ap, subst}
 use Prim.Native.Nat.{ℕ, zero, suc, _<_, min, max, compare, Ordering, Ordering·lt, Ordering·eq, Ordering·gt, compare·zero-suc, compare·suc-zero, compare·suc-suc}
+use native.Mathlib.Decide.{decLt, ℕ-discrete}
 use native.Mathlib.Omega.{arith}
 use lib.Dec.{eqb, isEq}
 use lib.ListN.{getD, length, set}
@@ -11,7 +12,7 @@ use lib.Seq.{getD-set-same, getD-set-other}
 use borrow.Author.Tests.{eqb-true, eqb-false, not-true}
 use Rattle.model.specs.Domains.{Domains, domain, overlap-bit, before-bit, after-bit, index, index-of, has-overlap, has-before, without-overlap, without-before, may-overlap, may-before, remove-overlap, remove-before, fixed-before, fixed-overlap, fix-before, fix-overlap}
 use Rattle.model.specs.Order.{Proper, Rising, WellFormed, Subdomain, _⊑_}
-use Rattle.model.proofs.Below.{Implies, and-intro, and-both}
+use Rattle.model.proofs.Below.{Implies, and-intro, and-both, clash}
 use Rattle.model.proofs.Order.{overlap-bit-of, before-bit-of, after-bit-of, sub-zero, below-eq}
 use Rattle.model.proofs.Slots.{lt-or-gt, proper-sym, proper-up, index-sym, index-up, index-of-same, index-of-small, slot-of, slot-indexed}
 
@@ -156,6 +157,37 @@ module _ (k : Domains) (long : length k ≡ 135) where
       ap (has-overlap (compare x y))
       (getD-set-other k (index-of a u v) (index-of b x y) _ 0 (λ e. let q = index-of-same w z (sym e) in h (q .0) (q .1) (q .2)))
 
+  -- so what was left and is gone is what was removed
+  pub before-lost : {a u v b x y : ℕ} → Proper 10 a u v → Proper 10 b x y → may-before k b x y ≡ true → may-before (remove-before k a u v) b x y ≡ false
+      → (a ≡ b) × (u ≡ x) × (v ≡ y)
+  before-lost {a} {u} {v} {b} {x} {y} w z e f = go (ℕ-discrete a b) (ℕ-discrete u x) (ℕ-discrete v y)
+    where
+      stayed : (a ≡ b → u ≡ x → v ≡ y → ⊥) → ⊥
+      stayed h = clash e (sym (before-other w z h) ∙ f)
+
+      go : Dec (a ≡ b) → Dec (u ≡ x) → Dec (v ≡ y) → (a ≡ b) × (u ≡ x) × (v ≡ y)
+      go (yes p) (yes q) (yes r) = (p, q, r)
+      go (yes p) (yes q) (no r) = absurd (stayed (λ _ _ h. r h))
+      go (yes p) (no q) _ = absurd (stayed (λ _ h _. q h))
+      go (no p) _ _ = absurd (stayed (λ h _ _. p h))
+
+  pub overlap-lost : {a u v b x y : ℕ} → Proper 10 a u v → Proper 10 b x y → may-overlap k b x y ≡ true → may-overlap (remove-overlap k a u v) b x y ≡ false
+      → (a ≡ b) × (((u ≡ x) × (v ≡ y)) ⊎ ((u ≡ y) × (v ≡ x)))
+  overlap-lost {a} {u} {v} {b} {x} {y} w z e f = go (ℕ-discrete a b) (ℕ-discrete (min u v) (min x y)) (ℕ-discrete (max u v) (max x y))
+    where
+      stayed : (a ≡ b → min u v ≡ min x y → max u v ≡ max x y → ⊥) → ⊥
+      stayed h = clash e (sym (overlap-other w z h) ∙ f)
+
+      either : min u v ≡ min x y → max u v ≡ max x y → Dec (u ≡ x) → ((u ≡ x) × (v ≡ y)) ⊎ ((u ≡ y) × (v ≡ x))
+      either q r (yes d) = inl (d, omega arith)
+      either q r (no d) = inr (omega arith, omega arith)
+
+      go : Dec (a ≡ b) → Dec (min u v ≡ min x y) → Dec (max u v ≡ max x y) → (a ≡ b) × (((u ≡ x) × (v ≡ y)) ⊎ ((u ≡ y) × (v ≡ x)))
+      go (yes p) (yes q) (yes r) = (p, either q r (ℕ-discrete u x))
+      go (yes p) (yes q) (no r) = absurd (stayed (λ _ _ h. r h))
+      go (yes p) (no q) _ = absurd (stayed (λ _ h _. q h))
+      go (no p) _ _ = absurd (stayed (λ h _ _. p h))
+
 -- What "fixed" says, and what says it
 pub fixed-before-says : (k : Domains) (a u v : ℕ) → fixed-before k a u v ≡ true → (may-overlap k a u v ≡ false) × (may-before k a v u ≡ false)
 unfolding fixed-before
@@ -206,7 +238,7 @@ below-of k j long f g i = go (lt-or-ge i)
     past (m ∷ l) (suc i) h = past l i (λ q. h (omega arith))
 
     lt-or-ge : (i : ℕ) → (i < 135) ⊎ (i < 135 → ⊥)
-    lt-or-ge i = dec (native.Mathlib.Decide.decLt i 135)
+    lt-or-ge i = dec (decLt i 135)
       where
         dec : Dec (i < 135) → (i < 135) ⊎ (i < 135 → ⊥)
         dec (yes l) = inl l

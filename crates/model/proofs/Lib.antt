@@ -10,3 +10,4 @@ pub mod Propagate
 pub mod Removal
 pub mod Chains
 pub mod Sound
+pub mod Admits

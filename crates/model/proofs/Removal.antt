@@ -10,10 +10,10 @@ use Rattle.model.specs.Domains.{Domains, index-of, has-overlap, has-befo
 use Rattle.model.specs.Rules.{asks-overlap, asks-before}
 use Rattle.model.specs.Propagate.{propagate}
 use Rattle.model.specs.Order.{Proper, WellFormed, Subdomain, _⊑_, Between, AtRest}
-use Rattle.model.proofs.Below.{Implies}
+use Rattle.model.proofs.Below.{Implies, stays, clash}
 use Rattle.model.proofs.Order.{domain-small, sub-refl, sub-of, of-sub, below-trans}
-use Rattle.model.proofs.Domains.{before-after-overlap, overlap-after-before}
-use Rattle.model.proofs.Monotone.{asks-overlap-mono, asks-before-mono}
+use Rattle.model.proofs.Domains.{below-of}
+use Rattle.model.proofs.Monotone.{may-overlap-mono, may-before-mono, asks-overlap-mono, asks-before-mono}
 use Rattle.model.proofs.Propagate.{propagate-well-formed, propagate-at-rest}
 
 same-in : {b : Bool} → Implies b b
@@ -153,4 +153,19 @@ module _ (p : Problem) (limited : p .items ≤ 10) (k : Domains) (w : WellFormed
     well-formed = remove-overlap-well-formed j a u v (b .well-formed);
     low = remove-overlap-above j a u v (propagate p k) (b .low) (asked-overlap j (b .low) a u v s e);
     high = below-trans (remove-overlap j a u v) j k (remove-overlap-less j a u v) (b .high);
+  }
+
+  -- or several at once
+  pub between-removals : (j i : Domains) → Between p k j → WellFormed i → i ⊑ j
+      → ((a u v : ℕ) → Proper 10 a u v → may-before j a u v ≡ true → may-before i a u v ≡ false → Proper (p .items) a u v × (asks-before p j a u v ≡ true))
+      → ((a u v : ℕ) → Proper 10 a u v → may-overlap j a u v ≡ true → may-overlap i a u v ≡ false → Proper (p .items) a u v × (asks-overlap p j a u v ≡ true))
+      → Between p k i
+  between-removals j i b wi less f g = record {
+    well-formed = wi;
+    low = below-of (propagate p k) i (propagate-well-formed p k w .long)
+        (λ a u v s e. stays (may-before i a u v) (λ d.
+        let r = f a u v s (may-before-mono (propagate p k) j (b .low) a u v e) d in clash e (asked-before j (b .low) a u v (r .0) (r .1))))
+        (λ a u v s e. stays (may-overlap i a u v) (λ d.
+        let r = g a u v s (may-overlap-mono (propagate p k) j (b .low) a u v e) d in clash e (asked-overlap j (b .low) a u v (r .0) (r .1))));
+    high = below-trans i j k less (b .high);
   }
