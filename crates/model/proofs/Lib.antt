@@ -11,3 +11,5 @@ pub mod Removal
 pub mod Chains
 pub mod Sound
 pub mod Admits
+pub mod Consistent
+pub mod Packed

@@ -7,3 +7,4 @@ pub mod Propagate
 pub mod Branching
 pub mod Order
 pub mod Admits
+pub mod Weight
