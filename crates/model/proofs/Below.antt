@@ -98,6 +98,16 @@ all-of (suc n) f h = all-cons (f n) (all-below n f) (h n (omega arith)) (all-of 
 pub all-mono : (n : ℕ) {f g : ℕ → Bool} → ((i : ℕ) → Implies (f i) (g i)) → Implies (all-below n f) (all-below n g)
 all-mono n {f} {g} h e = all-of n g (λ i l. h i (all-at n f e i l))
 
+-- a number at which a test fails that does not pass at all
+pub all-not : (n : ℕ) (f : ℕ → Bool) → all-below n f ≡ false → (i : ℕ) × (i < n) × (f i ≡ false)
+all-not zero f e = absurd (false≢true (sym e))
+all-not (suc n) f e = go (f n) refl e (all-not n f)
+  where
+    go : (b : Bool) → f n ≡ b → elim b as (λ _. Bool) [ true ↦ all-below n f | false ↦ false ] ≡ false → (all-below n f ≡ false → (i : ℕ) × (i < n) × (f i ≡ false))
+        → (i : ℕ) × (i < suc n) × (f i ≡ false)
+    go true q d ih = let (i, l, r) = ih d in (i, omega arith, r)
+    go false q d ih = (n, omega arith, q)
+
 -- a number at which some test passes
 some-case : (b c : Bool) → elim b as (λ _. Bool) [ true ↦ true | false ↦ c ] ≡ true → (b ≡ true) ⊎ (c ≡ true)
 some-case true c e = inl refl

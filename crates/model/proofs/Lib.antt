@@ -13,3 +13,4 @@ pub mod Sound
 pub mod Admits
 pub mod Consistent
 pub mod Packed
+pub mod Fork

@@ -3,12 +3,12 @@ use mathlib.Core.Bool.{Bool, true, false, _&&_}
 use mathlib.Core.List.{List, [], _∷_}
 use mathlib.Core.Logic.{_⊎_, inl, inr, _≢_}
 use mathlib.Core.Path.{_≡_, refl, sym, _∙_, ap, ap₂}
-use Prim.Native.Nat.{ℕ, zero, suc, _+_, _*_, _<_, min, max}
+use Prim.Native.Nat.{ℕ, zero, suc, _+_, _*_, _≤_, _<_, min, max}
 use native.Mathlib.Decide.{decLt}
 use native.Mathlib.Omega.{arith}
-use lib.Dec.{ltb, eqb}
+use lib.Dec.{ltb, leb, eqb}
 use lib.ListN.{getD, length}
-use borrow.Author.Tests.{eqb-true, ltb-true}
+use borrow.Author.Tests.{eqb-true, ltb-true, leb-true}
 use Rattle.model.specs.Below.{all-below}
 use Rattle.model.specs.Domains.{Pair, pairs, pair-number, index, index-of}
 use Rattle.model.specs.Propagate.{Slot, slots}
@@ -33,7 +33,7 @@ pub proper-wide : {n a u v : ℕ} → n < 11 → Proper n a u v → Proper 10 a 
 proper-wide h w = omega arith
 
 -- The table has each pair at its number, one computed test for all 45
-no-pair : Pair
+abbrev pub no-pair : Pair
 no-pair = record { u = 0; v = 0 }
 
 numbered : ℕ → ℕ → Bool
@@ -42,7 +42,7 @@ numbered u v =
     (eqb (c .u) u && eqb (c .v) v) && ltb (pair-number u v) 45
 
 all-numbered : all-below 10 (λ v. all-below v (λ u. numbered u v)) ≡ true
-unfolding numbered no-pair pairs pair-number
+unfolding numbered pairs pair-number
 all-numbered = refl
 
 pub pairs-count : length pairs ≡ 45
@@ -74,6 +74,29 @@ module _ (u v : ℕ) (rising : u < v) (item : v < 10) where
           let e = and-both (eqb (c .u) u && eqb (c .v) v) (ltb (pair-number u v) 45) is-numbered in
           let f = and-both (eqb (c .u) u) (eqb (c .v) v) (e .0) in
           λ i. record { u = eqb-true (c .u) u (f .0) i; v = eqb-true (c .v) v (f .1) i }
+
+-- and its pairs rise, by their upper items too
+abbrev pub pair-of : ℕ → Pair
+pair-of i = getD pairs i no-pair
+
+sorted : ℕ → Bool
+sorted i = (ltb (pair-of i .u) (pair-of i .v)) && all-below (suc i) (λ j. leb (pair-of j .v) (pair-of i .v))
+
+all-sorted : all-below 45 sorted ≡ true
+unfolding sorted pairs
+all-sorted = refl
+
+pub pairs-rise : (i : ℕ) → i < 45 → pair-of i .u < pair-of i .v
+unfolding sorted
+pairs-rise i h =
+    ltb-true _ _ (and-both (ltb (pair-of i .u) (pair-of i .v)) (all-below (suc i) (λ j. leb (pair-of j .v) (pair-of i .v))) (all-at 45 sorted all-sorted i h) .0)
+
+pub pairs-sorted : (i j : ℕ) → i < 45 → j ≤ i → pair-of j .v ≤ pair-of i .v
+unfolding sorted
+pairs-sorted i j h l =
+    leb-true _ _
+    (all-at (suc i) (λ j. leb (pair-of j .v) (pair-of i .v))
+    (and-both (ltb (pair-of i .u) (pair-of i .v)) (all-below (suc i) (λ j. leb (pair-of j .v) (pair-of i .v))) (all-at 45 sorted all-sorted i h) .1) j (omega arith))
 
 -- The slots, likewise
 abbrev pub no-slot : Slot

@@ -7,7 +7,8 @@ use lib.ListN.{getD, length}
 use Rattle.model.specs.Problem.{Problem}
 use Rattle.model.specs.Domains.{Domains, overlap-bit, before-bit, after-bit, may-overlap, may-before}
 use Rattle.model.specs.Rules.{asks-overlap, asks-before}
-use Rattle.model.specs.Propagate.{propagate}
+use Rattle.model.specs.Propagate.{Slot, propagate}
+use Rattle.model.specs.Branching.{separated, undecided}
 
 -- an axis and two distinct items below n
 pub record Proper (n a u v : ℕ) : Type 0 where
@@ -48,3 +49,9 @@ pub record Between (p : Problem) (k j : Domains) : Type 0 where
 pub record AtRest (p : Problem) (k : Domains) : Type 0 where
   pub no-before : (a u v : ℕ) → Proper (p .items) a u v → asks-before p k a u v ≡ true → may-before k a u v ≡ false
   pub no-overlap : (a u v : ℕ) → Proper (p .items) a u v → asks-overlap p k a u v ≡ true → may-overlap k a u v ≡ false
+
+-- a place to branch: a pair of the problem with no fixed "before", on an axis with more than one relation left
+pub record Fork (p : Problem) (k : Domains) (c : Slot) : Type 0 where
+  pub place : Rising (p .items) (c .axis) (c .u) (c .v)
+  pub unseparated : separated k (c .u) (c .v) ≡ false
+  pub several : undecided k (c .axis) (c .u) (c .v) ≡ true
