@@ -14,3 +14,5 @@ pub mod Admits
 pub mod Consistent
 pub mod Packed
 pub mod Fork
+pub mod Weight
+pub mod Path
