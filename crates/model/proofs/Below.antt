@@ -4,6 +4,7 @@ use mathlib.Core.Logic.{_⊎_, inl, inr}
 use mathlib.Core.Path.{_≡_, refl, sym, _∙_}
 use Prim.Native.Nat.{ℕ, zero, suc, _+_, _≤_, _<_, max}
 use native.Mathlib.Nat.{eq-or-lt-of-le, le-of-suc-le-suc}
+use native.Mathlib.Decide.{decLe}
 use native.Mathlib.Omega.{arith}
 use lib.Dec.{ltb}
 use lib.ListN.{getD, length}
@@ -211,3 +212,12 @@ first-exists f d (x ∷ l) (suc i) h e = go (f x) refl (first-exists f d l i (om
         before : (m : ℕ) → m < suc j → f (getD (x ∷ l) m d) ≡ false
         before zero g = q
         before (suc m) g = r .earlier m (omega arith)
+
+pub most-some : (n : ℕ) (f : ℕ → ℕ) → 1 ≤ most-below n f → (i : ℕ) × (i < n) × (f i ≡ most-below n f)
+most-some zero f h = absurd (omega arith)
+most-some (suc n) f h = go (decLe (most-below n f) (f n)) (most-some n f)
+  where
+    go : Dec (most-below n f ≤ f n) → (1 ≤ most-below n f → (i : ℕ) × (i < n) × (f i ≡ most-below n f))
+        → (i : ℕ) × (i < suc n) × (f i ≡ max (f n) (most-below n f))
+    go (yes l) ih = (n, omega arith, omega arith)
+    go (no l) ih = let (i, li, e) = ih (omega arith) in (i, omega arith, omega arith)

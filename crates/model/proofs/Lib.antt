@@ -8,6 +8,7 @@ pub mod Monotone
 pub mod Pass
 pub mod Propagate
 pub mod Removal
+pub mod Longest
 pub mod Chains
 pub mod Sound
 pub mod Admits

@@ -1,18 +1,17 @@
 -- The fewer relations are left, the more is fixed and the more the rules ask for.
-use mathlib.Core.Bool.{Bool, true, false, not, _&&_, _||_, false≢true}
+use mathlib.Core.Bool.{Bool, true, false, not, _&&_, _||_}
 use mathlib.Core.List.{List, [], _∷_}
-use mathlib.Core.Path.{_≡_, refl}
-use Prim.Native.Nat.{ℕ, zero, suc, _≤_, max, compare, Ordering, zero-le, Ordering·lt, Ordering·eq, Ordering·gt}
-use native.Mathlib.Nat.{le-refl}
-use native.Mathlib.Omega.{arith}
+use mathlib.Core.Path.{_≡_}
+use Prim.Native.Nat.{ℕ, _≤_, compare, Ordering, Ordering·lt, Ordering·eq, Ordering·gt}
 use lib.Dec.{eqb}
-use Rattle.model.specs.Below.{some-below, all-below, most-below}
+use Rattle.model.specs.Below.{some-below, all-below}
 use Rattle.model.specs.Problem.{Problem}
 use Rattle.model.specs.Domains.{Domains, index-of, has-overlap, has-before, may-overlap, may-before, fixed-before, fixed-overlap}
-use Rattle.model.specs.Rules.{joined, ending, starting, greatest-ending, greatest-starting, rule1, rule2, rule3, rule4, rule5, asks-overlap, asks-before}
+use Rattle.model.specs.Rules.{joined, greatest-ending, greatest-starting, rule1, rule2, rule3, rule4, rule5, asks-overlap, asks-before}
 use Rattle.model.specs.Order.{Subdomain, _⊑_}
-use Rattle.model.proofs.Below.{Implies, and-mono, or-mono, not-mono, some-mono, all-mono, most-mono, ltb-mono}
+use Rattle.model.proofs.Below.{Implies, and-mono, or-mono, not-mono, some-mono, all-mono, ltb-mono}
 use Rattle.model.proofs.Ends.{joined-mono}
+use Rattle.model.proofs.Chains.{greatest-ending-more, greatest-starting-more}
 
 has-overlap-mono : (o : Ordering) {m j : ℕ} → Subdomain m j → Implies (has-overlap o m) (has-overlap o j)
 has-overlap-mono Ordering·lt r = r .overlap-in
@@ -23,14 +22,6 @@ has-before-mono : (o : Ordering) {m j : ℕ} → Subdomain m j → Implies (has-
 has-before-mono Ordering·lt r = r .before-in
 has-before-mono Ordering·eq r = λ e. e
 has-before-mono Ordering·gt r = r .after-in
-
-guard-mono : {a b : Bool} {x y : ℕ} → Implies a b → x ≤ y → elim a as (λ _. ℕ) [ true ↦ x | false ↦ 0 ] ≤ elim b as (λ _. ℕ) [ true ↦ y | false ↦ 0 ]
-guard-mono {a = true} {b = true} f h = h
-guard-mono {a = true} {b = false} f h = absurd (false≢true (f refl))
-guard-mono {a = false} {b = b} f h = zero-le
-
-max-mono : (x : ℕ) {y z : ℕ} → y ≤ z → max x y ≤ max x z
-max-mono x h = omega arith
 
 same-test : {b : Bool} → Implies b b
 same-test e = e
@@ -69,29 +60,11 @@ module _ (k j : Domains) (h : k ⊑ j) where
     unfolding rule4
     rule4-mono u v = search (some-mono, and-mono, not-mono, fixed-overlap-mono, may-overlap-mono) depth 9
 
-    ending-mono : (f : ℕ) (had : List ℕ) (u : ℕ) → ending p j a f had u ≤ ending p k a f had u
-    unfolding ending
-    ending-mono zero had u = le-refl _
-    ending-mono (suc f) had u =
-        max-mono (p .size a u)
-        (most-mono (p .items)
-        (λ v. guard-mono (and-mono (fixed-before-mono a v u) same-test) (joined-mono p a v u (ending-mono f (v ∷ had) v) (le-refl _))))
-
-    starting-mono : (f : ℕ) (had : List ℕ) (u : ℕ) → starting p j a f had u ≤ starting p k a f had u
-    unfolding starting
-    starting-mono zero had u = le-refl _
-    starting-mono (suc f) had u =
-        max-mono (p .size a u)
-        (most-mono (p .items)
-        (λ v. guard-mono (and-mono (fixed-before-mono a u v) same-test) (joined-mono p a u v (le-refl _) (starting-mono f (v ∷ had) v))))
-
     pub greatest-ending-mono : (u : ℕ) → greatest-ending p j a u ≤ greatest-ending p k a u
-    unfolding greatest-ending
-    greatest-ending-mono u = ending-mono (p .items) (u ∷ []) u
+    greatest-ending-mono u = greatest-ending-more p a j k (fixed-before-mono a) u
 
     pub greatest-starting-mono : (u : ℕ) → greatest-starting p j a u ≤ greatest-starting p k a u
-    unfolding greatest-starting
-    greatest-starting-mono u = starting-mono (p .items) (u ∷ []) u
+    greatest-starting-mono u = greatest-starting-more p a j k (fixed-before-mono a) u
 
     rule5-mono : (u v : ℕ) → Implies (rule5 p j a u v) (rule5 p k a u v)
     unfolding rule5

@@ -45,7 +45,7 @@ module _ (p : Problem) (k : Domains) (rest : AtRest p k) (consistent : inconsist
   starts-before a u v ha hu hv b =
       joined-ends p (starts p k) a u v (greatest-ending p k a u) (greatest-ending p k a v)
       (omega (arith, greatest-ending-size p k a u)) (omega (arith, greatest-ending-size p k a v))
-      (greatest-ending-step p k a (before-transitive p k rest consistent a ha) u v hu hv b (before-irreflexive p k rest consistent a ha))
+      (greatest-ending-step p k a (before-transitive p k rest consistent a ha) (before-irreflexive p k rest consistent a ha) u v hu hv b)
 
   pub starts-inside : (a u : ℕ) → a < 3 → u < p .items → starts p k a u + p .size a u ≤ p .capacity a
   unfolding starts

@@ -3,6 +3,7 @@ pub mod Below
 pub mod Problem
 pub mod Domains
 pub mod Rules
+pub mod Chain
 pub mod Propagate
 pub mod Branching
 pub mod Order

@@ -17,21 +17,24 @@ listed u (x ∷ l) = eqb u x || listed u l
 unfoldable pub joined : Problem → ℕ → ℕ → ℕ → ℕ → ℕ → ℕ
 joined p a u v front back = front + back
 
--- "A chain is a row of distinct pieces, each known before the next". Here at most f items stand before u, or after it, and none that is in `had`
+-- "A chain is a row of distinct pieces, each known before the next": the greatest total of u and at most f further items, none of them in `had`.
+-- v may follow u where `linked u v`; `on u v rest` is the total of u followed by what has the total `rest` from v on. proofs/Chain shows that it is the greatest
+module _ (p : Problem) (a : ℕ) (linked : ℕ → ℕ → Bool) (on : ℕ → ℕ → ℕ → ℕ) where
+  unfoldable pub longest : ℕ → List ℕ → ℕ → ℕ
+  longest zero had u = p .size a u
+  longest (suc f) had u =
+      max (p .size a u)
+      (most-below (p .items) (λ v. elim (linked u v && not (listed v had)) [ true ↦ on u v (longest f (v ∷ had) v) | false ↦ 0 ]))
+
+-- chains followed back from their last item, and on from their first
 module _ (p : Problem) (k : Domains) (a : ℕ) where
   unfoldable pub ending : ℕ → List ℕ → ℕ → ℕ
-  ending zero had u = p .size a u
-  ending (suc f) had u =
-      max (p .size a u)
-      (most-below (p .items)
-      (λ v. elim (fixed-before k a v u && not (listed v had)) [ true ↦ joined p a v u (ending f (v ∷ had) v) (p .size a u) | false ↦ 0 ]))
+  unfolding longest
+  ending = longest p a (λ u v. fixed-before k a v u) (λ u v rest. joined p a v u rest (p .size a u))
 
   unfoldable pub starting : ℕ → List ℕ → ℕ → ℕ
-  starting zero had u = p .size a u
-  starting (suc f) had u =
-      max (p .size a u)
-      (most-below (p .items)
-      (λ v. elim (fixed-before k a u v && not (listed v had)) [ true ↦ joined p a u v (p .size a u) (starting f (v ∷ had) v) | false ↦ 0 ]))
+  unfolding longest
+  starting = longest p a (λ u v. fixed-before k a u v) (λ u v rest. joined p a u v (p .size a u) rest)
 
   -- the total of "the greatest chain ending in u", and of "the greatest starting in" it
   unfoldable pub greatest-ending : ℕ → ℕ
