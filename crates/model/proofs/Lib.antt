@@ -10,6 +10,7 @@ pub mod Propagate
 pub mod Removal
 pub mod Longest
 pub mod Chains
+pub mod Chain
 pub mod Sound
 pub mod Admits
 pub mod Consistent

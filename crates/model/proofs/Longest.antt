@@ -2,19 +2,16 @@
 use mathlib.Core.Bool.{Bool, true, false, not, _&&_, _||_, false≢true}
 use mathlib.Core.List.{List, [], _∷_}
 use mathlib.Core.Logic.{_⊎_, inl, inr, _≢_}
-use mathlib.Core.Path.{_≡_, refl, sym, _∙_, ap, subst}
+use mathlib.Core.Path.{_≡_, refl, sym, ap, subst}
 use Prim.Native.Nat.{ℕ, zero, suc, _+_, _≤_, _<_, max, zero-le}
-use native.Mathlib.Decide.{decLe}
 use native.Mathlib.Nat.{le-refl, le-trans, eq-or-lt-of-le, le-of-suc-le-suc}
 use native.Mathlib.Omega.{arith}
 use lib.Dec.{eqb}
-use lib.ListN.{length}
-use borrow.Author.Tests.{eqb-false, eq-eqb, ne-eqb, not-true}
+use borrow.Author.Tests.{eq-eqb, ne-eqb, not-true}
 use Rattle.model.specs.Below.{most-below}
 use Rattle.model.specs.Problem.{Problem}
 use Rattle.model.specs.Rules.{listed, longest}
-use Rattle.model.specs.Chain.{Chain, alone, link, total-from}
-use Rattle.model.proofs.Below.{Implies, and-intro, and-both, and-mono, or-neither, most-at, most-le, most-mono, most-some, clash}
+use Rattle.model.proofs.Below.{Implies, and-intro, and-both, and-mono, or-neither, most-at, most-le, most-mono}
 
 guard-le : (b : Bool) (x c : ℕ) → (b ≡ true → x ≤ c) → elim b as (λ _. ℕ) [ true ↦ x | false ↦ 0 ] ≤ c
 guard-le true x c h = h refl
@@ -29,14 +26,14 @@ guard-mono {a = true} {b = true} f h = h
 guard-mono {a = true} {b = false} f h = absurd (false≢true (f refl))
 guard-mono {a = false} {b = b} f h = zero-le
 
-guard-is : (b : Bool) (x m : ℕ) → elim b as (λ _. ℕ) [ true ↦ x | false ↦ 0 ] ≡ m → 1 ≤ m → (b ≡ true) × (x ≡ m)
+pub guard-is : (b : Bool) (x m : ℕ) → elim b as (λ _. ℕ) [ true ↦ x | false ↦ 0 ] ≡ m → 1 ≤ m → (b ≡ true) × (x ≡ m)
 guard-is true x m e h = (refl, e)
 guard-is false x m e h = absurd (omega arith)
 
 max-mono : (x : ℕ) {y z : ℕ} → y ≤ z → max x y ≤ max x z
 max-mono x h = omega arith
 
-neither-or : {a b : Bool} → a ≡ false → b ≡ false → (a || b) ≡ false
+pub neither-or : {a b : Bool} → a ≡ false → b ≡ false → (a || b) ≡ false
 neither-or {a = true} e f = e
 neither-or {a = false} e f = f
 
@@ -55,7 +52,7 @@ unfolding unlisted
 unlisted-le true = zero-le
 unlisted-le false = le-refl 1
 
-free : ℕ → List ℕ → ℕ
+pub free : ℕ → List ℕ → ℕ
 free zero had = 0
 free (suc n) had = free n had + unlisted (listed n had)
 
@@ -64,7 +61,7 @@ unfolding free
 free-cons-le zero had v = zero-le
 free-cons-le (suc n) had v = omega (arith, free-cons-le n had v, unlisted-or (eqb n v) (listed n had))
 
-free-cons : (n : ℕ) (had : List ℕ) (v : ℕ) → v < n → listed v had ≡ false → free n (v ∷ had) < free n had
+pub free-cons : (n : ℕ) (had : List ℕ) (v : ℕ) → v < n → listed v had ≡ false → free n (v ∷ had) < free n had
 unfolding free
 free-cons zero had v h w = absurd (omega arith)
 free-cons (suc n) had v h w = go (eq-or-lt-of-le (le-of-suc-le-suc h)) (free-cons n had v)
@@ -77,7 +74,7 @@ free-cons (suc n) had v h w = go (eq-or-lt-of-le (le-of-suc-le-suc h)) (free-con
         omega (arith, free-cons-le n had v)
     go (inr l) ih = omega (arith, ih l w, unlisted-or (eqb n v) (listed n had))
 
-free-le : (n : ℕ) (had : List ℕ) → free n had ≤ n
+pub free-le : (n : ℕ) (had : List ℕ) → free n had ≤ n
 unfolding free
 free-le zero had = zero-le
 free-le (suc n) had = omega (arith, free-le n had, unlisted-le (listed n had))
@@ -93,24 +90,24 @@ longest-mono p a linked wider on mono h (suc f) had u =
     (most-mono (p .items) (λ v. guard-mono (and-mono (h u v) (λ e. e)) (mono u v _ _ (longest-mono p a linked wider on mono h f (v ∷ had) v))))
 
 module _ (p : Problem) (a : ℕ) (linked : ℕ → ℕ → Bool) (on : ℕ → ℕ → ℕ → ℕ) (mono : (u v x y : ℕ) → x ≤ y → on u v x ≤ on u v y) where
-  abbrev most : ℕ → List ℕ → ℕ → ℕ
+  abbrev pub most : ℕ → List ℕ → ℕ → ℕ
   most = longest p a linked on
 
   -- the greatest chain, with every item at hand
   abbrev pub greatest : ℕ → ℕ
   greatest u = most (p .items) (u ∷ []) u
 
-  most-alone : (had : List ℕ) (u : ℕ) → most zero had u ≡ p .size a u
+  pub most-alone : (had : List ℕ) (u : ℕ) → most zero had u ≡ p .size a u
   unfolding longest
   most-alone had u = refl
 
-  most-size : (f : ℕ) (had : List ℕ) (u : ℕ) → p .size a u ≤ most f had u
+  pub most-size : (f : ℕ) (had : List ℕ) (u : ℕ) → p .size a u ≤ most f had u
   unfolding longest
   most-size zero had u = le-refl _
   most-size (suc f) had u = omega arith
 
   -- What bounds a chain: an item alone, and each chain that goes on
-  most-ge : (f : ℕ) (had : List ℕ) (u i : ℕ) → i < p .items → linked u i ≡ true → listed i had ≡ false → on u i (most f (i ∷ had) i) ≤ most (suc f) had u
+  pub most-ge : (f : ℕ) (had : List ℕ) (u i : ℕ) → i < p .items → linked u i ≡ true → listed i had ≡ false → on u i (most f (i ∷ had) i) ≤ most (suc f) had u
   unfolding longest
   most-ge f had u i h b w =
       let g = guard-ge (linked u i && not (listed i had)) (on u i (most f (i ∷ had) i)) (and-intro b (ap not w)) in

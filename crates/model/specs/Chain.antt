@@ -2,7 +2,7 @@
 use mathlib.Core.Bool.{Bool, true, false}
 use mathlib.Core.List.{List, [], _∷_}
 use mathlib.Core.Path.{_≡_}
-use Prim.Native.Nat.{ℕ, _<_}
+use Prim.Native.Nat.{ℕ, _+_, _<_}
 use Rattle.model.specs.Problem.{Problem}
 use Rattle.model.specs.Domains.{Domains, fixed-before}
 use Rattle.model.specs.Rules.{listed, joined}
@@ -13,7 +13,7 @@ module _ (p : Problem) (linked : ℕ → ℕ → Bool) where
     alone : {u : ℕ} → u < p .items → Chain (u ∷ [])
     link : {u v : ℕ} {l : List ℕ} → u < p .items → linked u v ≡ true → listed u (v ∷ l) ≡ false → Chain (v ∷ l) → Chain (u ∷ v ∷ l)
 
--- "its total the sum of measures"
+-- "its total the sum of measures" (proofs/Chain shows that it is `measures`)
 module _ (p : Problem) (a : ℕ) (on : ℕ → ℕ → ℕ → ℕ) where
   abbrev pub total-from : ℕ → List ℕ → ℕ
   total-from u [] = p .size a u
@@ -32,3 +32,7 @@ Ending p k a = Chain p (λ u v. fixed-before k a v u)
 
 abbrev pub ending-total : Problem → ℕ → ℕ → List ℕ → ℕ
 ending-total p a = total-from p a (λ u v rest. joined p a v u rest (p .size a u))
+
+abbrev pub measures : Problem → ℕ → List ℕ → ℕ
+measures p a [] = 0
+measures p a (u ∷ l) = p .size a u + measures p a l
