@@ -1,5 +1,5 @@
 -- The accessors: what they read after a removal, of the same relation and of another; domains that read alike are equal.
-use mathlib.Core.Bool.{Bool, true, false, not, _&&_, false≢true}
+use mathlib.Core.Bool.{Bool, true, false, not, _&&_, and-comm, false≢true}
 use mathlib.Core.List.{List, [], _∷_}
 use mathlib.Core.Logic.{_⊎_, inl, inr, _≢_}
 use mathlib.Core.Path.{_≡_, refl, sym, _∙_, ap, subst}
@@ -204,6 +204,10 @@ fixed-overlap-says k a u v e = let q = and-both (not (may-before k a u v)) (not 
 pub fixed-overlap-of : (k : Domains) (a u v : ℕ) → may-before k a u v ≡ false → may-before k a v u ≡ false → fixed-overlap k a u v ≡ true
 unfolding fixed-overlap
 fixed-overlap-of k a u v f g = and-intro (ap not f) (ap not g)
+
+pub fixed-overlap-sym : (k : Domains) (a u v : ℕ) → fixed-overlap k a v u ≡ fixed-overlap k a u v
+unfolding fixed-overlap
+fixed-overlap-sym k a u v = and-comm (not (may-before k a v u)) (not (may-before k a u v))
 
 -- A relation that is removed is of two distinct items
 pub before-distinct : (k : Domains) (a u v : ℕ) → may-before k a u v ≡ false → u ≢ v

@@ -18,3 +18,5 @@ pub mod Packed
 pub mod Fork
 pub mod Weight
 pub mod Path
+pub mod Asks
+pub mod Obeys

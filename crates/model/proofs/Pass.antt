@@ -1,5 +1,5 @@
 -- One pass: it removes just the relations that some rule asks for, keeps the order of domains, and lowers their sum or changes nothing.
-use mathlib.Core.Bool.{Bool, true, false, not, _&&_, _||_, and-comm, or-comm, and-true, and-false, false≢true}
+use mathlib.Core.Bool.{Bool, true, false, not, _&&_, _||_, or-comm, and-true, and-false, false≢true}
 use mathlib.Core.List.{List, [], _∷_}
 use mathlib.Core.Logic.{_⊎_, inl, inr}
 use mathlib.Core.Path.{_≡_, refl, sym, _∙_, ap, ap₂, subst}
@@ -19,7 +19,7 @@ use Rattle.model.specs.Order.{Proper, Rising, WellFormed, Subdomain, _�
 use Rattle.model.proofs.Below.{Implies, and-first, and-mono, not-mono}
 use Rattle.model.proofs.Order.{overlap-bit-of, before-bit-of, after-bit-of, domain-bits, domain-le, sub-refl, sub-zero, sub-trans, sub-of, sub-mono}
 use Rattle.model.proofs.Slots.{lt-or-gt, no-slot, slot-at, slot-of, slot-indexed, slots-count, index-small}
-use Rattle.model.proofs.Domains.{may-overlap-sym, before-up, before-down, overlap-up}
+use Rattle.model.proofs.Domains.{may-overlap-sym, fixed-overlap-sym, before-up, before-down, overlap-up}
 use Rattle.model.proofs.Monotone.{asks-overlap-mono, asks-before-mono}
 
 -- A function of domains applied at every slot
@@ -134,10 +134,6 @@ pass-well-formed p k w =
     record { long = length-at (kept p k) slots k ∙ w .long; small = λ i. omega (arith, small-at (kept p k) (kept-le p k) slots k i, w .small i) }
 
 -- What the accessors read after a pass
-fixed-overlap-sym : (k : Domains) (a u v : ℕ) → fixed-overlap k a v u ≡ fixed-overlap k a u v
-unfolding fixed-overlap
-fixed-overlap-sym k a u v = and-comm (not (may-before k a v u)) (not (may-before k a u v))
-
 rule1-sym : (p : Problem) (k : Domains) (a u v : ℕ) → rule1 p k a v u ≡ rule1 p k a u v
 unfolding rule1
 rule1-sym p k a u v = λ i. all-below 3 (λ b. eqb b a || fixed-overlap-sym k b u v i)

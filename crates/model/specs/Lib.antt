@@ -7,5 +7,6 @@ pub mod Chain
 pub mod Propagate
 pub mod Branching
 pub mod Order
+pub mod Obeys
 pub mod Admits
 pub mod Weight
