@@ -20,3 +20,5 @@ pub mod Weight
 pub mod Path
 pub mod Asks
 pub mod Obeys
+pub mod Run
+pub mod Calls

@@ -10,3 +10,6 @@ pub mod Order
 pub mod Obeys
 pub mod Admits
 pub mod Weight
+pub mod Search
+pub mod Calls
+pub mod Run
