@@ -22,3 +22,4 @@ pub mod Asks
 pub mod Obeys
 pub mod Run
 pub mod Calls
+pub mod Halls

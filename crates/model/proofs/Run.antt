@@ -9,7 +9,7 @@ use native.Mathlib.Omega.{arith}
 use native.Mathlib.Decide.{decLt}
 use lib.ListN.{length}
 use Rattle.model.specs.Branching.{Branch, first, second}
-use Rattle.model.specs.Search.{Outlook, conflict, complete, fork, Checkpoint, open-at, infeasible, packed-at, backtrack, act, step, steps, opening, Open, Finished, Count, Forking, Follows, is-fork, is-complete, forking, follows, Laws}
+use Rattle.model.specs.Search.{Outlook, conflict, complete, fork, Checkpoint, open-at, infeasible, packed-at, backtrack, act, step, steps, opening, Open, Finished, Count, Forking, Follows, is-fork, is-complete, forking, follows, path-count, Laws}
 use Rattle.model.proofs.Below.{and-intro, and-both}
 
 module _ (look : List Branch → Outlook) where
@@ -96,71 +96,70 @@ module _ (look : List Branch → Outlook) where
     (λ l. and-intro (forking-so path .1 (l .0)) (complete-so (look path) .1 (l .1))),
   )
 
--- steps, each on an open checkpoint
-data Way (look : List Branch → Outlook) : Checkpoint → Checkpoint → Type 0 where
-  here : {κ : Checkpoint} → Way look κ κ
-  on : {o : Outlook} {path : List Branch} {κ : Checkpoint} → look path ≡ o → Way look (act o path) κ → Way look (open-at path) κ
+-- i steps, each on an open checkpoint
+data Way (look : List Branch → Outlook) : ℕ → Checkpoint → Checkpoint → Type 0 where
+  here : {κ : Checkpoint} → Way look zero κ κ
+  on : {o : Outlook} {i : ℕ} {path : List Branch} {κ : Checkpoint} → look path ≡ o → Way look i (act o path) κ → Way look (suc i) (open-at path) κ
 
 module _ (look : List Branch → Outlook) where
-  join : {κ μ ξ : Checkpoint} → Way look κ μ → Way look μ ξ → Way look κ ξ
-  join here q = q
-  join (on e p) q = on e (join p q)
+  join : {i j : ℕ} {κ μ ξ : Checkpoint} → Way look i κ μ → Way look j μ ξ → Way look (i + j) κ ξ
+  join here q = rw zero-add q
+  join (on e p) q = rw suc-add (on e (join p q))
 
-  size : {κ μ : Checkpoint} → Way look κ μ → ℕ
-  size here = zero
-  size (on e p) = suc (size p)
-
-  way-ends : {κ μ : Checkpoint} (p : Way look κ μ) → steps look (size p) κ ≡ μ
-  unfolding size
+  way-ends : {i : ℕ} {κ μ : Checkpoint} → Way look i κ μ → steps look i κ ≡ μ
   way-ends here = refl
-  way-ends (on {o} {path} {κ} e p) = subst (λ (x : Outlook). steps look (size p) (act x path) ≡ κ) (sym e) (way-ends p)
+  way-ends (on {o} {i} {path} {κ} e p) = subst (λ (x : Outlook). steps look i (act x path) ≡ κ) (sym e) (way-ends p)
 
-  way-open : {κ μ : Checkpoint} (p : Way look κ μ) (i : ℕ) → i < size p → Open (steps look i κ)
-  unfolding size
-  way-open here i h = absurd (not-suc-le-zero h)
+  way-open : {i : ℕ} {κ μ : Checkpoint} → Way look i κ μ → (j : ℕ) → j < i → Open (steps look j κ)
+  way-open here j h = absurd (not-suc-le-zero h)
   way-open (on e p) zero h = tt
-  way-open (on e p) (suc i) h = rw e (way-open p i (le-of-suc-le-suc h))
+  way-open (on e p) (suc j) h = rw e (way-open p j (le-of-suc-le-suc h))
 
   module _ {X : Type 0} {Admits : List Branch → X → Type 0} {weight : List Branch → ℕ} (L : Laws look X Admits weight) where
-    -- the search leaves the path behind with nothing in it, or ends in it
-    data Leaves (path : List Branch) : Type 0 where
-      empty : Way look (open-at path) (backtrack path) → ((x : X) → Admits path x → ⊥) → Leaves path
-      found : (end : List Branch) → Way look (open-at path) (packed-at end) → Leaves path
+    -- in at most c steps the search leaves the path behind with nothing in it, or ends in it
+    data Leaves (c : ℕ) (path : List Branch) : Type 0 where
+      empty : {i : ℕ} → Way look i (open-at path) (backtrack path) → i ≤ c → ((x : X) → Admits path x → ⊥) → Leaves c path
+      found : {i : ℕ} {end : List Branch} → Way look i (open-at path) (packed-at end) → i ≤ c → Leaves c path
 
-    leave : (w : ℕ) (path : List Branch) → Forking look path → weight path < w → Leaves path
-    leave zero path l h = absurd (not-suc-le-zero h)
-    leave (suc w) path l h = go (look path) refl (λ e b. leave w (b ∷ path) (e, l) (omega (arith, L .weight-falls path l e b)))
-      where
-        forked : look path ≡ fork → Leaves (first ∷ path) → Leaves (second ∷ path) → Leaves path
-        forked e (found q p) _ = found q (on e p)
-        forked e (empty p f) (found q p′) = found q (on e (join p p′))
-        forked e (empty p f) (empty p′ g) = empty (on e (join p p′)) (λ x a. ⊎-elim (f x) (g x) (L .fork-splits path l e x a))
+    module _ (path : List Branch) (l : Forking look path) (c d : ℕ) (h : suc (d + d) ≤ c) where
+      forked : look path ≡ fork → Leaves d (first ∷ path) → Leaves d (second ∷ path) → Leaves c path
+      forked e (found p m) _ = found (on e p) (omega arith)
+      forked e (empty p m f) (found p′ m′) = found (on e (join p p′)) (omega arith)
+      forked e (empty p m f) (empty p′ m′ g) = empty (on e (join p p′)) (omega arith) (λ x a. ⊎-elim (f x) (g x) (L .fork-splits path l e x a))
 
-        go : (o : Outlook) → look path ≡ o → (look path ≡ fork → (b : Branch) → Leaves (b ∷ path)) → Leaves path
-        go conflict e ih = empty (on e here) (L .conflict-admits-none path l e)
-        go complete e ih = found path (on e here)
-        go fork e ih = forked e (ih e first) (ih e second)
+      leave-by : (o : Outlook) → look path ≡ o → (look path ≡ fork → (b : Branch) → Leaves d (b ∷ path)) → Leaves c path
+      leave-by conflict e ih = empty (on e here) (omega arith) (L .conflict-admits-none path l e)
+      leave-by complete e ih = found (on e here) (omega arith)
+      leave-by fork e ih = forked e (ih e first) (ih e second)
+
+    leave : (w : ℕ) (path : List Branch) → Forking look path → weight path ≤ w → Leaves (path-count w) path
+    leave zero path l h = leave-by path l 1 0 (omega arith) (look path) refl (λ e b. absurd (omega (arith, L .weight-falls path l e b)))
+    leave (suc w) path l h =
+        leave-by path l (path-count (suc w)) (path-count w) (le-refl _) (look path) refl
+        (λ e b. leave w (b ∷ path) (e, l) (omega (arith, L .weight-falls path l e b)))
 
     -- the run comes to an end: infeasible with no packing to find, or packed on a path that is complete
-    pub record Ends : Type 0 where
+    pub record Ends (w : ℕ) : Type 0 where
       pub count : ℕ
+      pub bounded : count ≤ path-count w
       pub counts : Count look opening count
       pub end : ((steps look count opening ≡ infeasible) × (X → ⊥))
           ⊎ ((path : List Branch) × (steps look count opening ≡ packed-at path) × (Forking look path × (look path ≡ complete)))
 
-    counted : {κ : Checkpoint} → Finished κ → (p : Way look opening κ) → Count look opening (size p)
+    counted : {i : ℕ} {κ : Checkpoint} → Finished κ → Way look i opening κ → Count look opening i
     counted f p = record { finished = subst Finished (sym (way-ends p)) f; before = way-open p }
 
-    ends-by : Leaves [] → Ends
-    ends-by (empty p f) = record { count = size p; counts = counted tt p; end = inl (way-ends p, (λ x. f x (L .root-admits x))) }
-    ends-by (found q p) = record {
-      count = size p;
+    ends-by : (w : ℕ) → Leaves (path-count w) [] → Ends w
+    ends-by w (empty {i} p m f) = record { count = i; bounded = m; counts = counted tt p; end = inl (way-ends p, (λ x. f x (L .root-admits x))) }
+    ends-by w (found {i} {end = q} p m) = record {
+      count = i;
+      bounded = m;
       counts = counted tt p;
-      end = inr (q, way-ends p, subst (Follows look) (way-ends p) (steps-follow look (size p) opening tt));
+      end = inr (q, way-ends p, subst (Follows look) (way-ends p) (steps-follow look i opening tt));
     }
 
-    pub ends : Ends
-    ends = ends-by (leave (suc (weight [])) [] tt (le-refl _))
+    pub ends : (w : ℕ) → weight [] ≤ w → Ends w
+    ends w h = ends-by w (leave w [] tt h)
 
     -- a path is no longer than the opening's weight, and a fork is shorter
     pub path-bound : (path : List Branch) → Forking look path → length path + weight path ≤ weight []

@@ -1,10 +1,10 @@
 -- The search of a problem: what its paths show, one call, the run and its step count.
 use mathlib.Core.Bool.{Bool, true, false}
 use mathlib.Core.List.{List}
-use Prim.Native.Nat.{ℕ, zero, suc, _+_, _*_, _-_}
+use Prim.Native.Nat.{ℕ, _*_, _-_}
 use Rattle.model.specs.Problem.{Problem, Positions}
 use Rattle.model.specs.Branching.{Branch, inconsistent, packed, path-domains, plan}
-use Rattle.model.specs.Search.{Outlook, conflict, complete, fork, Checkpoint, steps, opening}
+use Rattle.model.specs.Search.{Outlook, conflict, complete, fork, Checkpoint, steps, opening, path-count}
 use Rattle.model.specs.Calls.{taken, Result, call}
 
 -- "contradictory"; "each pair has 'before' known"; "else"
@@ -23,11 +23,6 @@ search p budget κ = call (look p) (plan p) budget κ
 -- "A row of turns has at most 3 × n × (n − 1) entries"
 abbrev pub path-limit : Problem → ℕ
 path-limit p = 3 * (p .items * (p .items - 1))
-
--- a step for each path of at most w branches
-abbrev pub path-count : ℕ → ℕ
-path-count zero = 1
-path-count (suc w) = suc (path-count w + path-count w)
 
 -- "one run of this search takes steps from the opening note until the note is finished": no run takes more steps than there are paths (proofs/Theorems)
 unfoldable pub run : Problem → Checkpoint

@@ -3,7 +3,7 @@ use mathlib.Core.Path.{_≡_}
 use mathlib.Core.Logic.{_⊎_}
 use mathlib.Core.Bool.{Bool, true, false, _&&_}
 use mathlib.Core.List.{List, [], _∷_}
-use Prim.Native.Nat.{ℕ, zero, suc, _<_}
+use Prim.Native.Nat.{ℕ, zero, suc, _+_, _<_}
 use Rattle.model.specs.Branching.{Branch, first, second}
 
 -- what a path shows: its domains are inconsistent ("contradictory"); each pair has a fixed "before"; or neither, "a branching point"
@@ -87,6 +87,11 @@ abbrev pub follows : (List Branch → Outlook) → Checkpoint → Bool
 follows look (open-at path) = forking look path
 follows look infeasible = true
 follows look (packed-at path) = forking look path && is-complete (look path)
+
+-- how many paths of at most w branches there are
+abbrev pub path-count : ℕ → ℕ
+path-count zero = 1
+path-count (suc w) = suc (path-count w + path-count w)
 
 -- All that the search needs of paths: X are the feasible packings, and `Admits path x` says that the path still admits x
 pub record Laws (look : List Branch → Outlook) (X : Type 0) (Admits : List Branch → X → Type 0) (weight : List Branch → ℕ) : Type 0 where
