@@ -23,3 +23,4 @@ pub mod Obeys
 pub mod Run
 pub mod Calls
 pub mod Halls
+pub mod Theorems
