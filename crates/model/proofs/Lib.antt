@@ -23,4 +23,5 @@ pub mod Obeys
 pub mod Run
 pub mod Calls
 pub mod Halls
+pub mod Paths
 pub mod Theorems
