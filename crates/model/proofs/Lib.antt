@@ -23,5 +23,6 @@ pub mod Obeys
 pub mod Run
 pub mod Calls
 pub mod Halls
+pub mod Examples
 pub mod Paths
 pub mod Theorems
