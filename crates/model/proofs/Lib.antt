@@ -24,5 +24,6 @@ pub mod Run
 pub mod Calls
 pub mod Halls
 pub mod Examples
+pub mod PathDomains
 pub mod Paths
 pub mod Theorems
