@@ -9,7 +9,7 @@ use native.Mathlib.Omega.{arith}
 use native.Mathlib.Decide.{decLt}
 use Rattle.model.specs.Branching.{Branch}
 use Rattle.model.specs.Search.{Outlook, Checkpoint, open-at, infeasible, packed-at, step, steps, opening, Open, Finished, Count}
-use Rattle.model.specs.Calls.{taken, Answer, budget-spent, no-packing, packing, answer, Reply, refused, answered, play, granted, sum, steps-of, total-steps, RightReply, RightReplies, Serves, Claim, Refuses, refusals, RefusedClaim}
+use Rattle.model.specs.Calls.{taken, budget-spent, answer, Reply, refused, play, granted, sum, steps-of, total-steps, RightReply, RightReplies, Serves, Claim, Refuses, RefusedClaim}
 use Rattle.model.proofs.Run.{steps-add, finished-stays, past-count, count-later, steps-follow}
 
 open-spent : {P : Type 0} (plan : List Branch → P) (κ : Checkpoint) → Open κ → answer plan κ ≡ budget-spent

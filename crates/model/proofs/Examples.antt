@@ -1,19 +1,23 @@
 -- Document 01's "Plausible errors", each refuted by a small example; by computation.
 use mathlib.Core.Bool.{Bool, true, false, cond, _&&_}
-use mathlib.Core.List.{List, [], _∷_}
+use mathlib.Core.List.{List, [], _∷_, List·Memᴰ·not-nil}
 use mathlib.Core.Path.{_≡_, refl}
 use Prim.Native.Nat.{ℕ, zero, suc, _+_, _*_}
+use native.Mathlib.Omega.{arith}
 use lib.Dec.{leb, ltb}
 use lib.ListN.{getD}
+use borrow.Author.Tests.{leb-true}
 use Rattle.model.specs.Below.{all-below}
 use Rattle.model.specs.Problem.{Problem, Positions, time, ends-before, feasible}
 use Rattle.model.specs.Domains.{Domains, may-before, may-overlap, remove-overlap, fix-before, fix-overlap, full-domains}
 use Rattle.model.specs.Rules.{rule4}
 use Rattle.model.specs.Propagate.{propagate}
 use Rattle.model.specs.Search.{infeasible}
-use Rattle.model.specs.Calls.{budget-spent, no-packing, packing}
+use Rattle.model.specs.Calls.{budget-spent, no-packing}
 use Rattle.model.specs.Run.{run}
-use Rattle.model.specs.Halls.{Triple, Case, case, problem, xyt, unit, precedence, with-budget, once, right}
+use Rattle.model.specs.Halls.{Triple, case, problem, xyt, unit, with-budget, right}
+use Rattle.model.specs.Admits.{Sound}
+use Rattle.model.proofs.Below.{all-at}
 
 -- starts told item by item
 abbrev at-starts : List Triple → Positions
@@ -38,6 +42,13 @@ areas-fit-there = refl
 pub two-squares-infeasible : run two-squares ≡ infeasible
 unfolding right run
 two-squares-infeasible = refl
+
+two-squares-sound : Sound two-squares
+two-squares-sound = record {
+  limited = omega arith;
+  positive = λ a u la lu. leb-true _ _ (all-at 2 (λ v. leb 1 (two-squares .size a v)) (all-at 3 (λ b. all-below 2 (λ v. leb 1 (two-squares .size b v))) refl a la) u lu);
+  named = λ o m. absurd (List·Memᴰ·not-nil m);
+}
 
 -- "Rule 4 used when only three of the four overlaps are known". On x ab, bc, cd overlap, da and ac do not, and b ends at the start of d
 abbrev pub four-in-line : Problem

@@ -2,18 +2,18 @@
 use mathlib.Core.Bool.{Bool, true, false}
 use mathlib.Core.List.{List, [], _∷_, List·Memᴰ, List·Memᴰ·tail, List·Memᴰ·head, List·Memᴰ·not-nil, List·Memᴰ·cases-cons}
 use mathlib.Core.Logic.{_⊎_, inl, inr}
-use mathlib.Core.Path.{_≡_, refl, sym, ap, _∙_}
+use mathlib.Core.Path.{_≡_, refl, sym, _∙_}
 use Prim.Native.Nat.{ℕ, zero, suc, _≤_, _<_}
 use native.Mathlib.Omega.{arith}
 use lib.ListN.{getD, replicate, length-replicate}
 use Rattle.model.specs.Problem.{Problem, Precedence, time}
-use Rattle.model.specs.Domains.{Domains, may-overlap, may-before, remove-overlap, remove-before, fixed-before, fix-before, full-domains}
+use Rattle.model.specs.Domains.{Domains, may-overlap, remove-overlap, remove-before, fixed-before, fix-before, full-domains}
 use Rattle.model.specs.Propagate.{propagate}
 use Rattle.model.specs.Branching.{fix-precedences, opening-domains, Branch, first, second, branch-at, choice, branched, path-domains}
 use Rattle.model.specs.Order.{Proper, WellFormed, _⊑_, AtRest}
 use Rattle.model.specs.Admits.{Sound}
 use Rattle.model.proofs.Order.{below-refl, below-trans}
-use Rattle.model.proofs.Domains.{may-overlap-sym, before-removed, overlap-removed, before-after-overlap, fixed-before-of}
+use Rattle.model.proofs.Domains.{before-removed, overlap-removed, before-after-overlap, fixed-before-of}
 use Rattle.model.proofs.Monotone.{fixed-before-mono}
 use Rattle.model.proofs.Propagate.{propagate-less, propagate-well-formed, propagate-at-rest}
 use Rattle.model.proofs.Removal.{remove-before-less, remove-overlap-less, remove-before-well-formed, remove-overlap-well-formed, fix-before-less, fix-overlap-less, fix-before-well-formed, fix-overlap-well-formed}

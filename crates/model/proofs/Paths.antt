@@ -7,7 +7,7 @@ use Prim.Native.Nat.{ℕ, _≤_, _<_}
 use Rattle.model.specs.Problem.{Problem, Positions, Feasible}
 use Rattle.model.specs.Domains.{Domains}
 use Rattle.model.specs.Branching.{Branch, first, second, inconsistent, packed, path-domains, plan}
-use Rattle.model.specs.Admits.{Sound, Admits}
+use Rattle.model.specs.Admits.{Admits}
 use Rattle.model.specs.Search.{conflict, complete, fork, Laws}
 use Rattle.model.specs.Run.{outlook, look, path-limit}
 

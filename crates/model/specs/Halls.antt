@@ -4,7 +4,7 @@ use mathlib.Core.List.{List, [], _∷_}
 use Prim.Native.Nat.{ℕ, _+_}
 use lib.Dec.{eqb}
 use lib.ListN.{getD, length}
-use Rattle.model.specs.Below.{all-below, all-in}
+use Rattle.model.specs.Below.{all-below}
 use Rattle.model.specs.Problem.{Problem, Precedence, Positions, ends-before, inside-test, apart-on-some-axis, apart-test, ordered-test, feasible}
 use Rattle.model.specs.Domains.{pairs, pair-number, domain, overlap-bit, before-bit, after-bit, index, index-of, may-overlap, may-before, remove-overlap, remove-before, fixed-before, fixed-overlap, fix-before, fix-overlap}
 use Rattle.model.specs.Rules.{joined, ending, starting, greatest-ending, greatest-starting, rule1, rule2, rule3, rule4, rule5, asks-overlap, asks-before}
