@@ -24,6 +24,5 @@ pub mod Run
 pub mod Calls
 pub mod Halls
 pub mod Examples
-pub mod PathDomains
-pub mod Paths
+pub mod SearchLaws
 pub mod Theorems

@@ -15,15 +15,20 @@ use Rattle.model.specs.Calls.{taken, Answer, budget-spent, no-packing, p
 use Rattle.model.specs.Run.{look, search, path-limit, run, step-count}
 use Rattle.model.proofs.Run.{steps-add, past-count, count-unique, steps-follow, Ends, ends, path-bound, fork-bound}
 use Rattle.model.proofs.Calls.{taken-is, claim}
-use Rattle.model.proofs.Paths.{look-complete, PathLaws, FeasiblePacking, search-laws}
+use Rattle.model.proofs.Weight.{weight-bound}
+use Rattle.model.proofs.Path.{plan-feasible}
+use Rattle.model.proofs.SearchLaws.{look-complete, FeasiblePacking, path-load, search-laws}
 
 -- no path is a packing and infeasible at once
 packed-not-infeasible : (path : List Branch) → packed-at path ≡ infeasible → ⊥
 packed-not-infeasible path e = let z : _≡_ {A = ℕ} 0 1 = cc in omega arith
 
-module _ (p : Problem) (σ : Sound p) (weight : Domains → ℕ) (L : PathLaws p weight) where
-  ended : Ends (look p) (search-laws p weight L) (path-limit p)
-  ended = ends (look p) (search-laws p weight L) (path-limit p) (L .most)
+module _ (p : Problem) (σ : Sound p) where
+  root-weight : path-load p [] ≤ path-limit p
+  root-weight = weight-bound p (path-domains p [])
+
+  ended : Ends (look p) (search-laws p σ) (path-limit p)
+  ended = ends (look p) (search-laws p σ) (path-limit p) (root-weight)
 
   count-is : step-count p ≡ ended .count
   unfolding step-count
@@ -34,10 +39,10 @@ module _ (p : Problem) (σ : Sound p) (weight : Domains → ℕ) (L : PathLaws p
 
   -- "A row of turns has at most 3 × n × (n − 1) entries", and one that is a branching point has fewer
   pub path-most : (path : List Branch) → Forking (look p) path → length path ≤ path-limit p
-  path-most path f = omega (arith, path-bound (look p) (search-laws p weight L) path f, L .most)
+  path-most path f = omega (arith, path-bound (look p) (search-laws p σ) path f, root-weight)
 
   pub fork-most : (path : List Branch) → Forking (look p) path → look p path ≡ fork → length path < path-limit p
-  fork-most path f e = omega (arith, fork-bound (look p) (search-laws p weight L) path f e, L .most)
+  fork-most path f e = omega (arith, fork-bound (look p) (search-laws p σ) path f e, root-weight)
 
   -- "The number of these steps is finite; it is the sheet's step count"
   pub counted : Count (look p) opening (step-count p)
@@ -55,7 +60,7 @@ module _ (p : Problem) (σ : Sound p) (weight : Domains → ℕ) (L : PathLaws p
 
   -- a packed checkpoint that follows has a feasible plan, also where the run does not come to it
   pub packed-feasible : (path : List Branch) → Follows (look p) (packed-at path) → Feasible p (plan p path)
-  packed-feasible path f = let (i, c) = look-complete p path (f .1) in L .plan-feasible path i c
+  packed-feasible path f = let (i, c) = look-complete p path (f .1) in plan-feasible p σ path i c
 
   -- "The finished note gives the run's answer: none, or placed with its plan": none where nothing fits, or a plan that fits
   pub run-ends : ((run p ≡ infeasible) × ((q : Positions) → Feasible p q → ⊥)) ⊎ ((path : List Branch) × (run p ≡ packed-at path) × Feasible p (plan p path))
