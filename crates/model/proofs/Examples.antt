@@ -8,7 +8,7 @@ use lib.Dec.{leb, ltb}
 use lib.ListN.{getD}
 use borrow.Author.Tests.{leb-true}
 use Rattle.model.specs.Below.{all-below}
-use Rattle.model.specs.Problem.{Problem, Positions, time, ends-before, feasible}
+use Rattle.model.specs.Problem.{Problem, Positions, time, Feasible, ends-before, feasible}
 use Rattle.model.specs.Domains.{Domains, may-before, may-overlap, remove-overlap, fix-before, fix-overlap, full-domains}
 use Rattle.model.specs.Rules.{rule4}
 use Rattle.model.specs.Propagate.{propagate}
@@ -18,6 +18,7 @@ use Rattle.model.specs.Run.{run}
 use Rattle.model.specs.Halls.{Triple, case, problem, xyt, unit, with-budget, right}
 use Rattle.model.specs.Admits.{Sound}
 use Rattle.model.proofs.Below.{all-at}
+use Rattle.model.proofs.Theorems.{infeasible-exactly}
 
 -- starts told item by item
 abbrev at-starts : List Triple → Positions
@@ -49,6 +50,10 @@ two-squares-sound = record {
   positive = λ a u la lu. leb-true _ _ (all-at 2 (λ v. leb 1 (two-squares .size a v)) (all-at 3 (λ b. all-below 2 (λ v. leb 1 (two-squares .size b v))) refl a la) u lu);
   named = λ o m. absurd (List·Memᴰ·not-nil m);
 }
+
+-- so no packing of them is feasible
+pub areas-do-not-suffice : (q : Positions) → Feasible two-squares q → ⊥
+areas-do-not-suffice = infeasible-exactly two-squares two-squares-sound .0 two-squares-infeasible
 
 -- "Rule 4 used when only three of the four overlaps are known". On x ab, bc, cd overlap, da and ac do not, and b ends at the start of d
 abbrev pub four-in-line : Problem

@@ -1,3 +1,5 @@
+-- Theorems has what it all comes to; the others follow the order of the definitions.
+pub mod Theorems
 pub mod Below
 pub mod Feasible
 pub mod Slots
@@ -22,7 +24,6 @@ pub mod Asks
 pub mod Obeys
 pub mod Run
 pub mod Calls
+pub mod Search
 pub mod Halls
 pub mod Examples
-pub mod SearchLaws
-pub mod Theorems

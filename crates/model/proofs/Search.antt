@@ -1,15 +1,19 @@
 -- What a path's outlook says of its domains, and the laws that the search needs of paths.
 use mathlib.Core.Bool.{Bool, true, false, true≢false}
-use mathlib.Core.List.{List}
+use mathlib.Core.List.{List, []}
 use mathlib.Core.Path.{_≡_, refl, sym, _∙_}
-use Prim.Native.Nat.{ℕ}
+use Prim.Native.Nat.{ℕ, _≤_}
+use native.Mathlib.Omega.{arith}
 use Rattle.model.specs.Problem.{Problem, Positions, Feasible}
 use Rattle.model.specs.Branching.{Branch, inconsistent, packed, path-domains}
 use Rattle.model.specs.Admits.{Sound, Admits}
 use Rattle.model.specs.Weight.{weight}
-use Rattle.model.specs.Search.{conflict, complete, fork, Laws}
-use Rattle.model.specs.Run.{outlook, look}
+use Rattle.model.specs.Search.{conflict, complete, fork, opening, path-count, Laws}
+use Rattle.model.specs.Run.{outlook, look, path-limit, step-count}
+use Rattle.model.proofs.Weight.{weight-bound}
 use Rattle.model.proofs.Path.{path-fork, path-weight, path-split, path-consistent, root-admits}
+use Rattle.model.proofs.Run.{Ends, ends}
+use Rattle.model.proofs.Calls.{taken-is}
 
 -- what the tests say where a path shows this or that
 shows-conflict : (i c : Bool) → outlook i c ≡ conflict → i ≡ true
@@ -42,6 +46,15 @@ module _ (p : Problem) where
   unfolding look
   look-fork path e = shows-fork _ _ e
 
+  -- and the other way round
+  pub look-by : (path : List Branch) {i c : Bool} → inconsistent p (path-domains p path) ≡ i → packed p (path-domains p path) ≡ c → look p path ≡ outlook i c
+  unfolding look
+  look-by path e f = rw (e, f)
+
+  pub look-inconsistent : (path : List Branch) → inconsistent p (path-domains p path) ≡ true → look p path ≡ conflict
+  unfolding look
+  look-inconsistent path e = rw e
+
 -- the feasible packings of a problem
 abbrev pub FeasiblePacking : Problem → Type 0
 FeasiblePacking p = (q : Positions) × Feasible p q
@@ -59,3 +72,15 @@ search-laws p σ = record {
   fork-splits = λ path l e x a. let (i, c) = look-fork p path e in path-split p σ path (x .0) (x .1) (path-fork p σ path i c) a;
   weight-falls = λ path l e b. let (i, c) = look-fork p path e in path-weight p σ path (path-fork p σ path i c) b;
 }
+
+-- the run ends, and the step count is its number of steps
+module _ (p : Problem) (σ : Sound p) where
+  pub root-weight : path-load p [] ≤ path-limit p
+  root-weight = weight-bound p (path-domains p [])
+
+  pub ended : Ends (look p) (search-laws p σ) (path-limit p)
+  ended = ends (look p) (search-laws p σ) (path-limit p) root-weight
+
+  pub count-is : step-count p ≡ ended .count
+  unfolding step-count
+  count-is = omega (arith, taken-is (look p) (path-count (path-limit p)) (ended .count) opening (ended .counts), ended .bounded)
