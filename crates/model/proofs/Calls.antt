@@ -4,7 +4,7 @@ use mathlib.Core.List.{List, [], _∷_}
 use mathlib.Core.Option.{Option, none, some}
 use mathlib.Core.Logic.{_↔_}
 use Prim.Native.Nat.{ℕ, zero, suc, _+_, _-_, _≤_, _<_, min, suc-le-suc}
-use native.Mathlib.Nat.{add-zero, add-assoc}
+use native.Mathlib.Nat.{zero-add, add-zero, suc-add, add-assoc}
 use native.Mathlib.Omega.{arith}
 use native.Mathlib.Decide.{decLt}
 use Rattle.model.specs.Branching.{Branch}
@@ -49,6 +49,13 @@ module _ (look : List Branch → Outlook) where
   finished-takes-none (suc i) (open-at path) f = absurd f
   finished-takes-none (suc i) infeasible f = refl
   finished-takes-none (suc i) (packed-at path) f = refl
+
+  -- steps taken in parts add up
+  pub taken-add : (i j : ℕ) (κ : Checkpoint) → taken look (i + j) κ ≡ taken look i κ + taken look j (steps look i κ)
+  taken-add zero j κ = simp zero-add
+  taken-add (suc i) j (open-at path) = simp suc-add (ap suc (taken-add i j (step look path)))
+  taken-add (suc i) j infeasible = rw (finished-takes-none (suc i + j) infeasible tt, finished-takes-none j infeasible tt)
+  taken-add (suc i) j (packed-at path) = rw (finished-takes-none (suc i + j) (packed-at path) tt, finished-takes-none j (packed-at path) tt)
 
 module _ {C X E P : Type 0} (look : List Branch → Outlook) (plan : List Branch → P) (hold : Checkpoint → X) (budget : C → Option ℕ)
     (exec : C → X → X × Reply E P) (count : ℕ) (k : Count look opening count) (υ : Serves look plan hold budget exec) where

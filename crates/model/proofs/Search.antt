@@ -2,14 +2,17 @@
 use mathlib.Core.Bool.{Bool, true, false, true≢false}
 use mathlib.Core.List.{List, []}
 use mathlib.Core.Path.{_≡_, refl, sym, _∙_}
-use Prim.Native.Nat.{ℕ, _≤_}
+use Prim.Native.Nat.{ℕ, _*_, _-_, _≤_}
 use native.Mathlib.Omega.{arith}
+use lib.Dec.{leb}
+use borrow.Author.Tests.{leb-true}
 use Rattle.model.specs.Problem.{Problem, Positions, Feasible}
 use Rattle.model.specs.Branching.{Branch, inconsistent, packed, path-domains}
 use Rattle.model.specs.Admits.{Sound, Admits}
 use Rattle.model.specs.Weight.{weight}
 use Rattle.model.specs.Search.{conflict, complete, fork, opening, path-count, Laws}
 use Rattle.model.specs.Run.{outlook, look, path-limit, step-count}
+use Rattle.model.proofs.Below.{all-at}
 use Rattle.model.proofs.Weight.{weight-bound}
 use Rattle.model.proofs.Path.{path-fork, path-weight, path-split, path-consistent, root-admits}
 use Rattle.model.proofs.Run.{Ends, ends}
@@ -72,6 +75,10 @@ search-laws p σ = record {
   fork-splits = λ path l e x a. let (i, c) = look-fork p path e in path-split p σ path (x .0) (x .1) (path-fork p σ path i c) a;
   weight-falls = λ path l e b. let (i, c) = look-fork p path e in path-weight p σ path (path-fork p σ path i c) b;
 }
+
+-- "270 turns are limits": with at most 10 items no path is longer
+pub limit-270 : (p : Problem) → p .items ≤ 10 → path-limit p ≤ 270
+limit-270 p h = leb-true _ _ (all-at 11 (λ n. leb (3 * (n * (n - 1))) 270) refl (p .items) (omega arith))
 
 -- the run ends, and the step count is its number of steps
 module _ (p : Problem) (σ : Sound p) where

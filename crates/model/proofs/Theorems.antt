@@ -14,15 +14,15 @@ use Rattle.model.specs.Branching.{Branch, plan}
 use Rattle.model.specs.Order.{WellFormed, Between, AtRest}
 use Rattle.model.specs.Admits.{Sound, Admits}
 use Rattle.model.specs.Search.{complete, fork, Checkpoint, open-at, infeasible, packed-at, steps, opening, Finished, Count, Forking, Follows, follows, path-count}
-use Rattle.model.specs.Calls.{budget-spent, packing, answer, Reply, refused, answered, Serves, Claim, Refuses, RefusedClaim}
+use Rattle.model.specs.Calls.{taken, budget-spent, packing, answer, Reply, refused, answered, Serves, Claim, Refuses, RefusedClaim}
 use Rattle.model.specs.Run.{look, search, path-limit, run, step-count}
 use Rattle.model.proofs.Feasible.{feasible-so}
 use Rattle.model.proofs.Propagate.{propagate-at-rest, between-rest}
 use Rattle.model.proofs.Sound.{propagate-admits}
 use Rattle.model.proofs.Path.{plan-feasible}
 use Rattle.model.proofs.Run.{steps-add, finished-stays, past-count, count-unique, steps-follow, follows-so, path-bound, fork-bound}
-use Rattle.model.proofs.Calls.{spent-takes-all, finished-takes-none, claim, refused-claim}
-use Rattle.model.proofs.Search.{look-complete, FeasiblePacking, search-laws, root-weight, ended, count-is}
+use Rattle.model.proofs.Calls.{taken-add, spent-takes-all, finished-takes-none, claim, refused-claim}
+use Rattle.model.proofs.Search.{look-complete, FeasiblePacking, search-laws, limit-270, root-weight, ended, count-is}
 
 -- Document 01, "Fit"
 
@@ -61,6 +61,9 @@ module _ (p : Problem) (σ : Sound p) where
 
   pub fork-most : (path : List Branch) → Forking (look p) path → look p path ≡ fork → length path < path-limit p
   fork-most path f e = omega (arith, fork-bound (look p) (search-laws p σ) path f e, root-weight p σ)
+
+  pub path-270 : (path : List Branch) → Forking (look p) path → length path ≤ 270
+  path-270 path f = omega (arith, path-most path f, limit-270 p (σ .limited))
 
   -- "The number of these steps is finite; it is the sheet's step count", and there is no other
   pub counted : Count (look p) opening (step-count p)
@@ -131,6 +134,9 @@ module _ (p : Problem) where
   -- i steps and then j are i + j steps
   pub steps-compose : (i j : ℕ) (κ : Checkpoint) → steps (look p) (i + j) κ ≡ steps (look p) j (steps (look p) i κ)
   steps-compose = steps-add (look p)
+
+  pub steps-add-up : (i j : ℕ) (κ : Checkpoint) → taken (look p) (i + j) κ ≡ taken (look p) i κ + taken (look p) j (steps (look p) i κ)
+  steps-add-up = taken-add (look p)
 
   -- what the search comes to from a checkpoint that follows its problem follows it too; the opening does
   pub reached-follows : (i : ℕ) (κ : Checkpoint) → Follows (look p) κ → Follows (look p) (steps (look p) i κ)
