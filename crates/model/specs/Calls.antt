@@ -73,6 +73,7 @@ module _ {E P : Type 0} (look : List Branch → Outlook) (plan : List Branch →
   RightReply s (some budget) (refused e) = ⊥
   RightReply s (some budget) (answered a m) = ((a ≡ budget-spent) ↔ (s < count)) × (count ≤ s → a ≡ answer plan (steps look count opening))
 
+  -- the replies to a list of calls, after budgets that add up to s
   abbrev pub RightReplies : {C : Type 0} → (C → Option ℕ) → ℕ → List C → List (Reply E P) → Type 0
   RightReplies budget s [] [] = Unit {0}
   RightReplies budget s [] (r ∷ rs) = ⊥
@@ -103,6 +104,7 @@ pub record Claim {C X E P : Type 0} (look : List Branch → Outlook) (plan : Lis
 abbrev pub Refuses : {C X E P : Type 0} → E → X → (C → X → X × Reply E P) → Type 0
 Refuses {C = C} e x exec = (c : C) → exec c x ≡ (x, refused e)
 
+-- each call refused so
 abbrev pub refusals : {C E P : Type 0} → E → List C → List (Reply E P)
 refusals e [] = []
 refusals e (c ∷ cs) = refused e ∷ refusals e cs

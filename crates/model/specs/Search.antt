@@ -42,11 +42,13 @@ steps look (suc i) (packed-at path) = packed-at path
 abbrev pub opening : Checkpoint
 opening = open-at []
 
+-- the checkpoint is open
 abbrev pub Open : Checkpoint → Type 0
 Open (open-at path) = Unit {0}
 Open infeasible = ⊥
 Open (packed-at path) = ⊥
 
+-- "finished": none or placed
 abbrev pub Finished : Checkpoint → Type 0
 Finished (open-at path) = ⊥
 Finished infeasible = Unit {0}
