@@ -35,11 +35,14 @@ compare-self (suc u) = compare·suc-suc u u ∙ compare-self u
 compare-ne : (u v : ℕ) → u ≢ v → compare u v ≢ Ordering·eq
 compare-ne u v h e = h (eqb-true u v (ap isEq e))
 
-compare-lt : (u v : ℕ) → u < v → compare u v ≡ Ordering·lt
+pub compare-lt : (u v : ℕ) → u < v → compare u v ≡ Ordering·lt
 compare-lt zero zero h = absurd (omega arith)
 compare-lt zero (suc v) h = compare·zero-suc v
 compare-lt (suc u) zero h = absurd (omega arith)
 compare-lt (suc u) (suc v) h = compare·suc-suc u v ∙ compare-lt u v (omega arith)
+
+pub compare-gt : (u v : ℕ) → u < v → compare v u ≡ Ordering·gt
+compare-gt u v h = compare-opposite u v ∙ ap opposite (compare-lt u v h)
 
 -- One domain without a relation: the relation is gone and the others stay
 overlap-without-before : (o q : Ordering) (m : ℕ) → has-overlap o (without-before q m) ≡ has-overlap o m
@@ -215,6 +218,9 @@ before-distinct k a u v e q = false≢true (sym e ∙ (ap (may-before k a u) (sy
 
 pub overlap-distinct : (k : Domains) (a u v : ℕ) → may-overlap k a u v ≡ false → u ≢ v
 overlap-distinct k a u v e q = false≢true (sym e ∙ (ap (may-overlap k a u) (sym q) ∙ may-overlap-self k a u))
+
+pub fixed-distinct : (k : Domains) (a u v : ℕ) → fixed-before k a u v ≡ true → u ≢ v
+fixed-distinct k a u v e = overlap-distinct k a u v (fixed-before-says k a u v e .0)
 
 -- The accessors at a pair in its order, and the other way round
 module _ (k : Domains) (a : ℕ) {u v : ℕ} (h : u < v) where

@@ -52,6 +52,12 @@ choice-axis-is k u v a h e f =
     })
     ∙ axis-at a h
 
+pub choice-is : (k : Domains) (j a : ℕ) → First (unseparated-pair k) no-pair pairs j → a < 3 → undecided k a (pair-of j .u) (pair-of j .v) ≡ true
+    → ((b : ℕ) → b < a → undecided k b (pair-of j .u) (pair-of j .v) ≡ false) → choice k ≡ record { axis = a; u = pair-of j .u; v = pair-of j .v }
+unfolding choice
+choice-is k j a h ha e f =
+    rw (choice-pair-is k j h, choice-axis-is k (pair-of j .u) (pair-of j .v) a ha e f) refl
+
 -- At most one relation is left, and no "before" is fixed: overlap is
 lone-overlap : (o f b : Bool) → (o && (f || b) || f && b) ≡ false → (o ≡ false → b ≡ false → ⊥) → (o ≡ false → f ≡ false → ⊥) → (f ≡ false) × (b ≡ false)
 lone-overlap true true b e x y = absurd (false≢true (sym e))

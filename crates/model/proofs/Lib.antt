@@ -20,3 +20,4 @@ pub mod Weight
 pub mod Path
 pub mod Asks
 pub mod Obeys
+pub mod Written

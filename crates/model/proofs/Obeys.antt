@@ -18,10 +18,9 @@ use Rattle.model.specs.Order.{Proper, AtRest}
 use Rattle.model.specs.Obeys.{Three, Obeys}
 use Rattle.model.proofs.Below.{and-both, or-case, all-at, some-at, clash}
 use Rattle.model.proofs.Slots.{proper-sym}
-use Rattle.model.proofs.Domains.{may-overlap-sym, fixed-overlap-sym, fixed-before-says, fixed-overlap-says, before-distinct, overlap-distinct}
+use Rattle.model.proofs.Domains.{may-overlap-sym, fixed-overlap-sym, fixed-before-says, fixed-overlap-says, before-distinct, overlap-distinct, fixed-distinct}
 use Rattle.model.proofs.Ends.{joined-mono}
 use Rattle.model.proofs.Chain.{greatest-ending-greatest, greatest-ending-attained, greatest-starting-greatest, greatest-starting-attained}
-use Rattle.model.proofs.Consistent.{fixed-distinct}
 use Rattle.model.proofs.Asks.{ask-c3, ask-d2-overlap, ask-d2-before, ask-d1-left, ask-d1-right, ask-g1, ask-c2}
 
 pub rest-obeys : (p : Problem) (k : Domains) → AtRest p k → Obeys p k
