@@ -3,6 +3,7 @@ pub mod Feasible
 pub mod Slots
 pub mod Order
 pub mod Domains
+pub mod Written
 pub mod Ends
 pub mod Monotone
 pub mod Pass
@@ -20,4 +21,3 @@ pub mod Weight
 pub mod Path
 pub mod Asks
 pub mod Obeys
-pub mod Written
