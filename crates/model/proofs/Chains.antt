@@ -1,12 +1,12 @@
 -- The greatest chains ending and starting in an item: the laws of proofs/Longest for both.
 use mathlib.Core.Bool.{Bool, true}
-use mathlib.Core.List.{List, [], _∷_}
+use mathlib.Core.List.{[], _∷_}
 use mathlib.Core.Path.{_≡_}
 use Prim.Native.Nat.{ℕ, suc, _≤_, _<_}
 use native.Mathlib.Nat.{le-refl}
 use Rattle.model.specs.Problem.{Problem}
 use Rattle.model.specs.Domains.{Domains, fixed-before}
-use Rattle.model.specs.Rules.{joined, longest, ending, starting, greatest-ending, greatest-starting}
+use Rattle.model.specs.Rules.{joined, ending, starting, greatest-ending, greatest-starting}
 use Rattle.model.proofs.Below.{Implies}
 use Rattle.model.proofs.Ends.{joined-mono}
 use Rattle.model.proofs.Longest.{longest-mono, greatest-within, greatest-rounds, greatest-size, greatest-bound, greatest-step}

@@ -1,19 +1,19 @@
 -- What it says that domains are inconsistent or not; where they are not, and rule 2 has been applied, "before" is a strict order.
-use mathlib.Core.Bool.{Bool, true, false, not, _&&_, _||_, false≢true}
+use mathlib.Core.Bool.{Bool, true, false, not, _||_, false≢true}
 use mathlib.Core.Logic.{_⊎_, inl, inr, _≢_}
 use mathlib.Core.Path.{_≡_, refl, sym, _∙_, ap, subst}
 use Prim.Native.Nat.{ℕ, _≤_, _<_}
 use native.Mathlib.Omega.{arith}
 use lib.Dec.{ltb}
 use borrow.Author.Tests.{ltb-true, ltb-false, lt-ltb}
-use Rattle.model.specs.Below.{some-below, all-below}
+use Rattle.model.specs.Below.{some-below}
 use Rattle.model.specs.Problem.{Problem}
 use Rattle.model.specs.Domains.{Domains, may-overlap, may-before, fixed-before}
 use Rattle.model.specs.Branching.{empty, inconsistent}
 use Rattle.model.specs.Order.{Proper, Rising}
-use Rattle.model.specs.Obeys.{Three, Composes}
+use Rattle.model.specs.Obeys.{Composes}
 use Rattle.model.proofs.Below.{and-intro, or-case, or-left, or-right, or-neither, some-at, some-of, none-at, clash}
-use Rattle.model.proofs.Slots.{lt-or-gt, proper-sym}
+use Rattle.model.proofs.Slots.{lt-or-gt}
 use Rattle.model.proofs.Domains.{may-overlap-sym, fixed-before-says, fixed-before-of, fixed-distinct}
 
 module _ (p : Problem) (k : Domains) (consistent : inconsistent p k ≡ false) where

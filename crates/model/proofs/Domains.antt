@@ -1,6 +1,6 @@
 -- The accessors: what they read after a removal, of the same relation and of another; domains that read alike are equal.
-use mathlib.Core.Bool.{Bool, true, false, not, _&&_, and-comm, false≢true}
-use mathlib.Core.List.{List, [], _∷_}
+use mathlib.Core.Bool.{Bool, true, false, not, and-comm, false≢true}
+use mathlib.Core.List.{[], _∷_}
 use mathlib.Core.Logic.{_⊎_, inl, inr, _≢_}
 use mathlib.Core.Path.{_≡_, refl, sym, _∙_, ap, subst}
 use Prim.Native.Nat.{ℕ, zero, suc, _<_, min, max, compare, Ordering, Ordering·lt, Ordering·eq, Ordering·gt, compare·zero-suc, compare·suc-zero, compare·suc-suc}
@@ -10,11 +10,11 @@ use lib.Dec.{eqb, isEq}
 use lib.ListN.{getD, length, set}
 use lib.Seq.{getD-set-same, getD-set-other}
 use borrow.Author.Tests.{eqb-true, eqb-false, not-true}
-use Rattle.model.specs.Domains.{Domains, domain, overlap-bit, before-bit, after-bit, index, index-of, has-overlap, has-before, without-overlap, without-before, may-overlap, may-before, remove-overlap, remove-before, fixed-before, fixed-overlap, fix-before, fix-overlap}
+use Rattle.model.specs.Domains.{Domains, overlap-bit, before-bit, after-bit, index, index-of, has-overlap, has-before, without-overlap, without-before, may-overlap, may-before, remove-overlap, remove-before, fixed-before, fixed-overlap}
 use Rattle.model.specs.Order.{Proper, Rising, WellFormed, Subdomain, _⊑_}
 use Rattle.model.proofs.Below.{Implies, and-intro, and-both, clash}
 use Rattle.model.proofs.Order.{overlap-bit-of, before-bit-of, after-bit-of, sub-zero, below-eq}
-use Rattle.model.proofs.Slots.{lt-or-gt, proper-sym, proper-up, index-sym, index-up, index-of-same, index-of-small, slot-of, slot-indexed}
+use Rattle.model.proofs.Slots.{proper-sym, proper-up, index-sym, index-up, index-of-same, index-of-small, slot-indexed}
 
 -- How two items compare, and the other way round
 abbrev opposite : Ordering → Ordering

@@ -8,7 +8,6 @@ use native.Mathlib.Nat.{le-refl, le-trans, eq-or-lt-of-le, le-of-suc-le-suc}
 use native.Mathlib.Omega.{arith}
 use lib.Dec.{eqb}
 use borrow.Author.Tests.{eq-eqb, ne-eqb, not-true}
-use Rattle.model.specs.Below.{most-below}
 use Rattle.model.specs.Problem.{Problem}
 use Rattle.model.specs.Rules.{listed, longest}
 use Rattle.model.proofs.Below.{Implies, and-intro, and-both, and-mono, or-neither, most-at, most-le, most-mono}

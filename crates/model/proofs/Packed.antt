@@ -1,20 +1,19 @@
 -- Packed and consistent at rest, with the precedences fixed: starts by greatest chains are feasible.
-use mathlib.Core.Bool.{Bool, true, false, not, _&&_, _||_}
-use mathlib.Core.List.{List, List·Memᴰ}
-use mathlib.Core.Logic.{_⊎_, inl, inr, _≢_}
-use mathlib.Core.Path.{_≡_, refl, sym, _∙_}
-use Prim.Native.Nat.{ℕ, _+_, _-_, _≤_, _<_}
+use mathlib.Core.Bool.{Bool, true, false, _||_}
+use mathlib.Core.List.{List·Memᴰ}
+use mathlib.Core.Logic.{_⊎_, inl, inr}
+use mathlib.Core.Path.{_≡_, refl}
+use Prim.Native.Nat.{ℕ, _+_, _≤_, _<_}
 use native.Mathlib.Nat.{le-refl, le-trans}
 use native.Mathlib.Omega.{arith}
 use lib.Dec.{ltb}
 use borrow.Author.Tests.{ltb-false}
 use Rattle.model.specs.Below.{all-below}
 use Rattle.model.specs.Problem.{Problem, Precedence, EndsBefore, Feasible, time}
-use Rattle.model.specs.Domains.{Domains, may-before, fixed-before}
+use Rattle.model.specs.Domains.{Domains, fixed-before}
 use Rattle.model.specs.Rules.{joined, greatest-ending, greatest-starting, rule2, rule3, rule4, rule5, asks-before}
 use Rattle.model.specs.Branching.{inconsistent, separated, packed, starts}
-use Rattle.model.specs.Order.{Proper, AtRest}
-use Rattle.model.specs.Obeys.{Obeys}
+use Rattle.model.specs.Order.{AtRest}
 use Rattle.model.specs.Admits.{Sound}
 use Rattle.model.proofs.Below.{or-case, or-right, all-at, some-at}
 use Rattle.model.proofs.Slots.{lt-or-gt}

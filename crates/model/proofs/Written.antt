@@ -1,10 +1,10 @@
 -- Removals as one number written: what each leaves of the domain of a pair u < v.
-use mathlib.Core.Bool.{Bool, true, false}
+use mathlib.Core.Bool.{false}
 use mathlib.Core.Path.{_≡_, refl, _∙_, ap}
-use Prim.Native.Nat.{ℕ, _<_, compare, Ordering, Ordering·lt, Ordering·gt}
+use Prim.Native.Nat.{ℕ, _<_}
 use lib.ListN.{getD, length, set}
 use lib.Seq.{getD-set-same, set-set}
-use Rattle.model.specs.Domains.{Domains, domain, overlap-bit, before-bit, after-bit, index, index-of, without-overlap, without-before, remove-overlap, remove-before, fix-before, fix-overlap}
+use Rattle.model.specs.Domains.{Domains, domain, overlap-bit, before-bit, after-bit, index, remove-overlap, remove-before, fix-before, fix-overlap}
 use Rattle.model.specs.Order.{Rising}
 use Rattle.model.proofs.Order.{overlap-bit-of, before-bit-of, after-bit-of}
 use Rattle.model.proofs.Slots.{index-sym, index-up, index-small}

@@ -1,6 +1,6 @@
 -- The rules as document 01 words them, forward from what is fixed to what is removed. proofs/Obeys shows that domains obey them
 -- exactly where no rule, seen from the relation that it removes, asks for a relation that is left.
-use mathlib.Core.Bool.{Bool, true, false}
+use mathlib.Core.Bool.{true, false}
 use mathlib.Core.List.{List, _∷_}
 use mathlib.Core.Logic.{_≢_}
 use mathlib.Core.Path.{_≡_}
