@@ -1,5 +1,5 @@
 -- `greatest-ending` and `greatest-starting` are the greatest totals of chains as document 01 has them: rows of distinct items, each fixed before the next.
-use mathlib.Core.Bool.{Bool, true, false, not, _&&_, _||_, false≢true}
+use mathlib.Core.Bool.{Bool, true, false, not, _&&_}
 use mathlib.Core.List.{List, [], _∷_}
 use mathlib.Core.Path.{_≡_, refl, sym, _∙_, ap}
 use Prim.Native.Nat.{ℕ, zero, suc, _+_, _≤_, _<_, max}
@@ -14,8 +14,8 @@ use Rattle.model.specs.Problem.{Problem}
 use Rattle.model.specs.Domains.{Domains, fixed-before}
 use Rattle.model.specs.Rules.{listed, joined, longest, ending, starting, greatest-ending, greatest-starting}
 use Rattle.model.specs.Chain.{Chain, alone, link, total-from, Starting, starting-total, Ending, ending-total, measures}
-use Rattle.model.proofs.Below.{and-both, or-right, or-left, or-neither, most-some, clash}
-use Rattle.model.proofs.Longest.{neither-or, guard-is, free, free-cons, free-le, most, greatest, most-alone, most-size, most-ge}
+use Rattle.model.proofs.Below.{and-both, or-left, or-neither, most-some, clash}
+use Rattle.model.proofs.Longest.{neither-or, guard-is, free, free-cons, free-le, most-alone, most-size, most-ge}
 use Rattle.model.proofs.Chains.{back-on, front-on, back-mono, front-mono}
 
 -- no item of l is in the list

@@ -1,15 +1,15 @@
 -- The greatest chains ending and starting in an item: the laws of proofs/Longest for both.
 use mathlib.Core.Bool.{Bool, true}
-use mathlib.Core.List.{List, [], _∷_}
+use mathlib.Core.List.{[], _∷_}
 use mathlib.Core.Path.{_≡_}
-use Prim.Native.Nat.{ℕ, _≤_, _<_}
+use Prim.Native.Nat.{ℕ, suc, _≤_, _<_}
 use native.Mathlib.Nat.{le-refl}
 use Rattle.model.specs.Problem.{Problem}
 use Rattle.model.specs.Domains.{Domains, fixed-before}
-use Rattle.model.specs.Rules.{joined, longest, ending, starting, greatest-ending, greatest-starting}
+use Rattle.model.specs.Rules.{joined, ending, starting, greatest-ending, greatest-starting}
 use Rattle.model.proofs.Below.{Implies}
 use Rattle.model.proofs.Ends.{joined-mono}
-use Rattle.model.proofs.Longest.{longest-mono, greatest-within, greatest-size, greatest-bound, greatest-step}
+use Rattle.model.proofs.Longest.{longest-mono, greatest-within, greatest-rounds, greatest-size, greatest-bound, greatest-step}
 
 module _ (p : Problem) (a : ℕ) where
   abbrev pub back-on : ℕ → ℕ → ℕ → ℕ
@@ -60,6 +60,18 @@ module _ (p : Problem) (k : Domains) (a : ℕ) where
         → (u : ℕ) → u < p .items → greatest-starting p k a u ≤ c u
     unfolding greatest-starting starting
     greatest-starting-within step u hu = greatest-within p a front (front-on p a) (front-mono p a) c alone step u hu
+
+  -- so do rounds of a table, as many as there are items
+  module _ (t : ℕ → ℕ → ℕ) (alone : (f u : ℕ) → u < p .items → p .size a u ≤ t f u) where
+    pub greatest-ending-rounds : ((f u v : ℕ) → u < p .items → v < p .items → fixed-before k a u v ≡ true → joined p a u v (t f u) (p .size a v) ≤ t (suc f) v)
+        → (u : ℕ) → u < p .items → greatest-ending p k a u ≤ t (p .items) u
+    unfolding greatest-ending ending
+    greatest-ending-rounds step = greatest-rounds p a back (back-on p a) (back-mono p a) t alone (λ f u v hu hv b. step f v u hv hu b)
+
+    pub greatest-starting-rounds : ((f u v : ℕ) → u < p .items → v < p .items → fixed-before k a u v ≡ true → joined p a u v (p .size a u) (t f v) ≤ t (suc f) u)
+        → (u : ℕ) → u < p .items → greatest-starting p k a u ≤ t (p .items) u
+    unfolding greatest-starting starting
+    greatest-starting-rounds step = greatest-rounds p a front (front-on p a) (front-mono p a) t alone step
 
   -- what bounds an item, and each greatest chain beside it with the item, bounds its greatest chain
   pub greatest-ending-bound : (v c : ℕ) → v < p .items → p .size a v ≤ c

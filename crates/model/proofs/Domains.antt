@@ -1,6 +1,6 @@
 -- The accessors: what they read after a removal, of the same relation and of another; domains that read alike are equal.
-use mathlib.Core.Bool.{Bool, true, false, not, _&&_, and-comm, false≢true}
-use mathlib.Core.List.{List, [], _∷_}
+use mathlib.Core.Bool.{Bool, true, false, not, and-comm, false≢true}
+use mathlib.Core.List.{[], _∷_}
 use mathlib.Core.Logic.{_⊎_, inl, inr, _≢_}
 use mathlib.Core.Path.{_≡_, refl, sym, _∙_, ap, subst}
 use Prim.Native.Nat.{ℕ, zero, suc, _<_, min, max, compare, Ordering, Ordering·lt, Ordering·eq, Ordering·gt, compare·zero-suc, compare·suc-zero, compare·suc-suc}
@@ -10,11 +10,11 @@ use lib.Dec.{eqb, isEq}
 use lib.ListN.{getD, length, set}
 use lib.Seq.{getD-set-same, getD-set-other}
 use borrow.Author.Tests.{eqb-true, eqb-false, not-true}
-use Rattle.model.specs.Domains.{Domains, domain, overlap-bit, before-bit, after-bit, index, index-of, has-overlap, has-before, without-overlap, without-before, may-overlap, may-before, remove-overlap, remove-before, fixed-before, fixed-overlap, fix-before, fix-overlap}
+use Rattle.model.specs.Domains.{Domains, overlap-bit, before-bit, after-bit, index, index-of, has-overlap, has-before, without-overlap, without-before, may-overlap, may-before, remove-overlap, remove-before, fixed-before, fixed-overlap}
 use Rattle.model.specs.Order.{Proper, Rising, WellFormed, Subdomain, _⊑_}
 use Rattle.model.proofs.Below.{Implies, and-intro, and-both, clash}
 use Rattle.model.proofs.Order.{overlap-bit-of, before-bit-of, after-bit-of, sub-zero, below-eq}
-use Rattle.model.proofs.Slots.{lt-or-gt, proper-sym, proper-up, index-sym, index-up, index-of-same, index-of-small, slot-of, slot-indexed}
+use Rattle.model.proofs.Slots.{proper-sym, proper-up, index-sym, index-up, index-of-same, index-of-small, slot-indexed}
 
 -- How two items compare, and the other way round
 abbrev opposite : Ordering → Ordering
@@ -35,11 +35,14 @@ compare-self (suc u) = compare·suc-suc u u ∙ compare-self u
 compare-ne : (u v : ℕ) → u ≢ v → compare u v ≢ Ordering·eq
 compare-ne u v h e = h (eqb-true u v (ap isEq e))
 
-compare-lt : (u v : ℕ) → u < v → compare u v ≡ Ordering·lt
+pub compare-lt : (u v : ℕ) → u < v → compare u v ≡ Ordering·lt
 compare-lt zero zero h = absurd (omega arith)
 compare-lt zero (suc v) h = compare·zero-suc v
 compare-lt (suc u) zero h = absurd (omega arith)
 compare-lt (suc u) (suc v) h = compare·suc-suc u v ∙ compare-lt u v (omega arith)
+
+pub compare-gt : (u v : ℕ) → u < v → compare v u ≡ Ordering·gt
+compare-gt u v h = compare-opposite u v ∙ ap opposite (compare-lt u v h)
 
 -- One domain without a relation: the relation is gone and the others stay
 overlap-without-before : (o q : Ordering) (m : ℕ) → has-overlap o (without-before q m) ≡ has-overlap o m
@@ -215,6 +218,9 @@ before-distinct k a u v e q = false≢true (sym e ∙ (ap (may-before k a u) (sy
 
 pub overlap-distinct : (k : Domains) (a u v : ℕ) → may-overlap k a u v ≡ false → u ≢ v
 overlap-distinct k a u v e q = false≢true (sym e ∙ (ap (may-overlap k a u) (sym q) ∙ may-overlap-self k a u))
+
+pub fixed-distinct : (k : Domains) (a u v : ℕ) → fixed-before k a u v ≡ true → u ≢ v
+fixed-distinct k a u v e = overlap-distinct k a u v (fixed-before-says k a u v e .0)
 
 -- The accessors at a pair in its order, and the other way round
 module _ (k : Domains) (a : ℕ) {u v : ℕ} (h : u < v) where

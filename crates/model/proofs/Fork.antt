@@ -6,15 +6,14 @@ use mathlib.Core.Path.{_≡_, refl, sym, _∙_, ap}
 use Prim.Native.Nat.{ℕ, zero, suc, _≤_, _<_}
 use native.Mathlib.Omega.{arith}
 use lib.Dec.{eqb}
-use lib.ListN.{getD, length}
+use lib.ListN.{getD}
 use borrow.Author.Tests.{not-true}
-use Rattle.model.specs.Below.{some-below, all-below, first-in}
+use Rattle.model.specs.Below.{some-below, all-below}
 use Rattle.model.specs.Problem.{Problem, Positions, EndsBefore}
-use Rattle.model.specs.Domains.{Domains, Pair, pairs, pair-number, may-overlap, may-before, fixed-before, fixed-overlap, remove-overlap, remove-before, fix-overlap}
+use Rattle.model.specs.Domains.{Domains, Pair, pairs, pair-number, may-overlap, may-before, fixed-before, fixed-overlap}
 use Rattle.model.specs.Rules.{rule1, rule2, asks-overlap}
-use Rattle.model.specs.Propagate.{Slot}
 use Rattle.model.specs.Branching.{inconsistent, separated, packed, undecided, choice-pair, choice-axis, choice, Branch, first, second, branch-at, branched}
-use Rattle.model.specs.Order.{Proper, Rising, WellFormed, _⊑_, AtRest, Fork}
+use Rattle.model.specs.Order.{Proper, WellFormed, _⊑_, AtRest, Fork}
 use Rattle.model.specs.Admits.{Sound, Overlaps, Admits}
 use Rattle.model.proofs.Below.{all-not, all-of, some-at, none-at, or-left, or-right, or-neither, First, first-is, first-exists, clash}
 use Rattle.model.proofs.Slots.{no-pair, pair-of, pairs-count, pair-number-small, pair-at-number, pairs-rise, pairs-sorted, proper-sym, proper-up}
@@ -51,6 +50,12 @@ choice-axis-is k u v a h e f =
       earlier = λ m l. ap (λ (x : ℕ). undecided k x u v) (axis-at m (omega arith)) ∙ f m l;
     })
     ∙ axis-at a h
+
+pub choice-is : (k : Domains) (j a : ℕ) → First (unseparated-pair k) no-pair pairs j → a < 3 → undecided k a (pair-of j .u) (pair-of j .v) ≡ true
+    → ((b : ℕ) → b < a → undecided k b (pair-of j .u) (pair-of j .v) ≡ false) → choice k ≡ record { axis = a; u = pair-of j .u; v = pair-of j .v }
+unfolding choice
+choice-is k j a h ha e f =
+    rw (choice-pair-is k j h, choice-axis-is k (pair-of j .u) (pair-of j .v) a ha e f) refl
 
 -- At most one relation is left, and no "before" is fixed: overlap is
 lone-overlap : (o f b : Bool) → (o && (f || b) || f && b) ≡ false → (o ≡ false → b ≡ false → ⊥) → (o ≡ false → f ≡ false → ⊥) → (f ≡ false) × (b ≡ false)

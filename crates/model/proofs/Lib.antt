@@ -5,6 +5,7 @@ pub mod Feasible
 pub mod Slots
 pub mod Order
 pub mod Domains
+pub mod Written
 pub mod Ends
 pub mod Monotone
 pub mod Pass

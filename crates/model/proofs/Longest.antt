@@ -8,7 +8,6 @@ use native.Mathlib.Nat.{le-refl, le-trans, eq-or-lt-of-le, le-of-suc-le-suc}
 use native.Mathlib.Omega.{arith}
 use lib.Dec.{eqb}
 use borrow.Author.Tests.{eq-eqb, ne-eqb, not-true}
-use Rattle.model.specs.Below.{most-below}
 use Rattle.model.specs.Problem.{Problem}
 use Rattle.model.specs.Rules.{listed, longest}
 use Rattle.model.proofs.Below.{Implies, and-intro, and-both, and-mono, or-neither, most-at, most-le, most-mono}
@@ -132,6 +131,16 @@ module _ (p : Problem) (a : ℕ) (linked : ℕ → ℕ → Bool) (on : ℕ → �
 
     pub greatest-within : (u : ℕ) → u < p .items → greatest u ≤ c u
     greatest-within u h = within (p .items) (u ∷ []) u h
+
+  -- so do rounds of a table, each of which keeps what the last one says
+  pub greatest-rounds : (t : ℕ → ℕ → ℕ) → ((f u : ℕ) → u < p .items → p .size a u ≤ t f u)
+      → ((f u v : ℕ) → u < p .items → v < p .items → linked u v ≡ true → on u v (t f v) ≤ t (suc f) u)
+      → (u : ℕ) → u < p .items → greatest u ≤ t (p .items) u
+  greatest-rounds t fits step u hu = go (p .items) (u ∷ []) u hu
+    where
+      go : (f : ℕ) (had : List ℕ) (u : ℕ) → u < p .items → most f had u ≤ t f u
+      go zero had u h = rw most-alone (fits zero u h)
+      go (suc f) had u h = below f had u (t (suc f) u) (fits (suc f) u h) (λ i l b w. le-trans (mono u i _ _ (go f (i ∷ had) i l)) (step f u i h l b))
 
   pub greatest-size : (u : ℕ) → p .size a u ≤ greatest u
   greatest-size u = most-size (p .items) (u ∷ []) u

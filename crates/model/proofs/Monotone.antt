@@ -1,13 +1,10 @@
 -- The fewer relations are left, the more is fixed and the more the rules ask for.
-use mathlib.Core.Bool.{Bool, true, false, not, _&&_, _||_}
-use mathlib.Core.List.{List, [], _∷_}
-use mathlib.Core.Path.{_≡_}
+use mathlib.Core.Bool.{Bool}
 use Prim.Native.Nat.{ℕ, _≤_, compare, Ordering, Ordering·lt, Ordering·eq, Ordering·gt}
 use lib.Dec.{eqb}
-use Rattle.model.specs.Below.{some-below, all-below}
 use Rattle.model.specs.Problem.{Problem}
 use Rattle.model.specs.Domains.{Domains, index-of, has-overlap, has-before, may-overlap, may-before, fixed-before, fixed-overlap}
-use Rattle.model.specs.Rules.{joined, greatest-ending, greatest-starting, rule1, rule2, rule3, rule4, rule5, asks-overlap, asks-before}
+use Rattle.model.specs.Rules.{greatest-ending, greatest-starting, rule1, rule2, rule3, rule4, rule5, asks-overlap, asks-before}
 use Rattle.model.specs.Order.{Subdomain, _⊑_}
 use Rattle.model.proofs.Below.{Implies, and-mono, or-mono, not-mono, some-mono, all-mono, ltb-mono}
 use Rattle.model.proofs.Ends.{joined-mono}

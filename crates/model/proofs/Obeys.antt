@@ -1,27 +1,24 @@
 -- Domains obey the rules as document 01 words them exactly where they are at rest.
-use mathlib.Core.Bool.{Bool, true, false, not, _&&_, _||_}
-use mathlib.Core.List.{List, _∷_}
+use mathlib.Core.Bool.{true, false, not, _&&_, _||_}
 use mathlib.Core.Logic.{_⊎_, inl, inr, _≢_, _↔_}
-use mathlib.Core.Path.{_≡_, refl, sym, _∙_, ap}
-use Prim.Native.Nat.{ℕ, zero, suc, _≤_, _<_}
+use mathlib.Core.Path.{_≡_, _∙_, ap}
+use Prim.Native.Nat.{ℕ, zero, suc, _<_}
 use native.Mathlib.Nat.{le-trans}
 use native.Mathlib.Decide.{ℕ-discrete}
 use native.Mathlib.Omega.{arith}
-use lib.Dec.{ltb, eqb}
+use lib.Dec.{eqb}
 use borrow.Author.Tests.{ltb-true, eqb-true, not-true}
-use Rattle.model.specs.Below.{some-below, all-below}
+use Rattle.model.specs.Below.{some-below}
 use Rattle.model.specs.Problem.{Problem}
 use Rattle.model.specs.Domains.{Domains, may-overlap, may-before, fixed-before, fixed-overlap}
-use Rattle.model.specs.Rules.{joined, greatest-ending, greatest-starting, rule1, rule2, rule3, rule4, rule5, asks-overlap, asks-before}
-use Rattle.model.specs.Chain.{Ending, ending-total, Starting, starting-total}
+use Rattle.model.specs.Rules.{rule1, rule2, rule3, rule4, rule5, asks-overlap, asks-before}
 use Rattle.model.specs.Order.{Proper, AtRest}
-use Rattle.model.specs.Obeys.{Three, Obeys}
-use Rattle.model.proofs.Below.{and-both, or-case, all-at, some-at, clash}
+use Rattle.model.specs.Obeys.{Obeys}
+use Rattle.model.proofs.Below.{and-both, or-case, all-at, some-at}
 use Rattle.model.proofs.Slots.{proper-sym}
-use Rattle.model.proofs.Domains.{may-overlap-sym, fixed-overlap-sym, fixed-before-says, fixed-overlap-says, before-distinct, overlap-distinct}
+use Rattle.model.proofs.Domains.{may-overlap-sym, fixed-overlap-sym, fixed-overlap-says, before-distinct, overlap-distinct, fixed-distinct}
 use Rattle.model.proofs.Ends.{joined-mono}
 use Rattle.model.proofs.Chain.{greatest-ending-greatest, greatest-ending-attained, greatest-starting-greatest, greatest-starting-attained}
-use Rattle.model.proofs.Consistent.{fixed-distinct}
 use Rattle.model.proofs.Asks.{ask-c3, ask-d2-overlap, ask-d2-before, ask-d1-left, ask-d1-right, ask-g1, ask-c2}
 
 pub rest-obeys : (p : Problem) (k : Domains) → AtRest p k → Obeys p k
@@ -36,14 +33,14 @@ rest-obeys p k rest = record {
   g1 = λ a q r s t x y z qr rs st tq e. (
     rest .no-before a r t z (ask-g1 p k a q r s t (x .uv .item-u) (x .vw .item-v) qr rs st tq e),
     rest .no-before a t r (proper-sym z)
-        (ask-g1 p k a q t s r (x .uv .item-u) (x .vw .item-v) (turn a t q tq) (turn a s t st) (turn a r s rs) (turn a q r qr) e),
+        (ask-g1 p k a q t s r (x .uv .item-u) (x .vw .item-v) (other-way a t q tq) (other-way a s t st) (other-way a r s rs) (other-way a q r qr) e),
   );
   c2 = λ a u v c d s x y h. rest .no-before a u v s
       (ask-c2 p k a u v (le-trans h (joined-mono p a u v (greatest-ending-greatest p k a u c x) (greatest-starting-greatest p k a v d y))));
 }
   where
-    turn : (a x y : ℕ) → fixed-overlap k a x y ≡ true → fixed-overlap k a y x ≡ true
-    turn a x y e = fixed-overlap-sym k a x y ∙ e
+    other-way : (a x y : ℕ) → fixed-overlap k a x y ≡ true → fixed-overlap k a y x ≡ true
+    other-way a x y e = fixed-overlap-sym k a x y ∙ e
 
     other : (a b c u v : ℕ) → a < 3 → b < 3 → c < 3 → a ≢ b → a ≢ c → b ≢ c → fixed-overlap k a u v ≡ true → fixed-overlap k b u v ≡ true
         → (x : ℕ) → x < 3 → x ≢ c → Dec (x ≡ a) → fixed-overlap k x u v ≡ true

@@ -1,25 +1,27 @@
 -- Packed and consistent at rest, with the precedences fixed: starts by greatest chains are feasible.
-use mathlib.Core.Bool.{Bool, true, false, not, _&&_, _||_}
-use mathlib.Core.List.{List, List·Memᴰ}
-use mathlib.Core.Logic.{_⊎_, inl, inr, _≢_}
-use mathlib.Core.Path.{_≡_, refl, sym, _∙_}
-use Prim.Native.Nat.{ℕ, _+_, _-_, _≤_, _<_}
+use mathlib.Core.Bool.{Bool, true, false, _||_}
+use mathlib.Core.List.{List·Memᴰ}
+use mathlib.Core.Logic.{_⊎_, inl, inr}
+use mathlib.Core.Path.{_≡_, refl}
+use Prim.Native.Nat.{ℕ, _+_, _≤_, _<_}
 use native.Mathlib.Nat.{le-refl, le-trans}
 use native.Mathlib.Omega.{arith}
 use lib.Dec.{ltb}
 use borrow.Author.Tests.{ltb-false}
 use Rattle.model.specs.Below.{all-below}
 use Rattle.model.specs.Problem.{Problem, Precedence, EndsBefore, Feasible, time}
-use Rattle.model.specs.Domains.{Domains, may-before, fixed-before}
+use Rattle.model.specs.Domains.{Domains, fixed-before}
 use Rattle.model.specs.Rules.{joined, greatest-ending, greatest-starting, rule2, rule3, rule4, rule5, asks-before}
 use Rattle.model.specs.Branching.{inconsistent, separated, packed, starts}
-use Rattle.model.specs.Order.{Proper, AtRest}
+use Rattle.model.specs.Order.{AtRest}
 use Rattle.model.specs.Admits.{Sound}
 use Rattle.model.proofs.Below.{or-case, or-right, all-at, some-at}
 use Rattle.model.proofs.Slots.{lt-or-gt}
+use Rattle.model.proofs.Domains.{fixed-distinct}
 use Rattle.model.proofs.Ends.{joined-mono, joined-ends}
 use Rattle.model.proofs.Chains.{greatest-ending-size, greatest-starting-size, greatest-ending-bound, greatest-ending-step}
-use Rattle.model.proofs.Consistent.{size-fits, fixed-distinct, before-irreflexive, before-left, before-transitive}
+use Rattle.model.proofs.Obeys.{rest-obeys}
+use Rattle.model.proofs.Consistent.{size-fits, before-irreflexive, before-left, before-transitive}
 
 module _ (p : Problem) (k : Domains) (rest : AtRest p k) (consistent : inconsistent p k ≡ false) where
   -- no chain is longer than the container: rule 5 at rest
@@ -34,7 +36,7 @@ module _ (p : Problem) (k : Domains) (rest : AtRest p k) (consistent : inconsist
 
       go : (u : ℕ) → u < p .items → fixed-before k a u v ≡ true → (t : Bool) → ltb (p .capacity a) (whole u) ≡ t → whole u ≤ p .capacity a
       go u hu b true q =
-          absurd (before-left p k rest consistent a ha u v hu hv b
+          absurd (before-left p k consistent a ha u v hu hv b
           (rest .no-before a u v (record { axis = ha; item-u = hu; item-v = hv; distinct = fixed-distinct k a u v b })
           (or-right (rule2 p k a v u) (or-right (rule3 p k a u v) (or-right (rule4 p k a u v) q)))))
       go u hu b false q = ltb-false (p .capacity a) (whole u) q
@@ -45,7 +47,7 @@ module _ (p : Problem) (k : Domains) (rest : AtRest p k) (consistent : inconsist
   starts-before a u v ha hu hv b =
       joined-ends p (starts p k) a u v (greatest-ending p k a u) (greatest-ending p k a v)
       (omega (arith, greatest-ending-size p k a u)) (omega (arith, greatest-ending-size p k a v))
-      (greatest-ending-step p k a (before-transitive p k rest consistent a ha) (before-irreflexive p k rest consistent a ha) u v hu hv b)
+      (greatest-ending-step p k a (before-transitive p k consistent a ha (rest-obeys p k rest .d2)) (before-irreflexive p k consistent a ha) u v hu hv b)
 
   pub starts-inside : (a u : ℕ) → a < 3 → u < p .items → starts p k a u + p .size a u ≤ p .capacity a
   unfolding starts

@@ -12,11 +12,11 @@ use lib.Seq.{ext-getD}
 use borrow.Author.Tests.{eqb-true, eqb-false, eq-eqb, ltb-true, lt-ltb}
 use Rattle.model.specs.Below.{all-below}
 use Rattle.model.specs.Problem.{Problem}
-use Rattle.model.specs.Domains.{Domains, domain, overlap-bit, before-bit, after-bit, index, may-overlap, may-before, fixed-overlap}
+use Rattle.model.specs.Domains.{Domains, domain, overlap-bit, before-bit, after-bit, index, may-overlap, may-before}
 use Rattle.model.specs.Rules.{rule1, rule2, asks-overlap, asks-before}
 use Rattle.model.specs.Propagate.{Slot, slots, kept-if, kept, at-slots, pass, same, sum}
 use Rattle.model.specs.Order.{Proper, Rising, WellFormed, Subdomain, _⊑_, AtRest}
-use Rattle.model.proofs.Below.{Implies, and-first, and-mono, not-mono}
+use Rattle.model.proofs.Below.{and-first, and-mono, not-mono}
 use Rattle.model.proofs.Order.{overlap-bit-of, before-bit-of, after-bit-of, domain-bits, domain-le, sub-refl, sub-zero, sub-trans, sub-of, sub-mono}
 use Rattle.model.proofs.Slots.{lt-or-gt, no-slot, slot-at, slot-of, slot-indexed, slots-count, index-small}
 use Rattle.model.proofs.Domains.{may-overlap-sym, fixed-overlap-sym, before-up, before-down, overlap-up}

@@ -1,15 +1,14 @@
 -- The domains of a path: all that the search uses of them.
-use mathlib.Core.Bool.{Bool, true, false}
+use mathlib.Core.Bool.{true, false}
 use mathlib.Core.List.{List, [], _∷_, List·Memᴰ, List·Memᴰ·head, List·Memᴰ·tail, List·Memᴰ·not-nil, List·Memᴰ·cases-cons}
 use mathlib.Core.Logic.{_⊎_, inl, inr}
-use mathlib.Core.Path.{_≡_, refl, sym, _∙_}
-use Prim.Native.Nat.{ℕ, _*_, _-_, _≤_, _<_}
-use native.Mathlib.Nat.{le-trans}
+use mathlib.Core.Path.{_≡_, refl, _∙_}
+use Prim.Native.Nat.{ℕ, _≤_, _<_}
 use native.Mathlib.Omega.{arith}
 use Rattle.model.specs.Problem.{Problem, Precedence, Positions, Feasible, time}
-use Rattle.model.specs.Domains.{Domains, may-overlap, may-before, fixed-before, remove-overlap, remove-before, fix-before, full-domains}
+use Rattle.model.specs.Domains.{Domains, fixed-before, remove-overlap, remove-before, fix-before, full-domains}
 use Rattle.model.specs.Propagate.{propagate}
-use Rattle.model.specs.Branching.{fix-precedences, opening-domains, inconsistent, packed, choice, Branch, first, second, branched, path-domains, starts, plan}
+use Rattle.model.specs.Branching.{fix-precedences, opening-domains, inconsistent, packed, choice, Branch, first, second, branched, path-domains, plan}
 use Rattle.model.specs.Order.{Proper, WellFormed, _⊑_, AtRest, Fork}
 use Rattle.model.specs.Admits.{Sound, Admits}
 use Rattle.model.specs.Weight.{weight}
@@ -23,7 +22,7 @@ use Rattle.model.proofs.Sound.{propagate-admits, admitted-consistent}
 use Rattle.model.proofs.Admits.{full-well-formed, opening-well-formed, opening-admits}
 use Rattle.model.proofs.Fork.{choice-fork, branched-less, branched-well-formed, fork-split}
 use Rattle.model.proofs.Packed.{packed-feasible}
-use Rattle.model.proofs.Weight.{weight-mono, weight-branch, weight-bound}
+use Rattle.model.proofs.Weight.{weight-mono, weight-branch}
 
 -- Precedences are fixed in the opening domains
 fix-before-fixed : (k : Domains) (u v : ℕ) → WellFormed k → Proper 10 time u v → fixed-before (fix-before k time u v) time u v ≡ true

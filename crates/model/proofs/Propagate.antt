@@ -1,14 +1,13 @@
 -- What propagation leaves: of all domains below k at which no rule asks for anything, the greatest. So the order of removals does not matter.
-use mathlib.Core.Bool.{Bool, true, false, not, _&&_, _||_}
+use mathlib.Core.Bool.{Bool, true, false}
 use mathlib.Core.Logic.{_⊎_, inl, inr}
-use mathlib.Core.Path.{_≡_, refl, sym, _∙_, ap, subst}
+use mathlib.Core.Path.{_≡_, refl, sym, _∙_, subst}
 use Prim.Native.Nat.{ℕ, zero, suc, _≤_, _<_}
 use native.Mathlib.Nat.{le-refl}
 use native.Mathlib.Omega.{arith}
 use lib.Dec.{ltb}
-use Rattle.model.specs.Below.{some-below}
 use Rattle.model.specs.Problem.{Problem}
-use Rattle.model.specs.Domains.{Domains, may-overlap, may-before}
+use Rattle.model.specs.Domains.{Domains}
 use Rattle.model.specs.Propagate.{pass, same, sum, passes, propagate}
 use Rattle.model.specs.Branching.{empty, inconsistent}
 use Rattle.model.specs.Order.{WellFormed, _⊑_, Between, AtRest}

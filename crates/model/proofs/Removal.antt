@@ -1,15 +1,15 @@
 -- Removing one relation at a time: whoever removes only what some rule asks for stays between k and its propagation.
 -- With proofs/Propagate: such removals, in any order, that stop at rest end in `propagate p k`, and may stop early at an inconsistency.
 use mathlib.Core.Bool.{Bool, true, false, false≢true}
-use mathlib.Core.List.{List, [], _∷_}
-use mathlib.Core.Path.{_≡_, refl, sym, _∙_}
+use mathlib.Core.List.{[], _∷_}
+use mathlib.Core.Path.{_≡_, sym, _∙_}
 use Prim.Native.Nat.{ℕ, zero, suc, _≤_, _<_, compare, Ordering, Ordering·lt, Ordering·eq, Ordering·gt}
-use lib.ListN.{getD, length, set, length-set}
+use lib.ListN.{getD, set, length-set}
 use Rattle.model.specs.Problem.{Problem}
 use Rattle.model.specs.Domains.{Domains, index-of, has-overlap, has-before, without-overlap, without-before, may-overlap, may-before, remove-overlap, remove-before, fix-before, fix-overlap}
 use Rattle.model.specs.Rules.{asks-overlap, asks-before}
 use Rattle.model.specs.Propagate.{propagate}
-use Rattle.model.specs.Order.{Proper, WellFormed, Subdomain, _⊑_, Between, AtRest}
+use Rattle.model.specs.Order.{Proper, WellFormed, Subdomain, _⊑_, Between}
 use Rattle.model.proofs.Below.{Implies, stays, clash}
 use Rattle.model.proofs.Order.{domain-small, sub-refl, sub-of, of-sub, below-trans}
 use Rattle.model.proofs.Domains.{below-of}

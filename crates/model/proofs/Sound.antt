@@ -1,24 +1,23 @@
 -- The rules are sound: no rule asks for a relation that an admitted feasible packing realises. So propagation admits what it admitted,
 -- the opening domains admit every feasible packing, and inconsistent domains admit none.
 use mathlib.Core.Bool.{Bool, true, false, not, _&&_, _||_}
-use mathlib.Core.List.{List, [], _∷_, List·Memᴰ, List·Memᴰ·head, List·Memᴰ·tail}
-use mathlib.Core.Logic.{_⊎_, inl, inr, _≢_}
-use mathlib.Core.Path.{_≡_, refl, sym, _∙_, ap, subst}
+use mathlib.Core.Logic.{_⊎_, inl, inr}
+use mathlib.Core.Path.{_≡_, refl, _∙_, subst}
 use Prim.Native.Nat.{ℕ, _+_, _-_, _≤_, _<_}
 use native.Mathlib.Nat.{le-refl}
 use native.Mathlib.Omega.{arith}
 use lib.Dec.{ltb, eqb}
-use borrow.Author.Tests.{eqb-true, ltb-true, ltb-false, not-true}
-use Rattle.model.specs.Below.{some-below, all-below}
-use Rattle.model.specs.Problem.{Problem, Precedence, Positions, EndsBefore, Feasible, time}
-use Rattle.model.specs.Domains.{Domains, may-overlap, may-before, fixed-before, fixed-overlap, remove-overlap, remove-before, fix-before, fix-overlap, full-domains}
-use Rattle.model.specs.Rules.{joined, greatest-ending, greatest-starting, rule1, rule2, rule3, rule4, rule5, asks-overlap, asks-before}
+use borrow.Author.Tests.{eqb-true, ltb-true, not-true}
+use Rattle.model.specs.Below.{some-below}
+use Rattle.model.specs.Problem.{Problem, Positions, EndsBefore, Feasible}
+use Rattle.model.specs.Domains.{Domains, may-overlap, may-before, fixed-before, fixed-overlap}
+use Rattle.model.specs.Rules.{greatest-ending, greatest-starting, rule1, rule2, rule3, rule4, rule5, asks-overlap, asks-before}
 use Rattle.model.specs.Propagate.{pass, propagate}
-use Rattle.model.specs.Branching.{empty, inconsistent, fix-precedences, opening-domains}
-use Rattle.model.specs.Order.{Proper, Rising, WellFormed}
+use Rattle.model.specs.Branching.{empty, inconsistent}
+use Rattle.model.specs.Order.{Proper, WellFormed}
 use Rattle.model.specs.Admits.{Sound, Overlaps, Admits}
-use Rattle.model.proofs.Below.{and-intro, and-both, or-case, all-at, some-at, stays, clash}
-use Rattle.model.proofs.Slots.{proper-sym, proper-up}
+use Rattle.model.proofs.Below.{and-intro, and-both, or-case, all-at, some-at, clash}
+use Rattle.model.proofs.Slots.{proper-sym}
 use Rattle.model.proofs.Domains.{fixed-before-says, fixed-overlap-says, before-distinct, overlap-distinct}
 use Rattle.model.proofs.Ends.{ends?, ends-trans, ends-asym, ends-cross, joined-room, joined-from}
 use Rattle.model.proofs.Chains.{greatest-ending-within, greatest-starting-within}

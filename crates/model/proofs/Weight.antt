@@ -1,13 +1,12 @@
 -- The weight never grows where relations are removed, falls with each branch of a fork, and is at most 3 × n × (n − 1).
-use mathlib.Core.Bool.{Bool, true, false, not, cond, _&&_, _||_, false≢true}
+use mathlib.Core.Bool.{Bool, true, false, cond, _&&_, _||_, false≢true}
 use mathlib.Core.Logic.{_⊎_, inl, inr}
-use mathlib.Core.Path.{_≡_, refl, sym, _∙_, ap, subst}
+use mathlib.Core.Path.{_≡_, refl, subst}
 use Prim.Native.Nat.{ℕ, zero, suc, pred, _+_, _*_, _-_, _≤_, _<_}
 use native.Mathlib.Nat.{eq-or-lt-of-le, le-of-suc-le-suc}
 use native.Mathlib.Omega.{arith}
 use Rattle.model.specs.Problem.{Problem}
 use Rattle.model.specs.Domains.{Domains, may-overlap, may-before, remove-overlap, remove-before, fix-overlap}
-use Rattle.model.specs.Propagate.{Slot}
 use Rattle.model.specs.Branching.{undecided, choice, Branch, first, second, branch-at, branched}
 use Rattle.model.specs.Order.{Proper, Rising, WellFormed, _⊑_, Fork}
 use Rattle.model.specs.Weight.{sum-below, sum-slots, relations, weight}

@@ -1,6 +1,6 @@
 -- The packings that domains admit: the terms in which soundness is stated.
-use mathlib.Core.Bool.{Bool, true}
-use mathlib.Core.List.{List, List·Memᴰ}
+use mathlib.Core.Bool.{true}
+use mathlib.Core.List.{List·Memᴰ}
 use mathlib.Core.Path.{_≡_}
 use Prim.Native.Nat.{ℕ, _≤_, _<_}
 use Rattle.model.specs.Problem.{Problem, Precedence, Positions, EndsBefore, time}

@@ -1,6 +1,6 @@
 -- The rules as document 01 words them, forward from what is fixed to what is removed. proofs/Obeys shows that domains obey them
 -- exactly where no rule, seen from the relation that it removes, asks for a relation that is left.
-use mathlib.Core.Bool.{Bool, true, false}
+use mathlib.Core.Bool.{true, false}
 use mathlib.Core.List.{List, _∷_}
 use mathlib.Core.Logic.{_≢_}
 use mathlib.Core.Path.{_≡_}
@@ -17,13 +17,17 @@ pub record Three (p : Problem) (a u v w : ℕ) : Type 0 where
   pub vw : Proper (p .items) a v w
   pub uw : Proper (p .items) a u w
 
+-- "2. u before v and v before w known: strike all but u before w (D2)."
+abbrev pub Composes : Problem → Domains → Type 0
+Composes p k = (a u v w : ℕ) → Three p a u v w → fixed-before k a u v ≡ true → fixed-before k a v w ≡ true
+    → (may-overlap k a u w ≡ false) × (may-before k a w u ≡ false)
+
 pub record Obeys (p : Problem) (k : Domains) : Type 0 where
   -- "1. Overlap known on two axes of a pair: strike it on the third (C3)."
   pub c3 : (a b c u v : ℕ) → Proper (p .items) c u v → a < 3 → b < 3 → a ≢ b → a ≢ c → b ≢ c
       → fixed-overlap k a u v ≡ true → fixed-overlap k b u v ≡ true → may-overlap k c u v ≡ false
-  -- "2. u before v and v before w known: strike all but u before w (D2)."
-  pub d2 : (a u v w : ℕ) → Three p a u v w → fixed-before k a u v ≡ true → fixed-before k a v w ≡ true
-      → (may-overlap k a u w ≡ false) × (may-before k a w u ≡ false)
+  -- 2
+  pub d2 : Composes p k
   -- "3. u before v known and 'u before w' struck: strike 'v before w'."
   pub d1-left : (a u v w : ℕ) → Three p a u v w → fixed-before k a u v ≡ true → may-before k a u w ≡ false → may-before k a v w ≡ false
   -- "v before w known and 'u before w' struck: strike 'u before v' (D1 is a case of these)."
