@@ -1,3 +1,4 @@
 pub mod Valid
 pub mod Values
 pub mod Meaning
+pub mod Decode

@@ -2,9 +2,13 @@
 ghost use mathlib.Core.Path.{_≡_};
 ghost use Rattle.instance.specs.Valid.{valid};
 ghost use Rattle.instance.specs.Values.{opening-checkpoint, origin-packing};
+ghost use Rattle.instance.specs.Decode.{decode, read-result};
 use records::Item;
 use records::Precedence;
 use records::Size;
+use refusal::Refusal;
+
+pub mod read;
 
 // A sheet. Entries past the counts are no part of it.
 pub struct Instance {
@@ -42,6 +46,17 @@ pub struct Checkpoint {
     pub branches: [u8; 270],
 }
 
+pub enum ReadAnswer {
+    Read,
+    Refused(Refusal),
+}
+
+// What reading gives. Where it is refused the instance is an empty one.
+pub struct ReadResult {
+    pub answer: ReadAnswer,
+    pub instance: Instance,
+}
+
 impl Instance {
     pub const MAX_ITEMS: usize = 10;
 
@@ -59,6 +74,13 @@ impl Instance {
             length: 0,
             branches,
         }
+    }
+
+    // Reads a sheet.
+    pub fn read(bytes: &[u8]) -> ReadResult
+        ensures { λ r. ⌜ r ≡ read-result (decode (now (bytes .entry))) ⌝ }
+    {
+        read::read_sheet(bytes)
     }
 
     // Whether the value is an instance: none of number 9's conditions holds.
