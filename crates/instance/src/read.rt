@@ -3,6 +3,7 @@ ghost use mathlib.Core.Path.{_≡_};
 ghost use Prim.Native.Nat.{_+_, _≤_, _<_};
 ghost use lib.ListN.{length, take, replicate};
 ghost use Rattle.records.specs.Answers.{row-read, row-within, blank-after};
+ghost use Rattle.records.specs.Reading.{refused};
 ghost use Rattle.records.specs.Sizes.{no-item, no-precedence};
 ghost use Rattle.instance.specs.Valid.{items-of, precedences-of};
 ghost use Rattle.instance.specs.Decode.{item-list, precedence-list, from-yard, from-precedences, from-items, decode, read-result, empty-instance, Draft};
@@ -56,9 +57,8 @@ pub fn empty() -> Instance
     }
 }
 
-fn refused(e: Refusal) -> ReadResult
-    ensures { λ r. ⌜ r .answer ≡ ReadAnswer.Refused e ⌝ }
-    ensures { λ r. ⌜ r .instance ≡ empty-instance ⌝ }
+fn refuse(e: Refusal) -> ReadResult
+    ensures { λ r. ⌜ r ≡ read-result (refused e) ⌝ }
 {
     let instance = empty();
     ReadResult {
@@ -155,10 +155,10 @@ fn read_from_yard(rest: &[u8], at: usize, map: u8, draft: Instance) -> ReadResul
     ensures { λ r. ⌜ r ≡ read-result (from-yard map (draft .container) (items-of draft) (precedences-of draft) at (now (rest .entry))) ⌝ }
 {
     match records::read::read_field(rest, at, records::read::bit_stands(map, 32), 0) {
-        FieldRead::Refused(e) => refused(e),
+        FieldRead::Refused(e) => refuse(e),
         FieldRead::Value(yard, used) => {
             if used < rest.len() {
-                return refused(Refusal::TrailingBytes(at + used));
+                return refuse(Refusal::TrailingBytes(at + used));
             }
             let mut instance = draft;
             instance.yard_number = yard;
@@ -179,7 +179,7 @@ fn read_from_precedences(rest: &[u8], at: usize, map: u8, draft: Instance) -> Re
     let list = read_precedence_list(rest, at, n, records::read::bit_stands(map, 16));
     let stop = list.stop;
     match stop {
-        Stop::Refused(e) => refused(e),
+        Stop::Refused(e) => refuse(e),
         Stop::After(used) => {
             let precedences = list.precedences;
             let mut next = draft;
@@ -198,7 +198,7 @@ fn read_from_items(rest: &[u8], at: usize, map: u8, container: Size) -> ReadResu
     let list = read_item_list(rest, at, records::read::bit_stands(map, 8));
     let stop = list.stop;
     match stop {
-        Stop::Refused(e) => refused(e),
+        Stop::Refused(e) => refuse(e),
         Stop::After(used) => {
             let items = list.items;
             let mut draft = empty();
@@ -215,14 +215,14 @@ pub fn read_sheet(bytes: &[u8]) -> ReadResult
     ensures { λ r. ⌜ r ≡ read-result (decode (now (bytes .entry))) ⌝ }
 {
     if bytes.len() < 1 {
-        return refused(Refusal::EndsEarly(0));
+        return refuse(Refusal::EndsEarly(0));
     }
     let map = bytes[0];
     if 63 < map {
-        return refused(Refusal::UnknownBit(0));
+        return refuse(Refusal::UnknownBit(0));
     }
     match records::read::read_size(&bytes[1..], 1, map) {
-        SizeRead::Refused(e) => refused(e),
+        SizeRead::Refused(e) => refuse(e),
         SizeRead::Value(container, used) => {
             let at = 1 + used;
             read_from_items(&bytes[at..], at, map, container)
