@@ -2,3 +2,4 @@ pub mod Valid
 pub mod Values
 pub mod Meaning
 pub mod Decode
+pub mod Encode
