@@ -1,0 +1,4 @@
+pub mod LastAxis
+pub mod Loops
+pub mod Named
+pub mod Differences
