@@ -141,16 +141,16 @@ module _ (items : List Item) (positions : List Position) (a : ℕ) where
 unfoldable pub parted-on : Size → Position → Size → Position → ℕ → Bool
 parted-on z s z₂ s₂ a = leb (start a s + measure a z) (start a s₂) || leb (start a s₂ + measure a z₂) (start a s)
 
-module _ {z : Size} {s : Position} {z₂ : Size} {s₂ : Position} {a : ℕ} {t t₂ : Bool} where
-  pub parted-left : t ≡ leb (start a s + measure a z) (start a s₂) → t ≡ true → parted-on z s z₂ s₂ a ≡ true
+module _ (z : Size) (s : Position) (z₂ : Size) (s₂ : Position) (a : ℕ) where
+  pub parted-left : {t : Bool} → t ≡ leb (start a s + measure a z) (start a s₂) → t ≡ true → parted-on z s z₂ s₂ a ≡ true
   unfolding parted-on
-  parted-left e h = or-left _ (sym e ∙ h)
+  parted-left e h = or-left (leb (start a s₂ + measure a z₂) (start a s)) (sym e ∙ h)
 
-  pub parted-right : t₂ ≡ leb (start a s₂ + measure a z₂) (start a s) → t₂ ≡ true → parted-on z s z₂ s₂ a ≡ true
+  pub parted-right : {t₂ : Bool} → t₂ ≡ leb (start a s₂ + measure a z₂) (start a s) → t₂ ≡ true → parted-on z s z₂ s₂ a ≡ true
   unfolding parted-on
-  parted-right e h = or-right _ (sym e ∙ h)
+  parted-right e h = or-right (leb (start a s + measure a z) (start a s₂)) (sym e ∙ h)
 
-  pub not-parted : t ≡ leb (start a s + measure a z) (start a s₂) → t₂ ≡ leb (start a s₂ + measure a z₂) (start a s) → t ≡ false → t₂ ≡ false → parted-on z s z₂ s₂ a ≡ false
+  pub not-parted : {t t₂ : Bool} → t ≡ leb (start a s + measure a z) (start a s₂) → t₂ ≡ leb (start a s₂ + measure a z₂) (start a s) → t ≡ false → t₂ ≡ false → parted-on z s z₂ s₂ a ≡ false
   unfolding parted-on
   not-parted e e₂ h h₂ = rw (← e, ← e₂, h) h₂
 

@@ -65,7 +65,7 @@ ends-before-requires c κs = search needs
 
 -- src/feasible.rt:67:13
 returns : tie.Need-returns Inv-loop μ-loop
-returns c = sym (parted-by _ _ _ _ ∙ some-of 3 (parted-on _ _ _ _) (c .before .before .before .loop .axis) (c .before .before .loop-test .taken) (parted-left (c .before .ends-before .ensures) (c .if1 .taken)))
+returns c = sym (parted-by _ _ _ _ ∙ some-of 3 (parted-on _ _ _ _) (c .before .before .before .loop .axis) (c .before .before .loop-test .taken) (parted-left _ _ _ _ _ (c .before .ends-before .ensures) (c .if1 .taken)))
 
 -- src/feasible.rt:69:12
 ends-before-requires-2 : tie.Need-ends-before-requires-2 Inv-loop μ-loop
@@ -73,7 +73,7 @@ ends-before-requires-2 c κs = search needs
 
 -- src/feasible.rt:70:13
 returns-2 : tie.Need-returns-2 Inv-loop μ-loop
-returns-2 c = sym (parted-by _ _ _ _ ∙ some-of 3 (parted-on _ _ _ _) (c .before .before .before .before .before .loop .axis) (c .before .before .before .before .loop-test .taken) (parted-right (c .before .ends-before2 .ensures) (c .if2 .taken)))
+returns-2 c = sym (parted-by _ _ _ _ ∙ some-of 3 (parted-on _ _ _ _) (c .before .before .before .before .before .loop .axis) (c .before .before .before .before .loop-test .taken) (parted-right _ _ _ _ _ (c .before .ends-before2 .ensures) (c .if2 .taken)))
 
 -- src/feasible.rt:72:16
 add-axis : tie.Need-add-axis Inv-loop μ-loop
@@ -85,7 +85,7 @@ loop-less c = search needs
 
 -- src/feasible.rt:65:5
 loop-again : tie.Need-loop-again Inv-loop μ-loop
-loop-again c = (search needs, some-more _ (parted-on _ _ _ _) (c .before .before .before .before .before .loop .inv .1) (not-parted (c .before .before .before .ends-before .ensures) (c .before .ends-before2 .ensures) (c .before .before .if1 .left) (c .if2 .left)))
+loop-again c = (search needs, some-more (c .before .before .before .before .before .loop .axis) _ (c .before .before .before .before .before .loop .inv .1) (not-parted _ _ _ _ _ (c .before .before .before .ends-before .ensures) (c .before .ends-before2 .ensures) (c .before .before .if1 .left) (c .if2 .left)))
 
 -- src/feasible.rt:52:1
 returns-3 : tie.Need-returns-3 Inv-loop μ-loop

@@ -2,8 +2,8 @@ use Rattle.model.specs.Problem.{time}
 use borrow.Author.Tests.{not-true, not-false}
 use Rattle.records.specs.Sizes.{no-precedence}
 use Rattle.records.proofs.Tests.{part-next, part-done}
-use Rattle.packing.proofs.Loops.{all-kept, all-kept-next, all-kept-done, ordered-by, kept, end-at}
-use Rattle.packing.proofs.Named.{Named, limits}
+use Rattle.packing.proofs.Loops.{all-kept, all-kept-next, all-kept-done, kept, kept-is, ordered-by}
+use Rattle.packing.proofs.Named.{Named, Limits, limits}
 use borrow.Author.Needs.{needs}
 use native.Mathlib.Omega.{arith}
 use Prim.Native.Nat.{ℕ, _+_, _-_, _≤_, _<_}
@@ -31,7 +31,8 @@ abbrev μ-loop : tie.MeasureT-loop
 loop-holds : tie.Need-loop-holds Inv-loop μ-loop
 loop-holds c = 
     let l = limits (c .before .before .before .args .instance) (c .before .before .before .pre) in
-    let room : c .before .before .before .args .instance .«precedence_count» ≤ length (c .before .before .before .args .instance .precedences) = ?room in
+    let h : length (c .before .before .before .args .instance .precedences) ≡ 90 = {! c .before .before .before .good !} in
+    let room : c .before .before .before .args .instance .«precedence_count» ≤ length (c .before .before .before .args .instance .precedences) = omega (arith, l .few-precedences) in
     (
       omega arith,
       l .few-precedences,
@@ -87,7 +88,11 @@ ends-before-requires c κs = search needs
 
 -- src/feasible.rt:127:13
 returns : tie.Need-returns Inv-loop μ-loop
-returns c = ?
+returns c = 
+    let l = c .before .before .before .before .before .before .before .before .before .before .loop in
+    let a = c .before .before .before .before .before .before .before .before .before .before .before .before .before .before .args in
+    let h : length (a .instance .precedences) ≡ 90 = {! c .before .before .precedences .given !} in
+    sym (rw (ordered-by (a .instance) (a .packing), ← (l .inv .3), part-next (a .instance .«precedence_count») (l .i) (a .instance .precedences) (omega arith) no-precedence (omega arith), all-kept-next, kept-is _ _ _ _ _ (c .before .ends-before .ensures), not-true (c .before .ends-before .result) (c .if1 .taken)) refl)
 
 -- src/feasible.rt:129:13
 add-i : tie.Need-add-i Inv-loop μ-loop
@@ -99,11 +104,24 @@ loop-less c = search needs
 
 -- src/feasible.rt:118:5
 loop-again : tie.Need-loop-again Inv-loop μ-loop
-loop-again c = ?
+loop-again c = 
+    let l = c .before .before .before .before .before .before .before .before .before .before .loop in
+    let a = c .before .before .before .before .before .before .before .before .before .before .before .before .before .before .args in
+    let h : length (a .instance .precedences) ≡ 90 = {! c .before .before .precedences .given !} in
+    (
+      omega arith,
+      l .inv .1,
+      l .inv .2,
+      sym (rw (← (l .inv .3), part-next (a .instance .«precedence_count») (l .i) (a .instance .precedences) (omega arith) no-precedence (omega arith), all-kept-next, kept-is _ _ _ _ _ (c .before .ends-before .ensures), not-false (c .before .ends-before .result) (c .if1 .left)) refl),
+    )
 
 -- src/feasible.rt:109:1
 returns-2 : tie.Need-returns-2 Inv-loop μ-loop
-returns-2 c = ?
+returns-2 c = 
+    let l = c .before .loop in
+    let a = c .before .before .before .before .before .args in
+    let h : length (a .instance .precedences) ≡ 90 = {! c .before .before .precedences .given !} in
+    sym (rw (ordered-by (a .instance) (a .packing), ← (l .inv .3), part-done (a .instance .«precedence_count») (l .i) (a .instance .precedences) (omega arith) (omega arith), all-kept-done) refl)
 
 pub ordered-spec : {M : Type 1} → statement M
 ordered-spec =
