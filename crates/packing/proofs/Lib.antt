@@ -2,4 +2,5 @@ pub mod LastAxis
 pub mod Loops
 pub mod Named
 pub mod Decides
+pub mod Gaps
 pub mod Differences

@@ -23,7 +23,7 @@ use Rattle.instance.specs.declared.Position.{Position}
 use Rattle.instance.specs.Values.{origin}
 use Rattle.instance.specs.Valid.{precedences-of}
 use Rattle.instance.specs.Meaning.{precedence-of, measure, start, problem-of, positions-of}
-use Rattle.packing.specs.Parts.{within, inside-on, apart-from-lower}
+use Rattle.packing.specs.Parts.{within, inside-on, apart-from-lower, kept, all-kept}
 
 -- two tests of which each passes where the other does
 pub same-test : (a b : Bool) → (a ≡ true → b ≡ true) → (b ≡ true → a ≡ true) → a ≡ b
@@ -118,22 +118,16 @@ module _ (items : List Item) (positions : List Position) (a : ℕ) where
     unfolding within-limit end-at
     within-limit-false h = rw (← e) (lt-leb end limit h)
 
-  unfoldable pub kept : Precedence → Bool
-  kept o = leb (end-at (o .predecessor)) (start a (getD positions (o .successor) origin))
-
-  pub kept-is : (o : Precedence) (t : Bool) → t ≡ leb (start a (getD positions (o .predecessor) origin) + measure a (getD items (o .predecessor) no-item .size)) (start a (getD positions (o .successor) origin)) → kept o ≡ t
-  unfolding kept end-at
+module _ (items : List Item) (positions : List Position) where
+  pub kept-is : (o : Precedence) (t : Bool) → t ≡ leb (start time (getD positions (o .predecessor) origin) + measure time (getD items (o .predecessor) no-item .size)) (start time (getD positions (o .successor) origin)) → kept items positions o ≡ t
+  unfolding kept
   kept-is o t e = sym e
 
-  unfoldable pub all-kept : List Precedence → Bool
-  all-kept [] = true
-  all-kept (o ∷ os) = kept o && all-kept os
-
-  pub all-kept-next : (o : Precedence) (os : List Precedence) → all-kept (o ∷ os) ≡ (kept o && all-kept os)
+  pub all-kept-next : (o : Precedence) (os : List Precedence) → all-kept items positions (o ∷ os) ≡ (kept items positions o && all-kept items positions os)
   unfolding all-kept
   all-kept-next o os = refl
 
-  pub all-kept-done : all-kept [] ≡ true
+  pub all-kept-done : all-kept items positions [] ≡ true
   unfolding all-kept
   all-kept-done = refl
 
@@ -163,8 +157,8 @@ module _ (i : Instance) (q : Packing) where
   unfolding apart-on-some-axis ends-before parted-on problem-of positions-of
   parted-by u v = refl
 
-  pub ordered-by : ordered-test (problem-of i) (positions-of q) ≡ all-kept (i .items) (q .positions) time (precedences-of i)
-  unfolding ordered-test ends-before all-kept kept end-at problem-of positions-of
+  pub ordered-by : ordered-test (problem-of i) (positions-of q) ≡ all-kept (i .items) (q .positions) (precedences-of i)
+  unfolding ordered-test ends-before all-kept kept problem-of positions-of
   ordered-by = go (precedences-of i)
     where
       test : M.Precedence → Bool
@@ -174,6 +168,6 @@ module _ (i : Instance) (q : Packing) where
       step true c d e = e
       step false c d e = refl
 
-      go : (os : List Precedence) → all-in test (map precedence-of os) ≡ all-kept (i .items) (q .positions) time os
+      go : (os : List Precedence) → all-in test (map precedence-of os) ≡ all-kept (i .items) (q .positions) os
       go [] = refl
-      go (o ∷ os) = step (test (precedence-of o)) (all-in test (map precedence-of os)) (all-kept (i .items) (q .positions) time os) (go os)
+      go (o ∷ os) = step (test (precedence-of o)) (all-in test (map precedence-of os)) (all-kept (i .items) (q .positions) os) (go os)

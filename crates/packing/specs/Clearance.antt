@@ -1,10 +1,12 @@
 -- The clearance of two items on an axis, and what is answered (document 01, "Fit" and the refusals 9, 5, 8).
 use mathlib.Core.Bool.{Bool, true, false, cond, _&&_}
-use Prim.Native.Nat.{ℕ, _+_}
+use mathlib.Core.Logic.{_⊎_}
+use mathlib.Core.Path.{_≡_}
+use Prim.Native.Nat.{ℕ, _+_, _≤_}
 use lib.Dec.{ltb}
-use lib.IntN.{ℤ, pos, _-ℤ_}
-use lib.Signed.{ltZ}
-use Rattle.model.specs.Problem.{Problem, Positions}
+use lib.IntN.{ℤ, pos, natAbs, _+ℤ_, _-ℤ_}
+use lib.Signed.{ltZ, _≤ℤ_}
+use Rattle.model.specs.Problem.{Problem, Positions, EndsBefore}
 use Rattle.refusal.specs.declared.Refusal.{Refusal}
 use Rattle.refusal.specs.declared.Refusal.the-variants.{BadItem, BadArgument, InvalidInstance}
 use Rattle.instance.specs.declared.Instance.{Instance}
@@ -38,3 +40,22 @@ clearance-answer i q u v a =
     (refused-unless (ltb u (i .«item_count») && ltb v (i .«item_count»)) (BadItem 0)
     (refused-unless (ltb a 3) BadArgument
     (Clearance (clearance-between (problem-of i) (positions-of q) a u v))))
+
+-- "above 0 a gap, 0 touching": one item ends so many modules before the other starts
+unfoldable pub Gap : Problem → Positions → ℕ → ℕ → ℕ → ℕ → Type 0
+Gap p q a u v g = (q a u + p .size a u + g ≡ q a v) ⊎ (q a v + p .size a v + g ≡ q a u)
+
+-- v, moved on the axis by m modules, below 0 towards the origin and past it, is apart from u
+unfoldable pub PartedByMove : Problem → Positions → ℕ → ℕ → ℕ → ℤ → Type 0
+PartedByMove p q a u v m = (pos (q a u + p .size a u) ≤ℤ (pos (q a v) +ℤ m)) ⊎ (((pos (q a v) +ℤ m) +ℤ pos (p .size a v)) ≤ℤ pos (q a u))
+
+-- "the least move on that axis that parts them": some move of v by d modules does, and no move by fewer, either way
+pub record LeastMove (p : Problem) (q : Positions) (a u v d : ℕ) : Type 0 where
+  pub parts : (m : ℤ) × (natAbs m ≡ d) × PartedByMove p q a u v m
+  pub least : (m : ℤ) → PartedByMove p q a u v m → d ≤ natAbs m
+
+-- "below 0 the overlap, told as the least move on that axis that parts them, with a minus": of v, and of u
+pub record Overlap (p : Problem) (q : Positions) (a u v d : ℕ) : Type 0 where
+  pub not-apart : (EndsBefore p q a u v ⊎ EndsBefore p q a v u) → ⊥
+  pub of-second : LeastMove p q a u v d
+  pub of-first : LeastMove p q a v u d

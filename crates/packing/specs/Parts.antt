@@ -1,9 +1,17 @@
 -- Parts of the test of a packing, each the work of one loop.
-use mathlib.Core.Bool.{Bool}
-use Prim.Native.Nat.{ℕ, _+_}
+use mathlib.Core.Bool.{Bool, true, _&&_}
+use mathlib.Core.List.{List, [], _∷_}
+use Prim.Native.Nat.{ℕ, _+_, _<_}
 use lib.Dec.{leb}
+use lib.ListN.{getD}
 use Rattle.model.specs.Below.{all-below}
-use Rattle.model.specs.Problem.{Problem, Positions, apart-on-some-axis}
+use Rattle.model.specs.Problem.{Problem, Positions, apart-on-some-axis, time}
+use Rattle.records.specs.declared.Item.{Item}
+use Rattle.records.specs.declared.Precedence.{Precedence}
+use Rattle.records.specs.Sizes.{no-item, no-precedence}
+use Rattle.instance.specs.declared.Position.{Position}
+use Rattle.instance.specs.Values.{origin}
+use Rattle.instance.specs.Meaning.{measure, start}
 
 -- one item on one axis: "start plus measure is at most the hall's measure"
 unfoldable pub within : Problem → Positions → ℕ → ℕ → Bool
@@ -16,3 +24,18 @@ inside-on p q a = all-below (p .items) (within p q a)
 -- item u is apart from every item of a lower number
 unfoldable pub apart-from-lower : Problem → Positions → ℕ → Bool
 apart-from-lower p q u = all-below u (apart-on-some-axis p q u)
+
+-- the first m precedences name items below n
+pub record Named (n m : ℕ) (os : List Precedence) : Type 0 where
+  pub predecessor : (k : ℕ) → k < m → getD os k no-precedence .predecessor < n
+  pub successor : (k : ℕ) → k < m → getD os k no-precedence .successor < n
+
+-- "u's end in t is at most v's start", over the arrays of items and positions
+unfoldable pub kept : List Item → List Position → Precedence → Bool
+kept items positions o =
+    leb (start time (getD positions (o .predecessor) origin) + measure time (getD items (o .predecessor) no-item .size))
+    (start time (getD positions (o .successor) origin))
+
+unfoldable pub all-kept : List Item → List Position → List Precedence → Bool
+all-kept items positions [] = true
+all-kept items positions (o ∷ os) = kept items positions o && all-kept items positions os

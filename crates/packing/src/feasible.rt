@@ -2,13 +2,17 @@
 ghost use mathlib.Core.Bool.{true};
 ghost use mathlib.Core.Path.{_≡_};
 ghost use Prim.Native.Nat.{_≤_, _<_};
+ghost use lib.ListN.{take};
 ghost use Rattle.model.specs.Problem.{inside-test, apart-on-some-axis, apart-test, ordered-test};
 ghost use Rattle.instance.specs.Meaning.{problem-of, positions-of};
 ghost use Rattle.instance.specs.Valid.{valid};
-ghost use Rattle.packing.specs.Parts.{inside-on, apart-from-lower};
+ghost use Rattle.packing.specs.Parts.{inside-on, apart-from-lower, Named, all-kept};
 use crate::axes;
 use instance::Instance;
 use instance::Packing;
+use instance::Position;
+use records::Item;
+use records::Precedence;
 
 // On one axis every item ends within the container.
 fn inside_on_axis(instance: Instance, packing: Packing, axis: u8) -> bool
@@ -105,15 +109,11 @@ pub fn apart(instance: Instance, packing: Packing) -> bool
     true
 }
 
-// Each precedence is kept on t.
-pub fn ordered(instance: Instance, packing: Packing) -> bool
-    requires { ⌜ valid instance ≡ true ⌝ }
-    ensures { λ r. ⌜ r ≡ ordered-test (problem-of instance) (positions-of packing) ⌝ }
+// The first m precedences are kept on t.
+fn all_are_kept(items: [Item; 10], positions: [Position; 10], precedences: [Precedence; 90], m: usize) -> bool
+    requires { ⌜ (m ≤ 90) × Named 10 m precedences ⌝ }
+    ensures { λ r. ⌜ r ≡ all-kept items positions (take m precedences) ⌝ }
 {
-    let items = instance.items;
-    let positions = packing.positions;
-    let precedences = instance.precedences;
-    let m = instance.precedence_count;
     let mut i: usize = 0;
     while i < m {
         let o = precedences[i];
@@ -129,4 +129,15 @@ pub fn ordered(instance: Instance, packing: Packing) -> bool
         i = i + 1;
     }
     true
+}
+
+// Each precedence is kept on t.
+pub fn ordered(instance: Instance, packing: Packing) -> bool
+    requires { ⌜ valid instance ≡ true ⌝ }
+    ensures { λ r. ⌜ r ≡ ordered-test (problem-of instance) (positions-of packing) ⌝ }
+{
+    let items = instance.items;
+    let positions = packing.positions;
+    let precedences = instance.precedences;
+    all_are_kept(items, positions, precedences, instance.precedence_count)
 }
