@@ -110,7 +110,12 @@ pub fn apart(instance: Instance, packing: Packing) -> bool
 }
 
 // The first m precedences are kept on t.
-fn all_are_kept(items: [Item; 10], positions: [Position; 10], precedences: [Precedence; 90], m: usize) -> bool
+fn all_are_kept(
+    items: [Item; 10],
+    positions: [Position; 10],
+    precedences: [Precedence; 90],
+    m: usize,
+) -> bool
     requires { ⌜ (m ≤ 90) × Named 10 m precedences ⌝ }
     ensures { λ r. ⌜ r ≡ all-kept items positions (take m precedences) ⌝ }
 {

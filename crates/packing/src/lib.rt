@@ -44,7 +44,13 @@ pub fn check(instance: Instance, packing: Packing) -> CheckAnswer
 }
 
 // The clearance of the items u and v on an axis, exact around 0.
-pub fn clearance(instance: Instance, packing: Packing, u: usize, v: usize, axis: u8) -> ClearanceAnswer
+pub fn clearance(
+    instance: Instance,
+    packing: Packing,
+    u: usize,
+    v: usize,
+    axis: u8,
+) -> ClearanceAnswer
     ensures { λ r. ⌜ r ≡ clearance-answer instance packing u v axis ⌝ }
 {
     if !instance.is_valid() {

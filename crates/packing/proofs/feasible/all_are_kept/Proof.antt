@@ -71,7 +71,7 @@ ends-before-requires c κs = search needs
 
 -- src/feasible.rt:127:13
 returns : tie.Need-returns Inv-loop μ-loop
-returns c = 
+returns c =
     let l = c .before .before .before .before .before .before .before .before .before .before .loop in
     let a = c .before .before .before .before .before .before .before .before .before .before .before .args in
     let h : length (a .t3) ≡ 90 = search needs in
@@ -87,7 +87,7 @@ loop-less c = search needs
 
 -- src/feasible.rt:118:5
 loop-again : tie.Need-loop-again Inv-loop μ-loop
-loop-again c = 
+loop-again c =
     let l = c .before .before .before .before .before .before .before .before .before .before .loop in
     let a = c .before .before .before .before .before .before .before .before .before .before .before .args in
     let h : length (a .t3) ≡ 90 = search needs in
@@ -95,7 +95,7 @@ loop-again c =
 
 -- src/feasible.rt:113:1
 returns-2 : tie.Need-returns-2 Inv-loop μ-loop
-returns-2 c = 
+returns-2 c =
     let l = c .before .loop in
     let a = c .before .before .args in
     let h : length (a .t3) ≡ 90 = search needs in

@@ -72,12 +72,11 @@ loop-less c = search needs
 
 -- src/feasible.rt:24:5
 loop-again : tie.Need-loop-again Inv-loop μ-loop
-loop-again c = 
-    (
-      search needs,
-      all-more (c .before .before .before .before .before .before .loop .u) (within-limit (c .before .before .before .before .before .before .before .before .before .before .before .args .instance .items) (c .before .before .before .before .before .before .before .before .before .before .before .args .packing .positions) (c .before .before .before .before .before .before .before .before .before .before .before .args .axis) (c .before .before .before .before .before .before .before .measure-on .result)) (c .before .before .before .before .before .before .loop .inv .1)
+loop-again c = (
+  search needs,
+  all-more (c .before .before .before .before .before .before .loop .u) (within-limit (c .before .before .before .before .before .before .before .before .before .before .before .args .instance .items) (c .before .before .before .before .before .before .before .before .before .before .before .args .packing .positions) (c .before .before .before .before .before .before .before .before .before .before .before .args .axis) (c .before .before .before .before .before .before .before .measure-on .result)) (c .before .before .before .before .before .before .loop .inv .1)
       (within-limit-true _ _ _ _ _ _ (c .before .end-on .ensures .0) (c .if1 .left)),
-    )
+)
 
 -- src/feasible.rt:14:1
 returns-2 : tie.Need-returns-2 Inv-loop μ-loop

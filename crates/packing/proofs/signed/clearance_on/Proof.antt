@@ -77,12 +77,12 @@ greater-requires c κs = search needs
 -- src/signed.rt:25:1
 returns : tie.Need-returns
 unfolding clearance-between from-end-to-start problem-of positions-of
-returns c = 
+returns c =
     toZ-ofZ w32 _ (record { sfits = c .greater .ok })
     ∙ c .greater .ensures
     ∙ ap₂ greater-of
-      (toZ-ofZ w32 _ (record { sfits = c .before .before .before .from-end .ok }) ∙ c .before .before .before .from-end .ensures ∙ ap₂ (λ s e. pos s -ℤ pos e) (c .before .before .before .before .start-on .ensures) (c .before .before .before .before .before .before .end-on .ensures .0))
-      (toZ-ofZ w32 _ (record { sfits = c .before .from-end2 .ok }) ∙ c .before .from-end2 .ensures ∙ ap₂ (λ s e. pos s -ℤ pos e) (c .before .before .start-on2 .ensures) (c .before .before .before .before .before .end-on2 .ensures .0))
+    (toZ-ofZ w32 _ (record { sfits = c .before .before .before .from-end .ok }) ∙ c .before .before .before .from-end .ensures ∙ ap₂ (λ s e. pos s -ℤ pos e) (c .before .before .before .before .start-on .ensures) (c .before .before .before .before .before .before .end-on .ensures .0))
+    (toZ-ofZ w32 _ (record { sfits = c .before .from-end2 .ok }) ∙ c .before .from-end2 .ensures ∙ ap₂ (λ s e. pos s -ℤ pos e) (c .before .before .start-on2 .ensures) (c .before .before .before .before .before .end-on2 .ensures .0))
 
 pub clearance-on-spec : {M : Type 1} → statement M
 clearance-on-spec =

@@ -9,7 +9,7 @@ use Rattle.packing.proofs.signed.greater.Lts as lts
 -- src/signed.rt:11:1
 returns : tie.Need-returns
 unfolding greater-of
-returns c = 
+returns c =
     let a = toZ-ofZ w32 (c .before .args .a) (c .before .fits .a) in
     let b = toZ-ofZ w32 (c .before .args .b) (c .before .fits .b) in
     rw (rw (a, b) at (c .if1 .taken)) b
@@ -17,7 +17,7 @@ returns c =
 -- src/signed.rt:11:1
 returns-2 : tie.Need-returns-2
 unfolding greater-of
-returns-2 c = 
+returns-2 c =
     let a = toZ-ofZ w32 (c .before .args .a) (c .before .fits .a) in
     let b = toZ-ofZ w32 (c .before .args .b) (c .before .fits .b) in
     rw (rw (a, b) at (c .if1 .left)) a
