@@ -2,7 +2,7 @@
 use mathlib.Core.Bool.{Bool, true, false, _&&_, _||_, false≢true}
 use mathlib.Core.List.{List, [], _∷_, map}
 use mathlib.Core.Logic.{_⊎_, inl, inr}
-use mathlib.Core.Path.{_≡_, refl, sym, _∙_}
+use mathlib.Core.Path.{_≡_, refl, sym, ap₂, _∙_}
 use Prim.Native.Nat.{ℕ, _+_, _≤_, _<_}
 use native.Mathlib.Numerals.{add-one}
 use native.Mathlib.Omega.{arith}
@@ -15,7 +15,6 @@ use Rattle.model.specs.Problem as M
 use Rattle.model.proofs.Below.{all-at, all-of, all-cons, some-at, some-of, or-case, or-left, or-right}
 use Rattle.records.specs.declared.Precedence.{Precedence}
 use Rattle.records.specs.declared.Item.{Item}
-use Rattle.records.specs.declared.Size.{Size}
 use Rattle.records.specs.Sizes.{no-item}
 use Rattle.instance.specs.declared.Instance.{Instance}
 use Rattle.instance.specs.declared.Packing.{Packing}
@@ -23,7 +22,8 @@ use Rattle.instance.specs.declared.Position.{Position}
 use Rattle.instance.specs.Values.{origin}
 use Rattle.instance.specs.Valid.{precedences-of}
 use Rattle.instance.specs.Meaning.{precedence-of, measure, start, problem-of, positions-of}
-use Rattle.packing.specs.Parts.{within, inside-on, apart-from-lower, kept, all-kept}
+use Rattle.packing.specs.Parts.{within, inside-on, apart-from-lower, placed-at, end-of, kept, all-kept}
+use Rattle.packing.specs.declared.axes.Placed.{Placed}
 
 -- two tests of which each passes where the other does
 pub same-test : (a b : Bool) → (a ≡ true → b ≡ true) → (b ≡ true → a ≡ true) → a ≡ b
@@ -101,27 +101,25 @@ module _ (p : Problem) (q : Positions) where
           let l : u < v = omega (arith, ltb-false v u d, eqb-false u v s) in
           apart-turned v u (at v u lv l e)
 
--- The same tests over the arrays that the code reads: by an item's end and start, and by the container's measure.
-module _ (items : List Item) (positions : List Position) (a : ℕ) where
-  unfoldable pub end-at : ℕ → ℕ
-  end-at u = start a (getD positions u origin) + measure a (getD items u no-item .size)
-
-  unfoldable pub within-limit : ℕ → ℕ → Bool
-  within-limit limit u = leb (end-at u) limit
-
-  module _ (limit u end : ℕ) (e : end ≡ start a (getD positions u origin) + measure a (getD items u no-item .size)) where
-    pub within-limit-true : end ≤ limit → within-limit limit u ≡ true
-    unfolding within-limit end-at
-    within-limit-true h = rw (← e) (le-leb end limit h)
-
-    pub within-limit-false : limit < end → within-limit limit u ≡ false
-    unfolding within-limit end-at
-    within-limit-false h = rw (← e) (lt-leb end limit h)
-
+-- The same tests over the arrays that the code reads.
 module _ (items : List Item) (positions : List Position) where
-  pub kept-is : (o : Precedence) (t : Bool) → t ≡ leb (start time (getD positions (o .predecessor) origin) + measure time (getD items (o .predecessor) no-item .size)) (start time (getD positions (o .successor) origin)) → kept items positions o ≡ t
+  -- item u ends within a limit on the axis
+  unfoldable pub within-limit : ℕ → ℕ → ℕ → Bool
+  within-limit a limit u = leb (end-of a (placed-at items positions u)) limit
+
+  module _ (a limit u : ℕ) {end : ℕ} {i : Placed} (p : i ≡ placed-at items positions u) (e : end ≡ end-of a i) where
+    pub within-limit-true : end ≤ limit → within-limit a limit u ≡ true
+    unfolding within-limit
+    within-limit-true h = rw (← p, ← e) (le-leb end limit h)
+
+    pub within-limit-false : limit < end → within-limit a limit u ≡ false
+    unfolding within-limit
+    within-limit-false h = rw (← p, ← e) (lt-leb end limit h)
+
+  pub kept-is : (o : Precedence) {t : Bool} {i j : Placed} → i ≡ placed-at items positions (o .predecessor) → j ≡ placed-at items positions (o .successor)
+      → t ≡ leb (end-of time i) (start time (j .position)) → kept items positions o ≡ t
   unfolding kept
-  kept-is o t e = sym e
+  kept-is o p r e = sym (e ∙ ap₂ (λ x y. leb (end-of time x) (start time (y .position))) p r)
 
   pub all-kept-next : (o : Precedence) (os : List Precedence) → all-kept items positions (o ∷ os) ≡ (kept items positions o && all-kept items positions os)
   unfolding all-kept
@@ -132,33 +130,34 @@ module _ (items : List Item) (positions : List Position) where
   all-kept-done = refl
 
 -- two items are parted on an axis
-unfoldable pub parted-on : Size → Position → Size → Position → ℕ → Bool
-parted-on z s z₂ s₂ a = leb (start a s + measure a z) (start a s₂) || leb (start a s₂ + measure a z₂) (start a s)
+module _ (i j : Placed) where
+  unfoldable pub parted-on : ℕ → Bool
+  parted-on a = leb (end-of a i) (start a (j .position)) || leb (end-of a j) (start a (i .position))
 
-module _ (z : Size) (s : Position) (z₂ : Size) (s₂ : Position) (a : ℕ) where
-  pub parted-left : {t : Bool} → t ≡ leb (start a s + measure a z) (start a s₂) → t ≡ true → parted-on z s z₂ s₂ a ≡ true
-  unfolding parted-on
-  parted-left e h = or-left (leb (start a s₂ + measure a z₂) (start a s)) (sym e ∙ h)
+  module _ (a : ℕ) where
+    pub parted-left : {t : Bool} → t ≡ leb (end-of a i) (start a (j .position)) → t ≡ true → parted-on a ≡ true
+    unfolding parted-on
+    parted-left e h = or-left (leb (end-of a j) (start a (i .position))) (sym e ∙ h)
 
-  pub parted-right : {t₂ : Bool} → t₂ ≡ leb (start a s₂ + measure a z₂) (start a s) → t₂ ≡ true → parted-on z s z₂ s₂ a ≡ true
-  unfolding parted-on
-  parted-right e h = or-right (leb (start a s + measure a z) (start a s₂)) (sym e ∙ h)
+    pub parted-right : {t : Bool} → t ≡ leb (end-of a j) (start a (i .position)) → t ≡ true → parted-on a ≡ true
+    unfolding parted-on
+    parted-right e h = or-right (leb (end-of a i) (start a (j .position))) (sym e ∙ h)
 
-  pub not-parted : {t t₂ : Bool} → t ≡ leb (start a s + measure a z) (start a s₂) → t₂ ≡ leb (start a s₂ + measure a z₂) (start a s) → t ≡ false → t₂ ≡ false → parted-on z s z₂ s₂ a ≡ false
-  unfolding parted-on
-  not-parted e e₂ h h₂ = rw (← e, ← e₂, h) h₂
+    pub not-parted : {t t₂ : Bool} → t ≡ leb (end-of a i) (start a (j .position)) → t₂ ≡ leb (end-of a j) (start a (i .position)) → t ≡ false → t₂ ≡ false → parted-on a ≡ false
+    unfolding parted-on
+    not-parted e e₂ h h₂ = rw (← e, ← e₂, h) h₂
 
 module _ (i : Instance) (q : Packing) where
   pub inside-by : (a : ℕ) → inside-on (problem-of i) (positions-of q) a ≡ all-below (i .«item_count») (within-limit (i .items) (q .positions) a (measure a (i .container)))
-  unfolding inside-on within within-limit end-at problem-of positions-of
+  unfolding inside-on within within-limit end-of problem-of positions-of
   inside-by a = refl
 
-  pub parted-by : (u v : ℕ) → apart-on-some-axis (problem-of i) (positions-of q) u v ≡ some-below 3 (parted-on (getD (i .items) u no-item .size) (getD (q .positions) u origin) (getD (i .items) v no-item .size) (getD (q .positions) v origin))
-  unfolding apart-on-some-axis ends-before parted-on problem-of positions-of
+  pub parted-by : (u v : ℕ) → apart-on-some-axis (problem-of i) (positions-of q) u v ≡ some-below 3 (parted-on (placed-at (i .items) (q .positions) u) (placed-at (i .items) (q .positions) v))
+  unfolding apart-on-some-axis ends-before parted-on end-of problem-of positions-of
   parted-by u v = refl
 
   pub ordered-by : ordered-test (problem-of i) (positions-of q) ≡ all-kept (i .items) (q .positions) (precedences-of i)
-  unfolding ordered-test ends-before all-kept kept problem-of positions-of
+  unfolding ordered-test ends-before all-kept kept end-of problem-of positions-of
   ordered-by = go (precedences-of i)
     where
       test : M.Precedence → Bool

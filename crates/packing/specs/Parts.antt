@@ -12,6 +12,7 @@ use Rattle.records.specs.Sizes.{no-item, no-precedence}
 use Rattle.instance.specs.declared.Position.{Position}
 use Rattle.instance.specs.Values.{origin}
 use Rattle.instance.specs.Meaning.{measure, start}
+use Rattle.packing.specs.declared.axes.Placed.{Placed}
 
 -- one item on one axis: "start plus measure is at most the hall's measure"
 unfoldable pub within : Problem → Positions → ℕ → ℕ → Bool
@@ -30,11 +31,17 @@ pub record Named (n m : ℕ) (os : List Precedence) : Type 0 where
   pub predecessor : (k : ℕ) → k < m → getD os k no-precedence .predecessor < n
   pub successor : (k : ℕ) → k < m → getD os k no-precedence .successor < n
 
+-- item u where a packing puts it
+abbrev pub placed-at : List Item → List Position → ℕ → Placed
+placed-at items positions u = record { size = getD items u no-item .size; position = getD positions u origin }
+
+-- start plus measure
+unfoldable pub end-of : ℕ → Placed → ℕ
+end-of a i = start a (i .position) + measure a (i .size)
+
 -- "u's end in t is at most v's start", over the arrays of items and positions
 unfoldable pub kept : List Item → List Position → Precedence → Bool
-kept items positions o =
-    leb (start time (getD positions (o .predecessor) origin) + measure time (getD items (o .predecessor) no-item .size))
-    (start time (getD positions (o .successor) origin))
+kept items positions o = leb (end-of time (placed-at items positions (o .predecessor))) (start time (placed-at items positions (o .successor) .position))
 
 unfoldable pub all-kept : List Item → List Position → List Precedence → Bool
 all-kept items positions [] = true

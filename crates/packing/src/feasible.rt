@@ -26,10 +26,8 @@ fn inside_on_axis(instance: Instance, packing: Packing, axis: u8) -> bool
     let limit = axes::measure_on(container, axis) as u32;
     let mut u: usize = 0;
     while u < n {
-        let item = items[u];
-        let size = item.size;
-        let position = positions[u];
-        if limit < axes::end_on(size, position, axis) {
+        let item = axes::placed_item(items, positions, u);
+        if limit < axes::end_on(item, axis) {
             return false;
         }
         u = u + 1;
@@ -59,18 +57,14 @@ fn apart_on_some_axis(instance: Instance, packing: Packing, u: usize, v: usize) 
 {
     let items = instance.items;
     let positions = packing.positions;
-    let item_u = items[u];
-    let size_u = item_u.size;
-    let item_v = items[v];
-    let size_v = item_v.size;
-    let start_u = positions[u];
-    let start_v = positions[v];
+    let first = axes::placed_item(items, positions, u);
+    let second = axes::placed_item(items, positions, v);
     let mut axis: u8 = 0;
     while axis < 3 {
-        if axes::ends_before(size_u, start_u, start_v, axis) {
+        if axes::ends_before(first, second, axis) {
             return true;
         }
-        if axes::ends_before(size_v, start_v, start_u, axis) {
+        if axes::ends_before(second, first, axis) {
             return true;
         }
         axis = axis + 1;
@@ -124,11 +118,9 @@ fn all_are_kept(
         let o = precedences[i];
         let u = o.predecessor as usize;
         let v = o.successor as usize;
-        let item = items[u];
-        let size = item.size;
-        let position = positions[u];
-        let other = positions[v];
-        if !axes::ends_before(size, position, other, 2) {
+        let first = axes::placed_item(items, positions, u);
+        let second = axes::placed_item(items, positions, v);
+        if !axes::ends_before(first, second, 2) {
             return false;
         }
         i = i + 1;

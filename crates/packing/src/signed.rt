@@ -2,9 +2,11 @@
 ghost use mathlib.Core.Path.{_≡_};
 ghost use Prim.Native.Nat.{_<_};
 ghost use lib.IntN.{pos, _-ℤ_};
-ghost use Rattle.instance.specs.Meaning.{problem-of, positions-of};
+ghost use Rattle.instance.specs.Meaning.{start, problem-of, positions-of};
+ghost use Rattle.packing.specs.Parts.{end-of};
 ghost use Rattle.packing.specs.Clearance.{greater-of, clearance-between};
 use crate::axes;
+use crate::axes::Placed;
 use instance::Instance;
 use instance::Packing;
 
@@ -14,12 +16,13 @@ fn greater(a: i32, b: i32) -> i32
     if a < b { b } else { a }
 }
 
-// From an end to a start, below 0 where the start comes first.
-fn from_end(end: u32, start: u16) -> i32
-    requires { ⌜ end < 131072 ⌝ }
-    ensures { λ r. ⌜ r ≡ pos start -ℤ pos end ⌝ }
+// From an item's end to another's start, below 0 where the start comes first.
+fn from_end(item: Placed, other: Placed, axis: u8) -> i32
+    ensures { λ r. ⌜ r ≡ pos (start axis (other .position)) -ℤ pos (end-of axis item) ⌝ }
 {
-    start as i32 - end as i32
+    let position = other.position;
+    let end = axes::end_on(item, axis);
+    axes::start_on(position, axis) as i32 - end as i32
 }
 
 pub fn clearance_on(instance: Instance, packing: Packing, u: usize, v: usize, axis: u8) -> i32
@@ -28,15 +31,7 @@ pub fn clearance_on(instance: Instance, packing: Packing, u: usize, v: usize, ax
 {
     let items = instance.items;
     let positions = packing.positions;
-    let item_u = items[u];
-    let size_u = item_u.size;
-    let item_v = items[v];
-    let size_v = item_v.size;
-    let start_u = positions[u];
-    let start_v = positions[v];
-    let end_u = axes::end_on(size_u, start_u, axis);
-    let end_v = axes::end_on(size_v, start_v, axis);
-    let after_u = from_end(end_u, axes::start_on(start_v, axis));
-    let after_v = from_end(end_v, axes::start_on(start_u, axis));
-    greater(after_u, after_v)
+    let first = axes::placed_item(items, positions, u);
+    let second = axes::placed_item(items, positions, v);
+    greater(from_end(first, second, axis), from_end(second, first, axis))
 }

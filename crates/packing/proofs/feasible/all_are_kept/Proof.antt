@@ -14,91 +14,80 @@ use Rattle.packing.proofs.feasible.all_are_kept.Tie as tie
 use Rattle.packing.proofs.feasible.all_are_kept.Reads as reads
 use Rattle.packing.proofs.feasible.all_are_kept.Lts as lts
 use Rattle.packing.proofs.axes.ends_before.Reads as ends-before-reads
+use Rattle.packing.proofs.axes.placed_item.Reads as placed-item-reads
 
 abbrev Inv-loop : tie.InvT-loop
-Inv-loop m items positions precedences i₀ i = (i ≤ m) × (all-kept items positions (drop i (take m precedences)) ≡ all-kept items positions (take m precedences))
+Inv-loop items positions m precedences i₀ i = (i ≤ m) × (all-kept items positions (drop i (take m precedences)) ≡ all-kept items positions (take m precedences))
 
 abbrev μ-loop : tie.MeasureT-loop
-μ-loop m items positions precedences i₀ i = m - i
+μ-loop items positions m precedences i₀ i = m - i
 
--- src/feasible.rt:118:5
+-- how many entries the array has
+ninety : (c : tie.Start Inv-loop μ-loop) → length (c .args .t3) ≡ 90
+ninety c = search needs
+
+-- src/feasible.rt:117:5
 loop-holds : tie.Need-loop-holds Inv-loop μ-loop
 loop-holds c = (omega arith, refl)
 
--- src/feasible.rt:119:17
+-- src/feasible.rt:118:17
 mul-o : tie.Need-mul-o Inv-loop μ-loop
 mul-o c = search needs
 
--- src/feasible.rt:119:17
+-- src/feasible.rt:118:17
 array-copy-out-o : tie.Need-array-copy-out-o Inv-loop μ-loop
 array-copy-out-o c = search needs
 
--- src/feasible.rt:120:17
+-- src/feasible.rt:119:17
 cast-u : tie.Need-cast-u Inv-loop μ-loop
 cast-u c = search needs
 
--- src/feasible.rt:121:17
+-- src/feasible.rt:120:17
 cast-v : tie.Need-cast-v Inv-loop μ-loop
 cast-v c = search needs
 
--- src/feasible.rt:122:20
-mul-item : tie.Need-mul-item Inv-loop μ-loop
-mul-item c = record { fits = omega (arith, c .before .before .before .before .before .pre .1 .predecessor (c .before .before .before .before .loop .i) (c .before .before .before .loop-test .taken)) }
+-- src/feasible.rt:121:13
+placed-item-requires : tie.Need-placed-item-requires Inv-loop μ-loop
+placed-item-requires c κs = c .before .before .before .before .before .pre .1 .predecessor (c .before .before .before .before .loop .i) (c .before .before .before .loop-test .taken)
 
--- src/feasible.rt:122:20
-array-copy-out-item : tie.Need-array-copy-out-item Inv-loop μ-loop
-array-copy-out-item c = c .before .before .before .before .before .pre .1 .predecessor (c .before .before .before .before .loop .i) (c .before .before .before .loop-test .taken)
+-- src/feasible.rt:122:13
+placed-item-requires-2 : tie.Need-placed-item-requires-2 Inv-loop μ-loop
+placed-item-requires-2 c κs = c .before .before .before .before .before .before .pre .1 .successor (c .before .before .before .before .before .loop .i) (c .before .before .before .before .loop-test .taken)
 
--- src/feasible.rt:124:24
-mul-position : tie.Need-mul-position Inv-loop μ-loop
-mul-position c = record { fits = omega (arith, c .before .before .before .before .before .before .before .pre .1 .predecessor (c .before .before .before .before .before .before .loop .i) (c .before .before .before .before .before .loop-test .taken)) }
-
--- src/feasible.rt:124:24
-array-copy-out-position : tie.Need-array-copy-out-position Inv-loop μ-loop
-array-copy-out-position c = c .before .before .before .before .before .before .before .pre .1 .predecessor (c .before .before .before .before .before .before .loop .i) (c .before .before .before .before .before .loop-test .taken)
-
--- src/feasible.rt:125:21
-mul-other : tie.Need-mul-other Inv-loop μ-loop
-mul-other c = record { fits = omega (arith, c .before .before .before .before .before .before .before .before .pre .1 .successor (c .before .before .before .before .before .before .before .loop .i) (c .before .before .before .before .before .before .loop-test .taken)) }
-
--- src/feasible.rt:125:21
-array-copy-out-other : tie.Need-array-copy-out-other Inv-loop μ-loop
-array-copy-out-other c = c .before .before .before .before .before .before .before .before .pre .1 .successor (c .before .before .before .before .before .before .before .loop .i) (c .before .before .before .before .before .before .loop-test .taken)
-
--- src/feasible.rt:126:13
+-- src/feasible.rt:123:13
 ends-before-requires : tie.Need-ends-before-requires Inv-loop μ-loop
 ends-before-requires c κs = search needs
 
--- src/feasible.rt:127:13
+-- src/feasible.rt:124:13
 returns : tie.Need-returns Inv-loop μ-loop
 returns c =
-    let l = c .before .before .before .before .before .before .before .before .before .before .loop in
-    let a = c .before .before .before .before .before .before .before .before .before .before .before .args in
-    let h : length (a .t3) ≡ 90 = search needs in
-    sym (rw (← (l .inv .1), part-next (a .m) (l .i) (a .t3) (omega arith) no-precedence (omega arith), all-kept-next, kept-is _ _ _ _ (c .before .ends-before .ensures), not-true (c .before .ends-before .result) (c .if1 .taken)) refl)
+    let l = c .before .before .before .before .before .before .before .before .loop in
+    let a = c .before .before .before .before .before .before .before .before .before .args in
+    let h = ninety (c .before .before .before .before .before .before .before .before .before) in
+    sym (rw (← (l .inv .1), part-next (a .m) (l .i) (a .t3) (omega arith) no-precedence (omega arith), all-kept-next, kept-is _ _ _ (c .before .before .before .placed-item .ensures) (c .before .before .placed-item2 .ensures) (c .before .ends-before .ensures), not-true (c .before .ends-before .result) (c .if1 .taken)) refl)
 
--- src/feasible.rt:129:13
+-- src/feasible.rt:126:13
 add-i : tie.Need-add-i Inv-loop μ-loop
 add-i c = search needs
 
--- src/feasible.rt:118:5
+-- src/feasible.rt:117:5
 loop-less : tie.Need-loop-less Inv-loop μ-loop
 loop-less c = search needs
 
--- src/feasible.rt:118:5
+-- src/feasible.rt:117:5
 loop-again : tie.Need-loop-again Inv-loop μ-loop
 loop-again c =
-    let l = c .before .before .before .before .before .before .before .before .before .before .loop in
-    let a = c .before .before .before .before .before .before .before .before .before .before .before .args in
-    let h : length (a .t3) ≡ 90 = search needs in
-    (omega arith, sym (rw (← (l .inv .1), part-next (a .m) (l .i) (a .t3) (omega arith) no-precedence (omega arith), all-kept-next, kept-is _ _ _ _ (c .before .ends-before .ensures), not-false (c .before .ends-before .result) (c .if1 .left)) refl))
+    let l = c .before .before .before .before .before .before .before .before .loop in
+    let a = c .before .before .before .before .before .before .before .before .before .args in
+    let h = ninety (c .before .before .before .before .before .before .before .before .before) in
+    (omega arith, sym (rw (← (l .inv .1), part-next (a .m) (l .i) (a .t3) (omega arith) no-precedence (omega arith), all-kept-next, kept-is _ _ _ (c .before .before .before .placed-item .ensures) (c .before .before .placed-item2 .ensures) (c .before .ends-before .ensures), not-false (c .before .ends-before .result) (c .if1 .left)) refl))
 
--- src/feasible.rt:113:1
+-- src/feasible.rt:107:1
 returns-2 : tie.Need-returns-2 Inv-loop μ-loop
 returns-2 c =
     let l = c .before .loop in
     let a = c .before .before .args in
-    let h : length (a .t3) ≡ 90 = search needs in
+    let h = ninety (c .before .before) in
     sym (rw (← (l .inv .1), part-done (a .m) (l .i) (a .t3) (omega arith) (omega arith), all-kept-done) refl)
 
 pub all-are-kept-spec : {M : Type 1} → statement M
@@ -112,12 +101,8 @@ all-are-kept-spec =
     array-copy-out-o
     cast-u
     cast-v
-    mul-item
-    array-copy-out-item
-    mul-position
-    array-copy-out-position
-    mul-other
-    array-copy-out-other
+    placed-item-requires
+    placed-item-requires-2
     ends-before-requires
     returns
     add-i

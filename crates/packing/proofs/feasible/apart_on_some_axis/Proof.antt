@@ -1,95 +1,67 @@
-use borrow.Author.Tests.{le-leb, lt-leb}
-use Rattle.model.proofs.Below.{some-of, or-left, or-right}
-use Rattle.packing.proofs.Loops.{some-more, parted-on, parted-left, parted-right, not-parted, parted-by}
 use borrow.Author.Needs.{needs}
 use native.Mathlib.Omega.{arith}
 use Prim.Native.Nat.{ℕ, _+_, _-_, _≤_}
-use mathlib.Core.Bool.{true, false, _||_}
+use mathlib.Core.Bool.{true, false}
 use mathlib.Core.Path.{_≡_, refl, sym, _∙_}
-use lib.Dec.{leb}
-use lib.ListN.{length, getD}
 use Rattle.model.specs.Below.{some-below}
-use Rattle.model.specs.Problem.{apart-on-some-axis, ends-before}
-use Rattle.instance.specs.Meaning.{measure, start, problem-of, positions-of}
+use Rattle.model.proofs.Below.{some-of}
+use Rattle.packing.proofs.Loops.{some-more, parted-on, parted-left, parted-right, not-parted, parted-by}
 use Rattle.packing.proofs.feasible.apart_on_some_axis.Statement.{statement}
 use Rattle.packing.proofs.feasible.apart_on_some_axis.Tie as tie
 use Rattle.packing.proofs.feasible.apart_on_some_axis.Reads as reads
 use Rattle.packing.proofs.feasible.apart_on_some_axis.Lts as lts
 use Rattle.packing.proofs.axes.ends_before.Reads as ends-before-reads
+use Rattle.packing.proofs.axes.placed_item.Reads as placed-item-reads
 
 abbrev Inv-loop : tie.InvT-loop
-Inv-loop u v size-u size-v start-u start-v axis₀ axis = (axis ≤ 3) × (some-below axis (parted-on size-u start-u size-v start-v) ≡ false)
+Inv-loop u v first second axis₀ axis = (axis ≤ 3) × (some-below axis (parted-on first second) ≡ false)
 
 abbrev μ-loop : tie.MeasureT-loop
-μ-loop u v size-u size-v start-u start-v axis₀ axis = 3 - axis
+μ-loop u v first second axis₀ axis = 3 - axis
 
--- src/feasible.rt:58:18
-mul-item-u : tie.Need-mul-item-u Inv-loop μ-loop
-mul-item-u c = search needs
+-- src/feasible.rt:60:9
+placed-item-requires : tie.Need-placed-item-requires Inv-loop μ-loop
+placed-item-requires c κs = search needs
 
--- src/feasible.rt:58:18
-array-copy-out-item-u : tie.Need-array-copy-out-item-u Inv-loop μ-loop
-array-copy-out-item-u c = search needs
+-- src/feasible.rt:61:9
+placed-item-requires-2 : tie.Need-placed-item-requires-2 Inv-loop μ-loop
+placed-item-requires-2 c κs = search needs
 
--- src/feasible.rt:60:18
-mul-item-v : tie.Need-mul-item-v Inv-loop μ-loop
-mul-item-v c = search needs
-
--- src/feasible.rt:60:18
-array-copy-out-item-v : tie.Need-array-copy-out-item-v Inv-loop μ-loop
-array-copy-out-item-v c = search needs
-
--- src/feasible.rt:62:19
-mul-start-u : tie.Need-mul-start-u Inv-loop μ-loop
-mul-start-u c = search needs
-
--- src/feasible.rt:62:19
-array-copy-out-start-u : tie.Need-array-copy-out-start-u Inv-loop μ-loop
-array-copy-out-start-u c = search needs
-
--- src/feasible.rt:63:19
-mul-start-v : tie.Need-mul-start-v Inv-loop μ-loop
-mul-start-v c = search needs
-
--- src/feasible.rt:63:19
-array-copy-out-start-v : tie.Need-array-copy-out-start-v Inv-loop μ-loop
-array-copy-out-start-v c = search needs
-
--- src/feasible.rt:65:5
+-- src/feasible.rt:63:5
 loop-holds : tie.Need-loop-holds Inv-loop μ-loop
 loop-holds c = (omega arith, refl)
 
--- src/feasible.rt:66:12
+-- src/feasible.rt:64:12
 ends-before-requires : tie.Need-ends-before-requires Inv-loop μ-loop
 ends-before-requires c κs = search needs
 
--- src/feasible.rt:67:13
+-- src/feasible.rt:65:13
 returns : tie.Need-returns Inv-loop μ-loop
-returns c = sym (parted-by _ _ _ _ ∙ some-of 3 (parted-on _ _ _ _) (c .before .before .before .loop .axis) (c .before .before .loop-test .taken) (parted-left _ _ _ _ _ (c .before .ends-before .ensures) (c .if1 .taken)))
+returns c = sym (parted-by _ _ _ _ ∙ rw (← (c .before .before .before .before .before .placed-item .ensures), ← (c .before .before .before .before .placed-item2 .ensures)) (some-of 3 (parted-on _ _) (c .before .before .before .loop .axis) (c .before .before .loop-test .taken) (parted-left _ _ _ (c .before .ends-before .ensures) (c .if1 .taken))))
 
--- src/feasible.rt:69:12
+-- src/feasible.rt:67:12
 ends-before-requires-2 : tie.Need-ends-before-requires-2 Inv-loop μ-loop
 ends-before-requires-2 c κs = search needs
 
--- src/feasible.rt:70:13
+-- src/feasible.rt:68:13
 returns-2 : tie.Need-returns-2 Inv-loop μ-loop
-returns-2 c = sym (parted-by _ _ _ _ ∙ some-of 3 (parted-on _ _ _ _) (c .before .before .before .before .before .loop .axis) (c .before .before .before .before .loop-test .taken) (parted-right _ _ _ _ _ (c .before .ends-before2 .ensures) (c .if2 .taken)))
+returns-2 c = sym (parted-by _ _ _ _ ∙ rw (← (c .before .before .before .before .before .before .before .placed-item .ensures), ← (c .before .before .before .before .before .before .placed-item2 .ensures)) (some-of 3 (parted-on _ _) (c .before .before .before .before .before .loop .axis) (c .before .before .before .before .loop-test .taken) (parted-right _ _ _ (c .before .ends-before2 .ensures) (c .if2 .taken))))
 
--- src/feasible.rt:72:16
+-- src/feasible.rt:70:16
 add-axis : tie.Need-add-axis Inv-loop μ-loop
 add-axis c = search needs
 
--- src/feasible.rt:65:5
+-- src/feasible.rt:63:5
 loop-less : tie.Need-loop-less Inv-loop μ-loop
 loop-less c = search needs
 
--- src/feasible.rt:65:5
+-- src/feasible.rt:63:5
 loop-again : tie.Need-loop-again Inv-loop μ-loop
-loop-again c = (search needs, some-more (c .before .before .before .before .before .loop .axis) _ (c .before .before .before .before .before .loop .inv .1) (not-parted _ _ _ _ _ (c .before .before .before .ends-before .ensures) (c .before .ends-before2 .ensures) (c .before .before .if1 .left) (c .if2 .left)))
+loop-again c = (search needs, some-more (c .before .before .before .before .before .loop .axis) _ (c .before .before .before .before .before .loop .inv .1) (not-parted _ _ _ (c .before .before .before .ends-before .ensures) (c .before .ends-before2 .ensures) (c .before .before .if1 .left) (c .if2 .left)))
 
--- src/feasible.rt:52:1
+-- src/feasible.rt:54:1
 returns-3 : tie.Need-returns-3 Inv-loop μ-loop
-returns-3 c = sym (parted-by _ _ _ _ ∙ (let e : c .before .loop .axis ≡ 3 = omega arith in rw e at (c .before .loop .inv .1)))
+returns-3 c = sym (parted-by _ _ _ _ ∙ rw (← (c .before .before .before .placed-item .ensures), ← (c .before .before .placed-item2 .ensures)) (let e : c .before .loop .axis ≡ 3 = omega arith in rw e at (c .before .loop .inv .1)))
 
 pub apart-on-some-axis-spec : {M : Type 1} → statement M
 apart-on-some-axis-spec =
@@ -97,14 +69,8 @@ apart-on-some-axis-spec =
     (tie.spec
     Inv-loop
     μ-loop
-    mul-item-u
-    array-copy-out-item-u
-    mul-item-v
-    array-copy-out-item-v
-    mul-start-u
-    array-copy-out-start-u
-    mul-start-v
-    array-copy-out-start-v
+    placed-item-requires
+    placed-item-requires-2
     loop-holds
     ends-before-requires
     returns

@@ -1,24 +1,17 @@
-use borrow.Author.Tests.{le-leb, lt-leb}
-use Rattle.instance.specs.Meaning.{problem-of, positions-of}
-use Rattle.packing.specs.Parts.{within, inside-on}
-use Rattle.packing.proofs.Loops.{all-more, all-fails, all-done, within-limit, within-limit-true, within-limit-false, inside-by}
 use borrow.Author.Needs.{needs}
 use native.Mathlib.Omega.{arith}
 use Prim.Native.Nat.{ℕ, _+_, _-_, _≤_}
 use mathlib.Core.Bool.{true, false}
 use mathlib.Core.Path.{_≡_, refl, sym, _∙_}
-use lib.Dec.{leb}
-use lib.ListN.{length, getD}
 use Rattle.model.specs.Below.{all-below}
-use Rattle.records.specs.Sizes.{no-item}
-use Rattle.instance.specs.Values.{origin}
-use Rattle.instance.specs.Meaning.{measure, start}
+use Rattle.packing.proofs.Loops.{all-more, all-fails, all-done, within-limit, within-limit-true, within-limit-false, inside-by}
 use Rattle.packing.proofs.feasible.inside_on_axis.Statement.{statement}
 use Rattle.packing.proofs.feasible.inside_on_axis.Tie as tie
 use Rattle.packing.proofs.feasible.inside_on_axis.Reads as reads
 use Rattle.packing.proofs.feasible.inside_on_axis.Lts as lts
 use Rattle.packing.proofs.axes.end_on.Reads as end-on-reads
 use Rattle.packing.proofs.axes.measure_on.Reads as measure-on-reads
+use Rattle.packing.proofs.axes.placed_item.Reads as placed-item-reads
 
 abbrev Inv-loop : tie.InvT-loop
 Inv-loop axis items n positions limit u₀ u = (u ≤ n) × (all-below u (within-limit items positions axis limit) ≡ true)
@@ -26,59 +19,47 @@ Inv-loop axis items n positions limit u₀ u = (u ≤ n) × (all-below u (within
 abbrev μ-loop : tie.MeasureT-loop
 μ-loop axis items n positions limit u₀ u = n - u
 
--- src/feasible.rt:22:17
+-- src/feasible.rt:26:17
 measure-on-requires : tie.Need-measure-on-requires Inv-loop μ-loop
 measure-on-requires c κs = search needs
 
--- src/feasible.rt:22:17
+-- src/feasible.rt:26:17
 cast-limit : tie.Need-cast-limit Inv-loop μ-loop
 cast-limit c = search needs
 
--- src/feasible.rt:24:5
+-- src/feasible.rt:28:5
 loop-holds : tie.Need-loop-holds Inv-loop μ-loop
 loop-holds c = (omega arith, refl)
 
--- src/feasible.rt:25:20
-mul-item : tie.Need-mul-item Inv-loop μ-loop
-mul-item c = search needs
+-- src/feasible.rt:29:13
+placed-item-requires : tie.Need-placed-item-requires Inv-loop μ-loop
+placed-item-requires c κs = search needs
 
--- src/feasible.rt:25:20
-array-copy-out-item : tie.Need-array-copy-out-item Inv-loop μ-loop
-array-copy-out-item c = search needs
-
--- src/feasible.rt:27:24
-mul-position : tie.Need-mul-position Inv-loop μ-loop
-mul-position c = search needs
-
--- src/feasible.rt:27:24
-array-copy-out-position : tie.Need-array-copy-out-position Inv-loop μ-loop
-array-copy-out-position c = search needs
-
--- src/feasible.rt:28:20
+-- src/feasible.rt:30:20
 end-on-requires : tie.Need-end-on-requires Inv-loop μ-loop
 end-on-requires c κs = search needs
 
--- src/feasible.rt:29:13
-returns : tie.Need-returns Inv-loop μ-loop
-returns c = sym (inside-by _ _ _ ∙ rw (← (c .before .before .before .before .before .before .before .measure-on .ensures)) (all-fails _ (within-limit _ _ _ _) (c .before .before .before .before .before .before .loop .u) (c .before .before .before .before .before .loop-test .taken) (within-limit-false _ _ _ _ _ _ (c .before .end-on .ensures .0) (c .if1 .taken))))
-
 -- src/feasible.rt:31:13
+returns : tie.Need-returns Inv-loop μ-loop
+returns c = sym (inside-by _ _ _ ∙ rw (← (c .before .before .before .before .before .measure-on .ensures)) (all-fails _ (within-limit _ _ _ _) (c .before .before .before .before .loop .u) (c .before .before .before .loop-test .taken) (within-limit-false _ _ _ _ _ (c .before .before .placed-item .ensures) (c .before .end-on .ensures .0) (c .if1 .taken))))
+
+-- src/feasible.rt:33:13
 add-u : tie.Need-add-u Inv-loop μ-loop
 add-u c = search needs
 
--- src/feasible.rt:24:5
+-- src/feasible.rt:28:5
 loop-less : tie.Need-loop-less Inv-loop μ-loop
 loop-less c = search needs
 
--- src/feasible.rt:24:5
+-- src/feasible.rt:28:5
 loop-again : tie.Need-loop-again Inv-loop μ-loop
 loop-again c = (
   search needs,
-  all-more (c .before .before .before .before .before .before .loop .u) (within-limit (c .before .before .before .before .before .before .before .before .before .before .before .args .instance .items) (c .before .before .before .before .before .before .before .before .before .before .before .args .packing .positions) (c .before .before .before .before .before .before .before .before .before .before .before .args .axis) (c .before .before .before .before .before .before .before .measure-on .result)) (c .before .before .before .before .before .before .loop .inv .1)
-      (within-limit-true _ _ _ _ _ _ (c .before .end-on .ensures .0) (c .if1 .left)),
+  all-more (c .before .before .before .before .loop .u) (within-limit (c .before .before .before .before .before .before .before .before .before .args .instance .items) (c .before .before .before .before .before .before .before .before .before .args .packing .positions) (c .before .before .before .before .before .before .before .before .before .args .axis) (c .before .before .before .before .before .measure-on .result)) (c .before .before .before .before .loop .inv .1)
+      (within-limit-true _ _ _ _ _ (c .before .before .placed-item .ensures) (c .before .end-on .ensures .0) (c .if1 .left)),
 )
 
--- src/feasible.rt:14:1
+-- src/feasible.rt:18:1
 returns-2 : tie.Need-returns-2 Inv-loop μ-loop
 returns-2 c = sym (inside-by _ _ _ ∙ rw (← (c .before .before .measure-on .ensures)) (all-done _ (within-limit _ _ _ _) (c .before .loop .u) (c .before .loop .inv .1) (c .before .loop .inv .0) (c .loop-test .left)))
 
@@ -91,10 +72,7 @@ inside-on-axis-spec =
     measure-on-requires
     cast-limit
     loop-holds
-    mul-item
-    array-copy-out-item
-    mul-position
-    array-copy-out-position
+    placed-item-requires
     end-on-requires
     returns
     add-u
