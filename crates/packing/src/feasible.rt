@@ -21,11 +21,11 @@ fn inside_on_axis(instance: Instance, packing: Packing, axis: u8) -> bool
 {
     let container = instance.container;
     let items = instance.items;
-    let n = instance.item_count;
+    let count = instance.item_count;
     let positions = packing.positions;
     let limit = axes::measure_on(container, axis) as u32;
     let mut u: usize = 0;
-    while u < n {
+    while u < count {
         let item = axes::placed_item(items, positions, u);
         if limit < axes::end_on(item, axis) {
             return false;

@@ -23,8 +23,8 @@ abbrev μ-loop : tie.MeasureT-loop
 μ-loop items positions m precedences i₀ i = m - i
 
 -- how many entries the array has
-ninety : (c : tie.Start Inv-loop μ-loop) → length (c .args .t3) ≡ 90
-ninety c = search needs
+entries : (c : tie.Start Inv-loop μ-loop) → length (c .args .t3) ≡ 90
+entries c = search needs
 
 -- src/feasible.rt:117:5
 loop-holds : tie.Need-loop-holds Inv-loop μ-loop
@@ -63,7 +63,7 @@ returns : tie.Need-returns Inv-loop μ-loop
 returns c =
     let l = c .before .before .before .before .before .before .before .before .loop in
     let a = c .before .before .before .before .before .before .before .before .before .args in
-    let h = ninety (c .before .before .before .before .before .before .before .before .before) in
+    let h = entries (c .before .before .before .before .before .before .before .before .before) in
     sym (rw (← (l .inv .1), part-next (a .m) (l .i) (a .t3) (omega arith) no-precedence (omega arith), all-kept-next, kept-is _ _ _ (c .before .before .before .placed-item .ensures) (c .before .before .placed-item2 .ensures) (c .before .ends-before .ensures), not-true (c .before .ends-before .result) (c .if1 .taken)) refl)
 
 -- src/feasible.rt:126:13
@@ -79,7 +79,7 @@ loop-again : tie.Need-loop-again Inv-loop μ-loop
 loop-again c =
     let l = c .before .before .before .before .before .before .before .before .loop in
     let a = c .before .before .before .before .before .before .before .before .before .args in
-    let h = ninety (c .before .before .before .before .before .before .before .before .before) in
+    let h = entries (c .before .before .before .before .before .before .before .before .before) in
     (omega arith, sym (rw (← (l .inv .1), part-next (a .m) (l .i) (a .t3) (omega arith) no-precedence (omega arith), all-kept-next, kept-is _ _ _ (c .before .before .before .placed-item .ensures) (c .before .before .placed-item2 .ensures) (c .before .ends-before .ensures), not-false (c .before .ends-before .result) (c .if1 .left)) refl))
 
 -- src/feasible.rt:107:1
@@ -87,7 +87,7 @@ returns-2 : tie.Need-returns-2 Inv-loop μ-loop
 returns-2 c =
     let l = c .before .loop in
     let a = c .before .before .args in
-    let h = ninety (c .before .before) in
+    let h = entries (c .before .before) in
     sym (rw (← (l .inv .1), part-done (a .m) (l .i) (a .t3) (omega arith) (omega arith), all-kept-done) refl)
 
 pub all-are-kept-spec : {M : Type 1} → statement M

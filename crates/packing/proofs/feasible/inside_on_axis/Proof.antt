@@ -14,10 +14,10 @@ use Rattle.packing.proofs.axes.measure_on.Reads as measure-on-reads
 use Rattle.packing.proofs.axes.placed_item.Reads as placed-item-reads
 
 abbrev Inv-loop : tie.InvT-loop
-Inv-loop axis items n positions limit u₀ u = (u ≤ n) × (all-below u (within-limit items positions axis limit) ≡ true)
+Inv-loop axis items count positions limit u₀ u = (u ≤ count) × (all-below u (within-limit items positions axis limit) ≡ true)
 
 abbrev μ-loop : tie.MeasureT-loop
-μ-loop axis items n positions limit u₀ u = n - u
+μ-loop axis items count positions limit u₀ u = count - u
 
 -- src/feasible.rt:26:17
 measure-on-requires : tie.Need-measure-on-requires Inv-loop μ-loop
