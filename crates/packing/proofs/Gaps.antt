@@ -4,9 +4,9 @@ use mathlib.Core.Logic.{_⊎_, inl, inr, _↔_}
 use mathlib.Core.Path.{_≡_, refl, sym, ap, _∙_}
 use Prim.Native.Nat.{ℕ, zero, suc, _+_, _-_, _≤_, _<_}
 use native.Mathlib.Omega.{arith}
-use lib.Dec.{T, ltb, leb, leb→le, le→leb}
+use lib.Dec.{ltb, leb→le, le→leb}
 use lib.IntN.{ℤ, pos, negsuc, negℤ, natAbs, subℕ, _+ℤ_, _-ℤ_}
-use lib.Signed.{ltZ, leZ, _≤ℤ_}
+use lib.Signed.{ltZ, _≤ℤ_}
 use borrow.Author.Tests.{ltb-true, ltb-false}
 use Rattle.model.specs.Problem.{Problem, Positions, EndsBefore}
 use Rattle.packing.specs.Clearance.{greater-of, from-end-to-start, clearance-between, Gap, PartedByMove, LeastMove, Overlap}

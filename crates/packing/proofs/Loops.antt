@@ -7,7 +7,6 @@ use Prim.Native.Nat.{ℕ, _+_, _≤_, _<_}
 use native.Mathlib.Numerals.{add-one}
 use native.Mathlib.Omega.{arith}
 use lib.Dec.{leb, eqb, ltb}
-use lib.ListN.{getD}
 use borrow.Author.Tests.{eqb-true, eqb-false, ltb-true, ltb-false, le-leb, lt-leb}
 use Rattle.model.specs.Below.{some-below, all-below, all-in}
 use Rattle.model.specs.Problem.{Problem, Positions, ends-before, inside-test, apart-on-some-axis, apart-test, ordered-test, time}
@@ -15,11 +14,9 @@ use Rattle.model.specs.Problem as M
 use Rattle.model.proofs.Below.{all-at, all-of, all-cons, some-at, some-of, or-case, or-left, or-right}
 use Rattle.records.specs.declared.Precedence.{Precedence}
 use Rattle.records.specs.declared.Item.{Item}
-use Rattle.records.specs.Sizes.{no-item}
 use Rattle.instance.specs.declared.Instance.{Instance}
 use Rattle.instance.specs.declared.Packing.{Packing}
 use Rattle.instance.specs.declared.Position.{Position}
-use Rattle.instance.specs.Values.{origin}
 use Rattle.instance.specs.Valid.{precedences-of}
 use Rattle.instance.specs.Meaning.{precedence-of, measure, start, problem-of, positions-of}
 use Rattle.packing.specs.Parts.{within, inside-on, apart-from-lower, placed-at, end-of, kept, all-kept}

@@ -1,14 +1,15 @@
 -- The clearance of two items on an axis, and what is answered (document 01, "Fit" and the refusals 9, 5, 8).
 use mathlib.Core.Bool.{Bool, true, false, cond, _&&_}
-use mathlib.Core.Logic.{_⊎_}
+use mathlib.Core.Logic.{_⊎_, inl, inr}
 use mathlib.Core.Path.{_≡_}
-use Prim.Native.Nat.{ℕ, _+_, _≤_}
+use Prim.Native.Nat.{ℕ, _+_, _≤_, _<_}
 use lib.Dec.{ltb}
 use lib.IntN.{ℤ, pos, natAbs, _+ℤ_, _-ℤ_}
 use lib.Signed.{ltZ, _≤ℤ_}
 use Rattle.model.specs.Problem.{Problem, Positions, EndsBefore}
 use Rattle.refusal.specs.declared.Refusal.{Refusal}
 use Rattle.refusal.specs.declared.Refusal.the-variants.{BadItem, BadArgument, InvalidInstance}
+use Rattle.refusal.specs.Numbers.{number-of, place-of}
 use Rattle.instance.specs.declared.Instance.{Instance}
 use Rattle.instance.specs.declared.Packing.{Packing}
 use Rattle.instance.specs.Valid.{valid}
@@ -40,6 +41,21 @@ clearance-answer i q u v a =
     (refused-unless (ltb u (i .«item_count») && ltb v (i .«item_count»)) (BadItem 0)
     (refused-unless (ltb a 3) BadArgument
     (Clearance (clearance-between (problem-of i) (positions-of q) a u v))))
+
+-- what is returned: the clearance, or a refusal's number and place
+abbrev pub clearance-values : ClearanceAnswer → ℤ ⊎ (ℕ × ℕ)
+clearance-values (Clearance z) = inl z
+clearance-values (Refused e) = inr (number-of e, place-of e)
+
+-- The same answer in numbers, condition by condition.
+pub record Answers (i : Instance) (q : Packing) (u v a : ℕ) (r : ClearanceAnswer) : Type 0 where
+  -- 9: the value is no instance
+  pub nine : valid i ≡ false → clearance-values r ≡ inr (9, 0)
+  -- 5: "a piece not on the sheet"
+  pub five : valid i ≡ true → (i .«item_count» ≤ u) ⊎ (i .«item_count» ≤ v) → clearance-values r ≡ inr (5, 0)
+  -- 8: "clearance axis not 0, 1 or 2"
+  pub eight : valid i ≡ true → u < i .«item_count» → v < i .«item_count» → 3 ≤ a → clearance-values r ≡ inr (8, 0)
+  pub value : valid i ≡ true → u < i .«item_count» → v < i .«item_count» → a < 3 → clearance-values r ≡ inl (clearance-between (problem-of i) (positions-of q) a u v)
 
 -- "above 0 a gap, 0 touching": one item ends so many modules before the other starts
 unfoldable pub Gap : Problem → Positions → ℕ → ℕ → ℕ → ℕ → Type 0

@@ -1,7 +1,7 @@
 // The check of a packing, and the clearance of two items.
 ghost use mathlib.Core.Path.{_≡_};
 ghost use Rattle.packing.specs.Check.{check-answer, Decides};
-ghost use Rattle.packing.specs.Clearance.{clearance-answer};
+ghost use Rattle.packing.specs.Clearance.{clearance-answer, Answers};
 use instance::Instance;
 use instance::Packing;
 use refusal::Refusal;
@@ -52,6 +52,7 @@ pub fn clearance(
     axis: u8,
 ) -> ClearanceAnswer
     ensures { λ r. ⌜ r ≡ clearance-answer instance packing u v axis ⌝ }
+    ensures { λ r. ⌜ Answers instance packing u v axis r ⌝ }
 {
     if !instance.is_valid() {
         return ClearanceAnswer::Refused(Refusal::InvalidInstance);

@@ -1,36 +1,25 @@
-use native.Mathlib.Omega.{arith}
 use mathlib.Core.Path.{ap₂}
 use Prim.Native.Nat.{_+_}
 use Rattle.packing.specs.Parts.{end-of}
 use borrow.Author.Needs.{needs}
 use Rattle.packing.proofs.axes.end_on.Statement.{statement}
 use Rattle.packing.proofs.axes.end_on.Tie as tie
-use Rattle.packing.proofs.axes.end_on.Reads as reads
-use Rattle.packing.proofs.axes.end_on.Lts as lts
-use Rattle.packing.proofs.axes.measure_on.Reads as measure-on-reads
-use Rattle.packing.proofs.axes.start_on.Reads as start-on-reads
 
--- src/axes.rt:53:5
 start-on-requires : tie.Need-start-on-requires
 start-on-requires c κs = search needs
 
--- src/axes.rt:53:5
 cast-result : tie.Need-cast-result
 cast-result c = search needs
 
--- src/axes.rt:53:39
 measure-on-requires : tie.Need-measure-on-requires
 measure-on-requires c κs = search needs
 
--- src/axes.rt:53:39
 cast-result-2 : tie.Need-cast-result-2
 cast-result-2 c = search needs
 
--- src/axes.rt:53:5
 add-result : tie.Need-add-result
 add-result c = search needs
 
--- src/axes.rt:48:1
 returns : tie.Need-returns
 unfolding end-of
 returns c = (ap₂ _+_ (c .before .start-on .ensures) (c .measure-on .ensures), search needs)

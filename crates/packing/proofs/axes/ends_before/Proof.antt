@@ -3,24 +3,16 @@ use lib.Dec.{leb}
 use borrow.Author.Needs.{needs}
 use Rattle.packing.proofs.axes.ends_before.Statement.{statement}
 use Rattle.packing.proofs.axes.ends_before.Tie as tie
-use Rattle.packing.proofs.axes.ends_before.Reads as reads
-use Rattle.packing.proofs.axes.ends_before.Lts as lts
-use Rattle.packing.proofs.axes.end_on.Reads as end-on-reads
-use Rattle.packing.proofs.axes.start_on.Reads as start-on-reads
 
--- src/axes.rt:61:5
 end-on-requires : tie.Need-end-on-requires
 end-on-requires c κs = search needs
 
--- src/axes.rt:61:27
 start-on-requires : tie.Need-start-on-requires
 start-on-requires c κs = search needs
 
--- src/axes.rt:61:27
 cast-result : tie.Need-cast-result
 cast-result c = search needs
 
--- src/axes.rt:57:1
 returns : tie.Need-returns
 returns c = ap₂ leb (c .before .end-on .ensures .0) (c .start-on .ensures)
 

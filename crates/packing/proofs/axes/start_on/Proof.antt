@@ -2,18 +2,13 @@ use Rattle.packing.proofs.LastAxis.{start-last}
 use borrow.Author.Needs.{needs}
 use Rattle.packing.proofs.axes.start_on.Statement.{statement}
 use Rattle.packing.proofs.axes.start_on.Tie as tie
-use Rattle.packing.proofs.axes.start_on.Reads as reads
-use Rattle.packing.proofs.axes.start_on.Lts as lts
 
--- src/axes.rt:19:1
 returns : tie.Need-returns
 returns c = search needs
 
--- src/axes.rt:19:1
 returns-2 : tie.Need-returns-2
 returns-2 c = search needs
 
--- src/axes.rt:19:1
 returns-3 : tie.Need-returns-3
 returns-3 c = start-last _ _ (c .match .rest .0 .1) (c .match .rest .1)
 

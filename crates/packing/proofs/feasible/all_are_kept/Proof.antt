@@ -1,20 +1,15 @@
 use borrow.Author.Needs.{needs}
 use borrow.Author.Tests.{not-true, not-false}
 use native.Mathlib.Omega.{arith}
-use Prim.Native.Nat.{ℕ, _+_, _-_, _≤_, _<_}
-use mathlib.Core.Bool.{true, false}
-use mathlib.Core.Path.{_≡_, refl, sym, _∙_}
-use lib.ListN.{length, getD, take, drop}
+use Prim.Native.Nat.{_-_, _≤_}
+use mathlib.Core.Path.{_≡_, refl, sym}
+use lib.ListN.{length, take, drop}
 use Rattle.records.specs.Sizes.{no-precedence}
 use Rattle.records.proofs.Tests.{part-next, part-done}
-use Rattle.packing.specs.Parts.{Named, kept, all-kept}
+use Rattle.packing.specs.Parts.{all-kept}
 use Rattle.packing.proofs.Loops.{all-kept-next, all-kept-done, kept-is}
 use Rattle.packing.proofs.feasible.all_are_kept.Statement.{statement}
 use Rattle.packing.proofs.feasible.all_are_kept.Tie as tie
-use Rattle.packing.proofs.feasible.all_are_kept.Reads as reads
-use Rattle.packing.proofs.feasible.all_are_kept.Lts as lts
-use Rattle.packing.proofs.axes.ends_before.Reads as ends-before-reads
-use Rattle.packing.proofs.axes.placed_item.Reads as placed-item-reads
 
 abbrev Inv-loop : tie.InvT-loop
 Inv-loop items positions m precedences i₀ i = (i ≤ m) × (all-kept items positions (drop i (take m precedences)) ≡ all-kept items positions (take m precedences))
@@ -26,39 +21,30 @@ abbrev μ-loop : tie.MeasureT-loop
 entries : (c : tie.Start Inv-loop μ-loop) → length (c .args .t3) ≡ 90
 entries c = search needs
 
--- src/feasible.rt:117:5
 loop-holds : tie.Need-loop-holds Inv-loop μ-loop
 loop-holds c = (omega arith, refl)
 
--- src/feasible.rt:118:17
 mul-o : tie.Need-mul-o Inv-loop μ-loop
 mul-o c = search needs
 
--- src/feasible.rt:118:17
 array-copy-out-o : tie.Need-array-copy-out-o Inv-loop μ-loop
 array-copy-out-o c = search needs
 
--- src/feasible.rt:119:17
 cast-u : tie.Need-cast-u Inv-loop μ-loop
 cast-u c = search needs
 
--- src/feasible.rt:120:17
 cast-v : tie.Need-cast-v Inv-loop μ-loop
 cast-v c = search needs
 
--- src/feasible.rt:121:13
 placed-item-requires : tie.Need-placed-item-requires Inv-loop μ-loop
 placed-item-requires c κs = c .before .before .before .before .before .pre .1 .predecessor (c .before .before .before .before .loop .i) (c .before .before .before .loop-test .taken)
 
--- src/feasible.rt:122:13
 placed-item-requires-2 : tie.Need-placed-item-requires-2 Inv-loop μ-loop
 placed-item-requires-2 c κs = c .before .before .before .before .before .before .pre .1 .successor (c .before .before .before .before .before .loop .i) (c .before .before .before .before .loop-test .taken)
 
--- src/feasible.rt:123:13
 ends-before-requires : tie.Need-ends-before-requires Inv-loop μ-loop
 ends-before-requires c κs = search needs
 
--- src/feasible.rt:124:13
 returns : tie.Need-returns Inv-loop μ-loop
 returns c =
     let l = c .before .before .before .before .before .before .before .before .loop in
@@ -66,15 +52,12 @@ returns c =
     let h = entries (c .before .before .before .before .before .before .before .before .before) in
     sym (rw (← (l .inv .1), part-next (a .m) (l .i) (a .t3) (omega arith) no-precedence (omega arith), all-kept-next, kept-is _ _ _ (c .before .before .before .placed-item .ensures) (c .before .before .placed-item2 .ensures) (c .before .ends-before .ensures), not-true (c .before .ends-before .result) (c .if1 .taken)) refl)
 
--- src/feasible.rt:126:13
 add-i : tie.Need-add-i Inv-loop μ-loop
 add-i c = search needs
 
--- src/feasible.rt:117:5
 loop-less : tie.Need-loop-less Inv-loop μ-loop
 loop-less c = search needs
 
--- src/feasible.rt:117:5
 loop-again : tie.Need-loop-again Inv-loop μ-loop
 loop-again c =
     let l = c .before .before .before .before .before .before .before .before .loop in
@@ -82,7 +65,6 @@ loop-again c =
     let h = entries (c .before .before .before .before .before .before .before .before .before) in
     (omega arith, sym (rw (← (l .inv .1), part-next (a .m) (l .i) (a .t3) (omega arith) no-precedence (omega arith), all-kept-next, kept-is _ _ _ (c .before .before .before .placed-item .ensures) (c .before .before .placed-item2 .ensures) (c .before .ends-before .ensures), not-false (c .before .ends-before .result) (c .if1 .left)) refl))
 
--- src/feasible.rt:107:1
 returns-2 : tie.Need-returns-2 Inv-loop μ-loop
 returns-2 c =
     let l = c .before .loop in

@@ -1,8 +1,8 @@
 use borrow.Author.Needs.{needs}
 use borrow.Author.Tests.{not-true, not-false}
 use native.Mathlib.Omega.{arith}
-use Prim.Native.Nat.{ℕ, _+_, _-_, _≤_}
-use mathlib.Core.Bool.{true, false}
+use Prim.Native.Nat.{_-_, _≤_}
+use mathlib.Core.Bool.{true}
 use mathlib.Core.Path.{_≡_, refl, sym, _∙_}
 use Rattle.model.specs.Below.{all-below}
 use Rattle.instance.specs.Meaning.{problem-of, positions-of}
@@ -11,9 +11,6 @@ use Rattle.packing.specs.Parts.{apart-from-lower}
 use Rattle.packing.proofs.Loops.{all-more, all-fails, all-done}
 use Rattle.packing.proofs.feasible.apart_from_lower_items.Statement.{statement}
 use Rattle.packing.proofs.feasible.apart_from_lower_items.Tie as tie
-use Rattle.packing.proofs.feasible.apart_from_lower_items.Reads as reads
-use Rattle.packing.proofs.feasible.apart_from_lower_items.Lts as lts
-use Rattle.packing.proofs.feasible.apart_on_some_axis.Reads as apart-on-some-axis-reads
 
 abbrev Inv-loop : tie.InvT-loop
 Inv-loop instance packing u v₀ v = (v ≤ u) × (all-below v (apart-on-some-axis (problem-of instance) (positions-of packing) u) ≡ true)
@@ -21,32 +18,25 @@ Inv-loop instance packing u v₀ v = (v ≤ u) × (all-below v (apart-on-some-ax
 abbrev μ-loop : tie.MeasureT-loop
 μ-loop instance packing u v₀ v = u - v
 
--- src/feasible.rt:83:5
 loop-holds : tie.Need-loop-holds Inv-loop μ-loop
 loop-holds c = (omega arith, refl)
 
--- src/feasible.rt:84:13
 apart-on-some-axis-requires : tie.Need-apart-on-some-axis-requires Inv-loop μ-loop
 apart-on-some-axis-requires c κs = search needs
 
--- src/feasible.rt:85:13
 returns : tie.Need-returns Inv-loop μ-loop
 unfolding apart-from-lower
 returns c = sym (all-fails (c .before .before .before .before .args .u) (apart-on-some-axis _ _ _) (c .before .before .before .loop .v) (c .before .before .loop-test .taken) (sym (c .before .apart-on-some-axis .ensures) ∙ not-true _ (c .if1 .taken)))
 
--- src/feasible.rt:87:13
 add-v : tie.Need-add-v Inv-loop μ-loop
 add-v c = search needs
 
--- src/feasible.rt:83:5
 loop-less : tie.Need-loop-less Inv-loop μ-loop
 loop-less c = search needs
 
--- src/feasible.rt:83:5
 loop-again : tie.Need-loop-again Inv-loop μ-loop
 loop-again c = (search needs, all-more _ (apart-on-some-axis _ _ _) (c .before .before .before .loop .inv .1) (sym (c .before .apart-on-some-axis .ensures) ∙ not-false _ (c .if1 .left)))
 
--- src/feasible.rt:78:1
 returns-2 : tie.Need-returns-2 Inv-loop μ-loop
 unfolding apart-from-lower
 returns-2 c = sym (all-done (c .before .before .args .u) (apart-on-some-axis _ _ _) (c .before .loop .v) (c .before .loop .inv .1) (c .before .loop .inv .0) (c .loop-test .left))

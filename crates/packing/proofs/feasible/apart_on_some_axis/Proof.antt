@@ -1,17 +1,13 @@
 use borrow.Author.Needs.{needs}
 use native.Mathlib.Omega.{arith}
-use Prim.Native.Nat.{ℕ, _+_, _-_, _≤_}
-use mathlib.Core.Bool.{true, false}
+use Prim.Native.Nat.{_-_, _≤_}
+use mathlib.Core.Bool.{false}
 use mathlib.Core.Path.{_≡_, refl, sym, _∙_}
 use Rattle.model.specs.Below.{some-below}
 use Rattle.model.proofs.Below.{some-of}
 use Rattle.packing.proofs.Loops.{some-more, parted-on, parted-left, parted-right, not-parted, parted-by}
 use Rattle.packing.proofs.feasible.apart_on_some_axis.Statement.{statement}
 use Rattle.packing.proofs.feasible.apart_on_some_axis.Tie as tie
-use Rattle.packing.proofs.feasible.apart_on_some_axis.Reads as reads
-use Rattle.packing.proofs.feasible.apart_on_some_axis.Lts as lts
-use Rattle.packing.proofs.axes.ends_before.Reads as ends-before-reads
-use Rattle.packing.proofs.axes.placed_item.Reads as placed-item-reads
 
 abbrev Inv-loop : tie.InvT-loop
 Inv-loop u v first second axis₀ axis = (axis ≤ 3) × (some-below axis (parted-on first second) ≡ false)
@@ -19,47 +15,36 @@ Inv-loop u v first second axis₀ axis = (axis ≤ 3) × (some-below axis (parte
 abbrev μ-loop : tie.MeasureT-loop
 μ-loop u v first second axis₀ axis = 3 - axis
 
--- src/feasible.rt:60:9
 placed-item-requires : tie.Need-placed-item-requires Inv-loop μ-loop
 placed-item-requires c κs = search needs
 
--- src/feasible.rt:61:9
 placed-item-requires-2 : tie.Need-placed-item-requires-2 Inv-loop μ-loop
 placed-item-requires-2 c κs = search needs
 
--- src/feasible.rt:63:5
 loop-holds : tie.Need-loop-holds Inv-loop μ-loop
 loop-holds c = (omega arith, refl)
 
--- src/feasible.rt:64:12
 ends-before-requires : tie.Need-ends-before-requires Inv-loop μ-loop
 ends-before-requires c κs = search needs
 
--- src/feasible.rt:65:13
 returns : tie.Need-returns Inv-loop μ-loop
 returns c = sym (parted-by _ _ _ _ ∙ rw (← (c .before .before .before .before .before .placed-item .ensures), ← (c .before .before .before .before .placed-item2 .ensures)) (some-of 3 (parted-on _ _) (c .before .before .before .loop .axis) (c .before .before .loop-test .taken) (parted-left _ _ _ (c .before .ends-before .ensures) (c .if1 .taken))))
 
--- src/feasible.rt:67:12
 ends-before-requires-2 : tie.Need-ends-before-requires-2 Inv-loop μ-loop
 ends-before-requires-2 c κs = search needs
 
--- src/feasible.rt:68:13
 returns-2 : tie.Need-returns-2 Inv-loop μ-loop
 returns-2 c = sym (parted-by _ _ _ _ ∙ rw (← (c .before .before .before .before .before .before .before .placed-item .ensures), ← (c .before .before .before .before .before .before .placed-item2 .ensures)) (some-of 3 (parted-on _ _) (c .before .before .before .before .before .loop .axis) (c .before .before .before .before .loop-test .taken) (parted-right _ _ _ (c .before .ends-before2 .ensures) (c .if2 .taken))))
 
--- src/feasible.rt:70:16
 add-axis : tie.Need-add-axis Inv-loop μ-loop
 add-axis c = search needs
 
--- src/feasible.rt:63:5
 loop-less : tie.Need-loop-less Inv-loop μ-loop
 loop-less c = search needs
 
--- src/feasible.rt:63:5
 loop-again : tie.Need-loop-again Inv-loop μ-loop
 loop-again c = (search needs, some-more (c .before .before .before .before .before .loop .axis) _ (c .before .before .before .before .before .loop .inv .1) (not-parted _ _ _ (c .before .before .before .ends-before .ensures) (c .before .ends-before2 .ensures) (c .before .before .if1 .left) (c .if2 .left)))
 
--- src/feasible.rt:54:1
 returns-3 : tie.Need-returns-3 Inv-loop μ-loop
 returns-3 c = sym (parted-by _ _ _ _ ∙ rw (← (c .before .before .before .placed-item .ensures), ← (c .before .before .placed-item2 .ensures)) (let e : c .before .loop .axis ≡ 3 = omega arith in rw e at (c .before .loop .inv .1)))
 

@@ -1,8 +1,8 @@
 use borrow.Author.Needs.{needs}
 use borrow.Author.Tests.{not-true, not-false}
 use native.Mathlib.Omega.{arith}
-use Prim.Native.Nat.{ℕ, _+_, _-_, _≤_}
-use mathlib.Core.Bool.{true, false}
+use Prim.Native.Nat.{_-_, _≤_}
+use mathlib.Core.Bool.{true}
 use mathlib.Core.Path.{_≡_, refl, sym, _∙_}
 use Rattle.model.specs.Below.{all-below}
 use Rattle.instance.specs.Meaning.{problem-of, positions-of}
@@ -10,9 +10,6 @@ use Rattle.packing.specs.Parts.{inside-on}
 use Rattle.packing.proofs.Loops.{all-more, all-fails, all-done, inside-loop}
 use Rattle.packing.proofs.feasible.inside.Statement.{statement}
 use Rattle.packing.proofs.feasible.inside.Tie as tie
-use Rattle.packing.proofs.feasible.inside.Reads as reads
-use Rattle.packing.proofs.feasible.inside.Lts as lts
-use Rattle.packing.proofs.feasible.inside_on_axis.Reads as inside-on-axis-reads
 
 abbrev Inv-loop : tie.InvT-loop
 Inv-loop instance packing axis₀ axis = (axis ≤ 3) × (all-below axis (inside-on (problem-of instance) (positions-of packing)) ≡ true)
@@ -20,31 +17,24 @@ Inv-loop instance packing axis₀ axis = (axis ≤ 3) × (all-below axis (inside
 abbrev μ-loop : tie.MeasureT-loop
 μ-loop instance packing axis₀ axis = 3 - axis
 
--- src/feasible.rt:42:5
 loop-holds : tie.Need-loop-holds Inv-loop μ-loop
 loop-holds c = (omega arith, refl)
 
--- src/feasible.rt:43:13
 inside-on-axis-requires : tie.Need-inside-on-axis-requires Inv-loop μ-loop
 inside-on-axis-requires c κs = search needs
 
--- src/feasible.rt:44:13
 returns : tie.Need-returns Inv-loop μ-loop
 returns c = sym (inside-loop _ _ ∙ all-fails 3 (inside-on _ _) (c .before .before .before .loop .axis) (c .before .before .loop-test .taken) (sym (c .before .inside-on-axis .ensures) ∙ not-true _ (c .if1 .taken)))
 
--- src/feasible.rt:46:16
 add-axis : tie.Need-add-axis Inv-loop μ-loop
 add-axis c = search needs
 
--- src/feasible.rt:42:5
 loop-less : tie.Need-loop-less Inv-loop μ-loop
 loop-less c = search needs
 
--- src/feasible.rt:42:5
 loop-again : tie.Need-loop-again Inv-loop μ-loop
 loop-again c = (search needs, all-more _ (inside-on _ _) (c .before .before .before .loop .inv .1) (sym (c .before .inside-on-axis .ensures) ∙ not-false _ (c .if1 .left)))
 
--- src/feasible.rt:37:1
 returns-2 : tie.Need-returns-2 Inv-loop μ-loop
 returns-2 c = sym (inside-loop _ _ ∙ all-done 3 (inside-on _ _) (c .before .loop .axis) (c .before .loop .inv .1) (c .before .loop .inv .0) (c .loop-test .left))
 

@@ -1,17 +1,12 @@
 use borrow.Author.Needs.{needs}
 use native.Mathlib.Omega.{arith}
-use Prim.Native.Nat.{ℕ, _+_, _-_, _≤_}
-use mathlib.Core.Bool.{true, false}
+use Prim.Native.Nat.{_-_, _≤_}
+use mathlib.Core.Bool.{true}
 use mathlib.Core.Path.{_≡_, refl, sym, _∙_}
 use Rattle.model.specs.Below.{all-below}
 use Rattle.packing.proofs.Loops.{all-more, all-fails, all-done, within-limit, within-limit-true, within-limit-false, inside-by}
 use Rattle.packing.proofs.feasible.inside_on_axis.Statement.{statement}
 use Rattle.packing.proofs.feasible.inside_on_axis.Tie as tie
-use Rattle.packing.proofs.feasible.inside_on_axis.Reads as reads
-use Rattle.packing.proofs.feasible.inside_on_axis.Lts as lts
-use Rattle.packing.proofs.axes.end_on.Reads as end-on-reads
-use Rattle.packing.proofs.axes.measure_on.Reads as measure-on-reads
-use Rattle.packing.proofs.axes.placed_item.Reads as placed-item-reads
 
 abbrev Inv-loop : tie.InvT-loop
 Inv-loop axis items count positions limit u₀ u = (u ≤ count) × (all-below u (within-limit items positions axis limit) ≡ true)
@@ -19,39 +14,30 @@ Inv-loop axis items count positions limit u₀ u = (u ≤ count) × (all-below u
 abbrev μ-loop : tie.MeasureT-loop
 μ-loop axis items count positions limit u₀ u = count - u
 
--- src/feasible.rt:26:17
 measure-on-requires : tie.Need-measure-on-requires Inv-loop μ-loop
 measure-on-requires c κs = search needs
 
--- src/feasible.rt:26:17
 cast-limit : tie.Need-cast-limit Inv-loop μ-loop
 cast-limit c = search needs
 
--- src/feasible.rt:28:5
 loop-holds : tie.Need-loop-holds Inv-loop μ-loop
 loop-holds c = (omega arith, refl)
 
--- src/feasible.rt:29:13
 placed-item-requires : tie.Need-placed-item-requires Inv-loop μ-loop
 placed-item-requires c κs = search needs
 
--- src/feasible.rt:30:20
 end-on-requires : tie.Need-end-on-requires Inv-loop μ-loop
 end-on-requires c κs = search needs
 
--- src/feasible.rt:31:13
 returns : tie.Need-returns Inv-loop μ-loop
 returns c = sym (inside-by _ _ _ ∙ rw (← (c .before .before .before .before .before .measure-on .ensures)) (all-fails _ (within-limit _ _ _ _) (c .before .before .before .before .loop .u) (c .before .before .before .loop-test .taken) (within-limit-false _ _ _ _ _ (c .before .before .placed-item .ensures) (c .before .end-on .ensures .0) (c .if1 .taken))))
 
--- src/feasible.rt:33:13
 add-u : tie.Need-add-u Inv-loop μ-loop
 add-u c = search needs
 
--- src/feasible.rt:28:5
 loop-less : tie.Need-loop-less Inv-loop μ-loop
 loop-less c = search needs
 
--- src/feasible.rt:28:5
 loop-again : tie.Need-loop-again Inv-loop μ-loop
 loop-again c = (
   search needs,
@@ -59,7 +45,6 @@ loop-again c = (
       (within-limit-true _ _ _ _ _ (c .before .before .placed-item .ensures) (c .before .end-on .ensures .0) (c .if1 .left)),
 )
 
--- src/feasible.rt:18:1
 returns-2 : tie.Need-returns-2 Inv-loop μ-loop
 returns-2 c = sym (inside-by _ _ _ ∙ rw (← (c .before .before .measure-on .ensures)) (all-done _ (within-limit _ _ _ _) (c .before .loop .u) (c .before .loop .inv .1) (c .before .loop .inv .0) (c .loop-test .left)))
 

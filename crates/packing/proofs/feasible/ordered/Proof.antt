@@ -3,15 +3,10 @@ use Rattle.packing.proofs.Named.{limits}
 use Rattle.packing.proofs.Loops.{ordered-by}
 use Rattle.packing.proofs.feasible.ordered.Statement.{statement}
 use Rattle.packing.proofs.feasible.ordered.Tie as tie
-use Rattle.packing.proofs.feasible.ordered.Reads as reads
-use Rattle.packing.proofs.feasible.ordered.Lts as lts
-use Rattle.packing.proofs.feasible.all_are_kept.Reads as all-are-kept-reads
 
--- src/feasible.rt:142:5
 all-are-kept-requires : tie.Need-all-are-kept-requires
 all-are-kept-requires c κs = let l = limits (c .before .before .before .args .instance) (c .before .before .before .pre) in (l .few-precedences, l .named-items)
 
--- src/feasible.rt:135:1
 returns : tie.Need-returns
 returns c = c .all-are-kept .ensures ∙ sym (ordered-by _ _)
 

@@ -1,39 +1,28 @@
-use mathlib.Core.Path.{_≡_, refl, sym, _∙_, ap₂}
+use mathlib.Core.Path.{_∙_, ap₂}
 use mir.Syntax.{w32}
 use mir.ValLaws.{toZ-ofZ}
-use Rattle.instance.specs.Meaning.{measure, start, problem-of, positions-of}
+use Rattle.instance.specs.Meaning.{problem-of, positions-of}
 use Rattle.packing.specs.Parts.{end-of}
 use Rattle.packing.specs.Clearance.{greater-of, from-end-to-start, clearance-between}
 use borrow.Author.Needs.{needs}
 use Rattle.packing.proofs.signed.clearance_on.Statement.{statement}
 use Rattle.packing.proofs.signed.clearance_on.Tie as tie
-use Rattle.packing.proofs.signed.clearance_on.Reads as reads
-use Rattle.packing.proofs.signed.clearance_on.Lts as lts
-use Rattle.packing.proofs.axes.placed_item.Reads as placed-item-reads
-use Rattle.packing.proofs.signed.from_end.Reads as from-end-reads
-use Rattle.packing.proofs.signed.greater.Reads as greater-reads
 
--- src/signed.rt:34:9
 placed-item-requires : tie.Need-placed-item-requires
 placed-item-requires c κs = search needs
 
--- src/signed.rt:35:9
 placed-item-requires-2 : tie.Need-placed-item-requires-2
 placed-item-requires-2 c κs = search needs
 
--- src/signed.rt:36:13
 from-end-requires : tie.Need-from-end-requires
 from-end-requires c κs = search needs
 
--- src/signed.rt:36:44
 from-end-requires-2 : tie.Need-from-end-requires-2
 from-end-requires-2 c κs = search needs
 
--- src/signed.rt:36:5
 greater-requires : tie.Need-greater-requires
 greater-requires c κs = search needs
 
--- src/signed.rt:28:1
 returns : tie.Need-returns
 unfolding clearance-between from-end-to-start end-of problem-of positions-of
 returns c =
