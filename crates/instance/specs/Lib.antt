@@ -4,3 +4,4 @@ pub mod Meaning
 pub mod Decode
 pub mod Encode
 pub mod Record
+pub mod Faults
