@@ -54,14 +54,14 @@ sheet-most i h α =
     omega (arith, encode-length i, size-most (i .container), field-most 0 (i .«yard_number»), σ .items-few, σ .precedences-few)
 
 -- a sheet of that length: ten pieces with three written measures each, an order for every two, a yard number
-two : Size
+unfoldable pub two : Size
 two = record { width = 2; depth = 2; shifts = 2 }
 
-orders-of : ℕ → ℕ → List Precedence
+unfoldable pub orders-of : ℕ → ℕ → List Precedence
 orders-of u zero = []
 orders-of u (suc n) = elim (eqb u (9 - n)) as (λ _. List Precedence) [ true ↦ orders-of u n | false ↦ record { predecessor = u; successor = 9 - n } ∷ orders-of u n ]
 
-orders-from : ℕ → List Precedence
+unfoldable pub orders-from : ℕ → List Precedence
 orders-from zero = []
 orders-from (suc n) = orders-of (9 - n) 10 ++ orders-from n
 
