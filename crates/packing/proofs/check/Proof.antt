@@ -1,3 +1,4 @@
+-- `packing::check` meets its contract.
 use mathlib.Core.Path.{refl, sym, _∙_}
 use borrow.Author.Tests.{not-true, not-false}
 use Rattle.model.specs.Problem.{feasible}

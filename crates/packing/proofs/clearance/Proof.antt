@@ -1,3 +1,4 @@
+-- `packing::clearance` meets its contract.
 use Rattle.packing.proofs.Answers.{answered}
 use Rattle.packing.specs.declared.ClearanceAnswer.the-variants.{Clearance}
 use mathlib.Core.Path.{refl, sym, ap, _∙_}

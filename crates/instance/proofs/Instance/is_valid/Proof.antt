@@ -1,47 +1,35 @@
+-- `instance::Instance::is_valid` meets its contract.
 use borrow.Author.Tests.{le-leb, lt-leb, not-true, not-false}
 use Rattle.instance.specs.Valid.{valid}
 use borrow.Author.Needs.{needs}
 use Rattle.instance.proofs.Instance.is_valid.Statement.{statement}
 use Rattle.instance.proofs.Instance.is_valid.Tie as tie
-use Rattle.instance.proofs.Instance.is_valid.Reads as reads
-use Rattle.instance.proofs.Instance.is_valid.Lts as lts
-use Rattle.records.proofs.stand.all_positive.Reads as all-positive-reads
-use Rattle.records.proofs.stand.all_stand_in.Reads as all-stand-in-reads
-use Rattle.records.proofs.stand.is_positive.Reads as is-positive-reads
 
--- src/lib.rt:71:13
 returns : tie.Need-returns
 unfolding valid
 returns c = simp (lt-leb _ _ (c .if1 .taken))
 
--- src/lib.rt:74:13
 returns-2 : tie.Need-returns-2
 unfolding valid
 returns-2 c = simp (le-leb _ _ (c .before .if1 .left), lt-leb _ _ (c .if2 .taken))
 
--- src/lib.rt:77:13
 is-positive-requires : tie.Need-is-positive-requires
 is-positive-requires c κs = search needs
 
--- src/lib.rt:78:13
 returns-3 : tie.Need-returns-3
 unfolding valid
 returns-3 c = simp (le-leb _ _ (c .before .before .before .before .if1 .left), le-leb _ _ (c .before .before .before .if2 .left), ← (c .before .is-positive .ensures), not-true (c .before .is-positive .result) (c .if3 .taken))
 
--- src/lib.rt:81:13
 all-positive-requires : tie.Need-all-positive-requires
 all-positive-requires c κs = search needs
 
--- src/lib.rt:82:13
 returns-4 : tie.Need-returns-4
 unfolding valid
 returns-4 c = simp (le-leb _ _ (c .before .before .before .before .before .before .before .if1 .left), le-leb _ _ (c .before .before .before .before .before .before .if2 .left), ← (c .before .before .before .before .is-positive .ensures), not-false (c .before .before .before .before .is-positive .result) (c .before .before .before .if3 .left), ← (c .before .all-positive .ensures), not-true (c .before .all-positive .result) (c .if4 .taken))
 
--- src/lib.rt:85:9
 all-stand-in-requires : tie.Need-all-stand-in-requires
 all-stand-in-requires c κs = search needs
 
--- src/lib.rt:65:5
 returns-5 : tie.Need-returns-5
 unfolding valid
 returns-5 c = simp (le-leb _ _ (c .before .before .before .before .before .before .before .before .before .if1 .left), le-leb _ _ (c .before .before .before .before .before .before .before .before .if2 .left), ← (c .before .before .before .before .before .before .is-positive .ensures), not-false (c .before .before .before .before .before .before .is-positive .result) (c .before .before .before .before .before .if3 .left), ← (c .before .before .before .all-positive .ensures), not-false (c .before .before .before .all-positive .result) (c .before .before .if4 .left)) (c .all-stand-in .ensures)

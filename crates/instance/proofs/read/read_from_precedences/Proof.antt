@@ -1,7 +1,7 @@
+-- `instance::read::read_from_precedences` meets its contract.
 use native.Mathlib.Omega.{arith}
-use native.Mathlib.Nat.{add-assoc}
-use mathlib.Core.Path.{_≡_, refl, sym, _∙_}
-use lib.ListN.{length, length-drop}
+use mathlib.Core.Path.{_∙_}
+use lib.ListN.{length-drop}
 use Rattle.records.specs.Sizes.{no-precedence}
 use Rattle.records.proofs.Readers.{rest-of}
 use Rattle.instance.specs.Decode.{from-precedences}
@@ -9,50 +9,34 @@ use Rattle.instance.proofs.Drafts.{items-many, blank-filled}
 use borrow.Author.Needs.{needs}
 use Rattle.instance.proofs.read.read_from_precedences.Statement.{statement}
 use Rattle.instance.proofs.read.read_from_precedences.Tie as tie
-use Rattle.instance.proofs.read.read_from_precedences.Reads as reads
-use Rattle.instance.proofs.read.read_from_precedences.Lts as lts
-use Rattle.instance.proofs.read.read_from_yard.Reads as read-from-yard-reads
-use Rattle.instance.proofs.read.read_precedence_list.Reads as read-precedence-list-reads
-use Rattle.instance.proofs.read.refuse.Reads as refuse-reads
-use Rattle.records.proofs.read.bit_stands.Reads as bit-stands-reads
 
--- src/read.rt:179:50
 bit-stands-requires : tie.Need-bit-stands-requires
 bit-stands-requires c κs = search needs
 
--- src/read.rt:179:9
 read-precedence-list-requires : tie.Need-read-precedence-list-requires
 read-precedence-list-requires c κs = search needs
 
--- src/read.rt:182:23
 enum-known-stop : tie.Need-enum-known-stop
 enum-known-stop c = search needs
 
--- src/read.rt:182:29
 refuse-requires : tie.Need-refuse-requires
 refuse-requires c κs = search needs
 
--- src/read.rt:183:21
 enum-known-stop-2 : tie.Need-enum-known-stop-2
 enum-known-stop-2 c = search needs
 
--- src/read.rt:188:28
 sub-read-from-yard : tie.Need-sub-read-from-yard
 sub-read-from-yard c = let w = rw (c .before .before .stop2 .given .1) at (c .before .before .before .before .read-precedence-list .ensures .1 .0 .0) in omega arith
 
--- src/read.rt:188:28
 part-read-from-yard-start : tie.Need-part-read-from-yard-start
 part-read-from-yard-start c = let w = rw (c .before .before .stop2 .given .1) at (c .before .before .before .before .read-precedence-list .ensures .1 .0 .0) in omega arith
 
--- src/read.rt:188:28
 part-read-from-yard-end : tie.Need-part-read-from-yard-end
 part-read-from-yard-end c = search needs
 
--- src/read.rt:188:43
 add-read-from-yard : tie.Need-add-read-from-yard
 add-read-from-yard c = let w = rw (c .before .before .before .stop2 .given .1) at (c .before .before .before .before .before .read-precedence-list .ensures .1 .0 .0) in omega arith
 
--- src/read.rt:188:13
 read-from-yard-requires : tie.Need-read-from-yard-requires
 read-from-yard-requires c κs =
     let w = rw (c .before .before .before .stop2 .given .1) at (c .before .before .before .before .before .read-precedence-list .ensures .1 .0 .0) in
@@ -67,7 +51,6 @@ read-from-yard-requires c κs =
       },
     )
 
--- src/read.rt:174:1
 returns : tie.Need-returns
 unfolding from-precedences
 returns c =
@@ -75,7 +58,6 @@ returns c =
     let e = rw (c .before .before .stop .given .1) at (c .before .before .before .before .read-precedence-list .ensures .0) in
     c .refuse .ensures ∙ simp (items-many (a .draft) (c .before .before .before .before .before .before .before .pre .1), ← (c .before .before .before .before .before .bit-stands .ensures), e)
 
--- src/read.rt:174:1
 returns-2 : tie.Need-returns-2
 unfolding from-precedences
 returns-2 c =

@@ -1,26 +1,21 @@
+-- `instance::write::precedence_list_len` meets its contract.
 use native.Mathlib.Omega.{arith}
 use mathlib.Core.Path.{_≡_}
 use lib.ListN.{length}
-use Rattle.instance.proofs.Sheets.{counted-none, counted-some, precedences-two}
+use Rattle.instance.proofs.Sheets.{counted-some, precedences-two}
 use borrow.Author.Needs.{needs}
 use Rattle.instance.proofs.write.precedence_list_len.Statement.{statement}
 use Rattle.instance.proofs.write.precedence_list_len.Tie as tie
-use Rattle.instance.proofs.write.precedence_list_len.Reads as reads
-use Rattle.instance.proofs.write.precedence_list_len.Lts as lts
 
--- src/write.rt:46:9
 returns : tie.Need-returns
 returns c = search needs
 
--- src/write.rt:48:9
 mul-result : tie.Need-mul-result
 mul-result c = search needs
 
--- src/write.rt:48:5
 add-result : tie.Need-add-result
 add-result c = search needs
 
--- src/write.rt:41:1
 returns-2 : tie.Need-returns-2
 returns-2 c =
     let a = c .before .args in

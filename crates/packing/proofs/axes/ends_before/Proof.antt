@@ -1,3 +1,4 @@
+-- `packing::axes::ends_before` meets its contract.
 use mathlib.Core.Path.{ap₂}
 use lib.Dec.{leb}
 use borrow.Author.Needs.{needs}

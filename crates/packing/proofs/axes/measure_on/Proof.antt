@@ -1,3 +1,4 @@
+-- `packing::axes::measure_on` meets its contract.
 use Rattle.packing.proofs.LastAxis.{measure-last}
 use borrow.Author.Needs.{needs}
 use Rattle.packing.proofs.axes.measure_on.Statement.{statement}

@@ -1,3 +1,4 @@
+-- `packing::axes::start_on` meets its contract.
 use Rattle.packing.proofs.LastAxis.{start-last}
 use borrow.Author.Needs.{needs}
 use Rattle.packing.proofs.axes.start_on.Statement.{statement}

@@ -1,3 +1,4 @@
+-- `packing::feasible::all_are_kept` meets its contract.
 use borrow.Author.Needs.{needs}
 use borrow.Author.Tests.{not-true, not-false}
 use native.Mathlib.Omega.{arith}

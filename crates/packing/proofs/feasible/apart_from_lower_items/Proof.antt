@@ -1,3 +1,4 @@
+-- `packing::feasible::apart_from_lower_items` meets its contract.
 use borrow.Author.Needs.{needs}
 use borrow.Author.Tests.{not-true, not-false}
 use native.Mathlib.Omega.{arith}

@@ -1,3 +1,4 @@
+-- `packing::feasible::inside_on_axis` meets its contract.
 use borrow.Author.Needs.{needs}
 use native.Mathlib.Omega.{arith}
 use Prim.Native.Nat.{_-_, _≤_}

@@ -1,3 +1,4 @@
+-- `packing::feasible::ordered` meets its contract.
 use mathlib.Core.Path.{sym, _∙_}
 use Rattle.packing.proofs.Named.{limits}
 use Rattle.packing.proofs.Loops.{ordered-by}

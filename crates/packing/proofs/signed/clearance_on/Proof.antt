@@ -1,3 +1,4 @@
+-- `packing::signed::clearance_on` meets its contract.
 use mathlib.Core.Path.{_∙_, ap₂}
 use mir.Syntax.{w32}
 use mir.ValLaws.{toZ-ofZ}

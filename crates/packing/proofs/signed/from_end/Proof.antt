@@ -1,3 +1,4 @@
+-- `packing::signed::from_end` meets its contract.
 use native.Mathlib.Omega.{arith}
 use mathlib.Core.Path.{_∙_, ap₂}
 use lib.IntN.{pos, _-ℤ_}

@@ -1,3 +1,4 @@
+-- `packing::signed::greater` meets its contract.
 use mir.Syntax.{w32}
 use mir.ValLaws.{toZ-ofZ}
 use Rattle.packing.specs.Clearance.{greater-of}

@@ -1,36 +1,28 @@
+-- `records::read::both_items` meets its contract.
 use Rattle.records.specs.Precedences.{names-items}
 use borrow.Author.Tests.{lt-ltb, le-ltb, eq-eqb, ne-eqb}
 use borrow.Author.Needs.{needs}
 use Rattle.records.proofs.read.both_items.Statement.{statement}
 use Rattle.records.proofs.read.both_items.Tie as tie
-use Rattle.records.proofs.read.both_items.Reads as reads
-use Rattle.records.proofs.read.both_items.Lts as lts
-use Rattle.records.proofs.read.index.Reads as index-reads
 
--- src/read.rt:132:13
 index-requires : tie.Need-index-requires
 index-requires c κs = search needs
 
--- src/read.rt:133:9
 returns : tie.Need-returns
 unfolding names-items
 returns c = simp (le-ltb _ _ (rw (c .before .index .ensures) at (c .if1 .taken)))
 
--- src/read.rt:135:13
 index-requires-2 : tie.Need-index-requires-2
 index-requires-2 c κs = search needs
 
--- src/read.rt:136:9
 returns-2 : tie.Need-returns-2
 unfolding names-items
 returns-2 c = simp (lt-ltb _ _ (rw (c .before .before .before .index .ensures) at (c .before .before .if1 .left)), le-ltb _ _ (rw (c .before .index2 .ensures) at (c .if2 .taken)))
 
--- src/read.rt:139:9
 returns-3 : tie.Need-returns-3
 unfolding names-items
 returns-3 c = simp (lt-ltb _ _ (rw (c .before .before .before .before .before .index .ensures) at (c .before .before .before .before .if1 .left)), lt-ltb _ _ (rw (c .before .before .before .index2 .ensures) at (c .before .before .if2 .left)), eq-eqb _ _ (c .if3 .taken))
 
--- src/read.rt:129:1
 returns-4 : tie.Need-returns-4
 unfolding names-items
 returns-4 c = simp (lt-ltb _ _ (rw (c .before .before .before .before .before .index .ensures) at (c .before .before .before .before .if1 .left)), lt-ltb _ _ (rw (c .before .before .before .index2 .ensures) at (c .before .before .if2 .left)), ne-eqb _ _ (c .if3 .left))

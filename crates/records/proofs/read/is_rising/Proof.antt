@@ -1,34 +1,27 @@
+-- `records::read::is_rising` meets its contract.
 use Rattle.records.specs.Precedences.{above}
 use borrow.Author.Tests.{lt-ltb, le-ltb, eq-eqb, ne-eqb}
 use borrow.Author.Needs.{needs}
 use Rattle.records.proofs.read.is_rising.Statement.{statement}
 use Rattle.records.proofs.read.is_rising.Tie as tie
-use Rattle.records.proofs.read.is_rising.Reads as reads
-use Rattle.records.proofs.read.is_rising.Lts as lts
 
--- src/read.rt:149:30
 enum-told : tie.Need-enum-told
 enum-told c = search needs
 
--- src/read.rt:150:23
 enum-known-last : tie.Need-enum-known-last
 enum-known-last c = search needs
 
--- src/read.rt:152:17
 returns : tie.Need-returns
 unfolding above
 returns c = simp (c .before .before .before .before .last .given .1, lt-ltb _ _ (c .if1 .taken))
 
--- src/read.rt:155:17
 returns-2 : tie.Need-returns-2
 unfolding above
 returns-2 c = simp (c .before .before .before .before .before .before .before .before .before .last .given .1, le-ltb _ _ (c .before .before .before .before .before .if1 .left), eq-eqb _ _ (c .before .before .if2 .taken))
 
--- src/read.rt:145:1
 returns-3 : tie.Need-returns-3
 returns-3 c = search needs
 
--- src/read.rt:145:1
 returns-4 : tie.Need-returns-4
 unfolding above
 returns-4 c = simp (c .before .before .before .before .before .before .before .last .given .1, le-ltb _ _ (c .before .before .before .if1 .left), ne-eqb _ _ (c .if2 .left))

@@ -1,37 +1,29 @@
+-- `records::read::read_count` meets its contract.
 use Rattle.records.specs.Reading.{count}
 use Rattle.records.proofs.Readers.{byte-none, byte-one}
 use borrow.Author.Tests.{lt-ltb, le-ltb, eq-eqb, ne-eqb}
 use borrow.Author.Needs.{needs}
 use Rattle.records.proofs.read.read_count.Statement.{statement}
 use Rattle.records.proofs.read.read_count.Tie as tie
-use Rattle.records.proofs.read.read_count.Reads as reads
-use Rattle.records.proofs.read.read_count.Lts as lts
-use Rattle.records.proofs.read.wide.Reads as wide-reads
 
--- src/read.rt:116:9
 returns : tie.Need-returns
 unfolding count
 returns c = let a = c .before .before .args in (simp (byte-none (a .at) (a .rest .now) (c .if1 .taken)), tt)
 
--- src/read.rt:118:13
 shared-slice-read-n : tie.Need-shared-slice-read-n
 shared-slice-read-n c = search needs
 
--- src/read.rt:120:9
 returns-2 : tie.Need-returns-2
 unfolding count
 returns-2 c = let a = c .before .before .before .before .args in (simp (byte-one (a .at) (a .rest .now) (c .before .before .if1 .left), eq-eqb _ _ (c .if2 .taken)), tt)
 
--- src/read.rt:123:9
 returns-3 : tie.Need-returns-3
 unfolding count
 returns-3 c = let a = c .before .before .before .before .before .args in (simp (byte-one (a .at) (a .rest .now) (c .before .before .before .if1 .left), ne-eqb _ _ (c .before .if2 .left), lt-ltb _ _ (c .if3 .taken)), tt)
 
--- src/read.rt:125:22
 wide-requires : tie.Need-wide-requires
 wide-requires c κs = search needs
 
--- src/read.rt:111:1
 returns-4 : tie.Need-returns-4
 unfolding count
 returns-4 c = let a = c .before .before .before .before .before .before .args in (simp (byte-one (a .at) (a .rest .now) (c .before .before .before .before .if1 .left), ne-eqb _ _ (c .before .before .if2 .left), le-ltb _ _ (c .before .if3 .left), c .wide .ensures .0), search needs)

@@ -1,64 +1,50 @@
+-- `records::read::read_item` meets its contract.
 use Rattle.records.specs.Reading.{item}
 use Rattle.records.proofs.Readers.{rest-of, byte-none, byte-one}
 use borrow.Author.Tests.{lt-ltb, le-ltb}
 use native.Mathlib.Omega.{arith}
 use native.Mathlib.Nat.{add-assoc}
-use lib.ListN.{length, length-drop}
+use lib.ListN.{length-drop}
 use lib.Seq.{drop-drop}
 use borrow.Author.Needs.{needs}
 use Rattle.records.proofs.read.read_item.Statement.{statement}
 use Rattle.records.proofs.read.read_item.Tie as tie
-use Rattle.records.proofs.read.read_item.Reads as reads
-use Rattle.records.proofs.read.read_item.Lts as lts
-use Rattle.records.proofs.read.read_size.Reads as read-size-reads
 
--- src/read.rt:98:9
 returns : tie.Need-returns
 unfolding item
 returns c = let a = c .before .before .args in (simp (byte-none (a .at) (a .rest .now) (c .if1 .taken)), tt)
 
--- src/read.rt:100:15
 shared-slice-read-map : tie.Need-shared-slice-read-map
 shared-slice-read-map c = search needs
 
--- src/read.rt:102:9
 returns-2 : tie.Need-returns-2
 unfolding item
 returns-2 c = let a = c .before .before .before .before .args in (simp (byte-one (a .at) (a .rest .now) (c .before .before .if1 .left), lt-ltb _ _ (c .if2 .taken)), tt)
 
--- src/read.rt:104:21
 sub-read-size : tie.Need-sub-read-size
 sub-read-size c = search needs
 
--- src/read.rt:104:21
 part-read-size-start : tie.Need-part-read-size-start
 part-read-size-start c = search needs
 
--- src/read.rt:104:21
 part-read-size-end : tie.Need-part-read-size-end
 part-read-size-end c = search needs
 
--- src/read.rt:104:33
 add-read-size : tie.Need-add-read-size
 add-read-size c = search needs
 
--- src/read.rt:104:11
 read-size-requires : tie.Need-read-size-requires
 read-size-requires c κs = search needs
 
--- src/read.rt:105:27
 enum-known-e : tie.Need-enum-known-e
 enum-known-e c = search needs
 
--- src/read.rt:106:25
 enum-known-size : tie.Need-enum-known-size
 enum-known-size c = search needs
 
--- src/read.rt:106:71
 add-t20 : tie.Need-add-t20
 add-t20 c = let k = rw (c .before .size .given .1, rest-of, length-drop) at (c .before .before .before .read-size .ensures .1) in omega arith
 
--- src/read.rt:92:1
 returns-3 : tie.Need-returns-3
 unfolding item
 returns-3 c =
@@ -66,7 +52,6 @@ returns-3 c =
     let h = rw (rest-of 1 (a .rest .now), c .before .e .given .1) at (c .before .before .before .read-size .ensures .0) in
     (simp (byte-one (a .at) (a .rest .now) (c .before .before .before .before .before .before .before .if1 .left), le-ltb _ _ (c .before .before .before .before .before .if2 .left), h), tt)
 
--- src/read.rt:92:1
 returns-4 : tie.Need-returns-4
 unfolding item
 returns-4 c =

@@ -1,10 +1,10 @@
+-- `records::read::read_items` meets its contract.
 use borrow.Author.Needs.{needs}
 use native.Mathlib.Omega.{arith}
 use native.Mathlib.Nat.{sub-zero, add-zero}
-use mathlib.Core.Path.{_≡_, refl, sym, ap, _∙_}
-use Prim.Native.Nat.{ℕ, suc, _+_, _-_, _≤_, _<_}
+use mathlib.Core.Path.{_≡_}
+use Prim.Native.Nat.{_+_, _-_}
 use lib.ListN.{length, drop, length-drop}
-use lib.Seq.{drop-drop}
 use Rattle.records.specs.Reading.{items, item}
 use Rattle.records.specs.Answers.{item-read, item-within}
 use Rattle.records.specs.Sizes.{no-item}
@@ -12,10 +12,6 @@ use Rattle.records.proofs.Readers.{rest-of}
 use Rattle.records.proofs.Rows.{Along, along-start, along-next, along-refused, along-done, items-next, items-refused, items-done}
 use Rattle.records.proofs.read.read_items.Statement.{statement}
 use Rattle.records.proofs.read.read_items.Tie as tie
-use Rattle.records.proofs.read.read_items.Reads as reads
-use Rattle.records.proofs.read.read_items.Lts as lts
-use Rattle.records.proofs.read.no_items.Reads as no-items-reads
-use Rattle.records.proofs.read.read_item.Reads as read-item-reads
 
 abbrev Inv-loop : tie.InvT-loop
 Inv-loop rest at n items₀ used₀ i₀ xs used i = Along 10 no-item (items n at rest) n (length rest) xs i used (items (n - i) (at + used) (drop used rest))
@@ -31,59 +27,45 @@ here : (c : tie.After-read-item Inv-loop μ-loop) →
     × item-within (length (a .rest .now) - l .used) (c .read-item .result)
 here c = (rw rest-of at (c .read-item .ensures .0), rw (rest-of, length-drop) at (c .read-item .ensures .1))
 
--- src/read.rt:213:21
 no-items-requires : tie.Need-no-items-requires Inv-loop μ-loop
 no-items-requires c κs = search needs
 
--- src/read.rt:216:5
 loop-holds : tie.Need-loop-holds Inv-loop μ-loop
 loop-holds c = rw (sub-zero, add-zero) (along-start (c .no-items .ensures))
 
--- src/read.rt:217:25
 sub-read-item : tie.Need-sub-read-item Inv-loop μ-loop
 sub-read-item c = omega arith
 
--- src/read.rt:217:25
 part-read-item-start : tie.Need-part-read-item-start Inv-loop μ-loop
 part-read-item-start c = omega arith
 
--- src/read.rt:217:25
 part-read-item-end : tie.Need-part-read-item-end Inv-loop μ-loop
 part-read-item-end c = omega arith
 
--- src/read.rt:217:40
 add-read-item : tie.Need-add-read-item Inv-loop μ-loop
 add-read-item c = omega arith
 
--- src/read.rt:217:15
 read-item-requires : tie.Need-read-item-requires Inv-loop μ-loop
 read-item-requires c κs = simp (rest-of, length-drop) (omega arith)
 
--- src/read.rt:218:29
 enum-known-item : tie.Need-enum-known-item Inv-loop μ-loop
 enum-known-item c = search needs
 
--- src/read.rt:219:17
 mul-items : tie.Need-mul-items Inv-loop μ-loop
 mul-items c = search needs
 
--- src/read.rt:219:17
 array-set-from-items : tie.Need-array-set-from-items Inv-loop μ-loop
 array-set-from-items c = omega arith
 
--- src/read.rt:220:24
 add-used : tie.Need-add-used Inv-loop μ-loop
 add-used c = let h = rw (c .before .item .given .1) at (here (c .before .before .before) .1) in omega arith
 
--- src/read.rt:221:21
 add-i : tie.Need-add-i Inv-loop μ-loop
 add-i c = omega arith
 
--- src/read.rt:216:5
 loop-less : tie.Need-loop-less Inv-loop μ-loop
 loop-less c = omega arith
 
--- src/read.rt:216:5
 loop-again : tie.Need-loop-again Inv-loop μ-loop
 loop-again c =
     let d = c .before .before .before in
@@ -95,11 +77,9 @@ loop-again c =
     let h = rw (c .before .item .given .1) at (here d .1) in
     along-next (l .inv) (omega arith) x more (items-next (a .n) (l .i) (a .at) (l .used) (a .rest .now) (omega arith) x more e) (omega arith) h
 
--- src/read.rt:223:31
 enum-known-e : tie.Need-enum-known-e Inv-loop μ-loop
 enum-known-e c = search needs
 
--- src/read.rt:224:17
 returns : tie.Need-returns Inv-loop μ-loop
 returns c =
     let d = c .before .before .before in
@@ -108,7 +88,6 @@ returns c =
     let e = rw (c .before .e .given .1) at (here d .0) in
     (along-refused (l .inv) (omega arith) (items-refused (a .n) (l .i) (a .at) (l .used) (a .rest .now) (omega arith) _ e), (tt, tt))
 
--- src/read.rt:207:1
 returns-2 : tie.Need-returns-2 Inv-loop μ-loop
 returns-2 c =
     let l = c .before .loop in

@@ -1,8 +1,9 @@
+-- `records::read::read_precedences` meets its contract.
 use borrow.Author.Needs.{needs}
 use native.Mathlib.Omega.{arith}
 use native.Mathlib.Nat.{sub-zero, add-zero}
-use mathlib.Core.Path.{_≡_, refl, sym, ap, _∙_}
-use Prim.Native.Nat.{ℕ, suc, _+_, _-_, _≤_, _<_}
+use mathlib.Core.Path.{_≡_}
+use Prim.Native.Nat.{_+_, _-_}
 use lib.ListN.{length, drop, length-drop}
 use Rattle.records.specs.declared.Previous.the-variants.{Nothing}
 use Rattle.records.specs.Reading.{precedences, precedence}
@@ -12,10 +13,6 @@ use Rattle.records.proofs.Readers.{rest-of}
 use Rattle.records.proofs.Rows.{Along, along-start, along-next, along-refused, along-done, precedences-next, precedences-refused, precedences-done}
 use Rattle.records.proofs.read.read_precedences.Statement.{statement}
 use Rattle.records.proofs.read.read_precedences.Tie as tie
-use Rattle.records.proofs.read.read_precedences.Reads as reads
-use Rattle.records.proofs.read.read_precedences.Lts as lts
-use Rattle.records.proofs.read.no_precedences.Reads as no-precedences-reads
-use Rattle.records.proofs.read.read_precedence.Reads as read-precedence-reads
 
 abbrev Inv-loop : tie.InvT-loop
 Inv-loop rest at n m precedences₀ last₀ used₀ i₀ xs last used i =
@@ -32,59 +29,45 @@ here : (c : tie.After-read-precedence Inv-loop μ-loop) →
     × precedence-within (length (a .rest .now) - l .used) (c .read-precedence .result)
 here c = (rw rest-of at (c .read-precedence .ensures .0), rw (rest-of, length-drop) at (c .read-precedence .ensures .1))
 
--- src/read.rt:244:27
 no-precedences-requires : tie.Need-no-precedences-requires Inv-loop μ-loop
 no-precedences-requires c κs = search needs
 
--- src/read.rt:248:5
 loop-holds : tie.Need-loop-holds Inv-loop μ-loop
 loop-holds c = rw (sub-zero, add-zero) (along-start (c .no-precedences .ensures))
 
--- src/read.rt:249:31
 sub-read-precedence : tie.Need-sub-read-precedence Inv-loop μ-loop
 sub-read-precedence c = omega arith
 
--- src/read.rt:249:31
 part-read-precedence-start : tie.Need-part-read-precedence-start Inv-loop μ-loop
 part-read-precedence-start c = omega arith
 
--- src/read.rt:249:31
 part-read-precedence-end : tie.Need-part-read-precedence-end Inv-loop μ-loop
 part-read-precedence-end c = omega arith
 
--- src/read.rt:249:46
 add-read-precedence : tie.Need-add-read-precedence Inv-loop μ-loop
 add-read-precedence c = omega arith
 
--- src/read.rt:249:15
 read-precedence-requires : tie.Need-read-precedence-requires Inv-loop μ-loop
 read-precedence-requires c κs = simp (rest-of, length-drop) (omega arith)
 
--- src/read.rt:250:35
 enum-known-o : tie.Need-enum-known-o Inv-loop μ-loop
 enum-known-o c = search needs
 
--- src/read.rt:251:17
 mul-precedences : tie.Need-mul-precedences Inv-loop μ-loop
 mul-precedences c = search needs
 
--- src/read.rt:251:17
 array-set-from-precedences : tie.Need-array-set-from-precedences Inv-loop μ-loop
 array-set-from-precedences c = omega arith
 
--- src/read.rt:253:24
 add-used : tie.Need-add-used Inv-loop μ-loop
 add-used c = let h = rw (c .before .o .given .1) at (here (c .before .before .before) .1) in omega arith
 
--- src/read.rt:254:21
 add-i : tie.Need-add-i Inv-loop μ-loop
 add-i c = omega arith
 
--- src/read.rt:248:5
 loop-less : tie.Need-loop-less Inv-loop μ-loop
 loop-less c = omega arith
 
--- src/read.rt:248:5
 loop-again : tie.Need-loop-again Inv-loop μ-loop
 loop-again c =
     let d = c .before .before .before in
@@ -96,11 +79,9 @@ loop-again c =
     let h = rw (c .before .o .given .1) at (here d .1) in
     along-next (l .inv) (omega arith) x more (precedences-next (a .m) (l .i) (a .at) (l .used) (a .rest .now) (omega arith) (a .n) (l .last) x more e) (omega arith) h
 
--- src/read.rt:256:37
 enum-known-e : tie.Need-enum-known-e Inv-loop μ-loop
 enum-known-e c = search needs
 
--- src/read.rt:257:17
 returns : tie.Need-returns Inv-loop μ-loop
 returns c =
     let d = c .before .before .before in
@@ -109,7 +90,6 @@ returns c =
     let e = rw (c .before .e .given .1) at (here d .0) in
     (along-refused (l .inv) (omega arith) (precedences-refused (a .m) (l .i) (a .at) (l .used) (a .rest .now) (omega arith) (a .n) (l .last) _ e), (tt, tt))
 
--- src/read.rt:238:1
 returns-2 : tie.Need-returns-2 Inv-loop μ-loop
 returns-2 c =
     let l = c .before .loop in

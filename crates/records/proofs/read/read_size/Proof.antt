@@ -1,119 +1,101 @@
-use Rattle.records.specs.Reading.{size, stands}
+use Prim.Native.Nat.{_-_, _≤_}
+use lib.ListN.{length}
+-- `records::read::read_size` meets its contract.
+use Rattle.records.specs.Reading.{size}
 use Rattle.records.proofs.Readers.{rest-of}
 use native.Mathlib.Omega.{arith}
 use native.Mathlib.Nat.{add-assoc}
-use lib.ListN.{length, length-drop}
+use lib.ListN.{length-drop}
 use lib.Seq.{drop-drop}
 use borrow.Author.Needs.{needs}
 use Rattle.records.proofs.read.read_size.Statement.{statement}
 use Rattle.records.proofs.read.read_size.Tie as tie
-use Rattle.records.proofs.read.read_size.Reads as reads
-use Rattle.records.proofs.read.read_size.Lts as lts
-use Rattle.records.proofs.read.bit_stands.Reads as bit-stands-reads
-use Rattle.records.proofs.read.read_field.Reads as read-field-reads
 
--- src/read.rt:67:32
+-- the bytes that each field took are there
+first-took : (c : tie.After-known-told2) → c .before .width .given .0 .1 .0 ≤ length (c .before .before .before .before .before .before .args .rest .now)
+first-took c = rw (c .before .width .given .1) at (c .before .before .before .read-field .ensures .1)
+
+second-took : (c : tie.After-known-told4)
+    → c .before .depth .given .0 .1 .0
+    ≤ length (c .before .before .before .before .before .before .before .before .before .before .before .before .args .rest .now)
+    - c .before .before .before .before .before .before .before .width .given .0 .1 .0
+second-took c = rw (c .before .depth .given .1, rest-of, length-drop) at (c .before .before .before .read-field2 .ensures .1)
+
 bit-stands-requires : tie.Need-bit-stands-requires
 bit-stands-requires c κs = search needs
 
--- src/read.rt:67:11
 read-field-requires : tie.Need-read-field-requires
 read-field-requires c κs = search needs
 
--- src/read.rt:68:28
 enum-known-e : tie.Need-enum-known-e
 enum-known-e c = search needs
 
--- src/read.rt:69:26
 enum-known-width : tie.Need-enum-known-width
 enum-known-width c = search needs
 
--- src/read.rt:70:30
 sub-read-field : tie.Need-sub-read-field
-sub-read-field c = let h = rw (c .before .width .given .1) at (c .before .before .before .read-field .ensures .1) in omega arith
+sub-read-field c = omega (arith, first-took c)
 
--- src/read.rt:70:30
 part-read-field-start : tie.Need-part-read-field-start
-part-read-field-start c = let h = rw (c .before .width .given .1) at (c .before .before .before .read-field .ensures .1) in omega arith
+part-read-field-start c = omega (arith, first-took c)
 
--- src/read.rt:70:30
 part-read-field-end : tie.Need-part-read-field-end
 part-read-field-end c = search needs
 
--- src/read.rt:70:42
 add-read-field : tie.Need-add-read-field
-add-read-field c = let h = rw (c .before .before .width .given .1) at (c .before .before .before .before .read-field .ensures .1) in omega arith
+add-read-field c = omega (arith, first-took (c .before))
 
--- src/read.rt:70:50
 bit-stands-requires-2 : tie.Need-bit-stands-requires-2
 bit-stands-requires-2 c κs = search needs
 
--- src/read.rt:70:19
 read-field-requires-2 : tie.Need-read-field-requires-2
-read-field-requires-2 c κs = let h = rw (c .before .before .before .width .given .1) at (c .before .before .before .before .before .read-field .ensures .1) in simp (rest-of, length-drop) (omega arith)
+read-field-requires-2 c κs = let h = first-took (c .before .before) in simp (rest-of, length-drop) (omega arith)
 
--- src/read.rt:71:36
 enum-known-e-2 : tie.Need-enum-known-e-2
 enum-known-e-2 c = search needs
 
--- src/read.rt:72:34
 enum-known-depth : tie.Need-enum-known-depth
 enum-known-depth c = search needs
 
--- src/read.rt:73:30
 add-ab : tie.Need-add-ab
-add-ab c = let h = rw (c .before .before .before .before .before .before .before .width .given .1) at (c .before .before .before .before .before .before .before .before .before .read-field .ensures .1) in
-    let k = rw (c .before .depth .given .1, rest-of, length-drop) at (c .before .before .before .read-field2 .ensures .1) in omega arith
+add-ab c = omega (arith, first-took (c .before .before .before .before .before .before), second-took c)
 
--- src/read.rt:74:38
 sub-read-field-2 : tie.Need-sub-read-field-2
-sub-read-field-2 c = let h = rw (c .before .before .before .before .before .before .before .width .given .1) at (c .before .before .before .before .before .before .before .before .before .read-field .ensures .1) in
-    let k = rw (c .before .depth .given .1, rest-of, length-drop) at (c .before .before .before .read-field2 .ensures .1) in omega arith
+sub-read-field-2 c = omega (arith, first-took (c .before .before .before .before .before .before), second-took c)
 
--- src/read.rt:74:38
 part-read-field-start-2 : tie.Need-part-read-field-start-2
-part-read-field-start-2 c = let h = rw (c .before .before .before .before .before .before .before .width .given .1) at (c .before .before .before .before .before .before .before .before .before .read-field .ensures .1) in
-    let k = rw (c .before .depth .given .1, rest-of, length-drop) at (c .before .before .before .read-field2 .ensures .1) in omega arith
+part-read-field-start-2 c = omega (arith, first-took (c .before .before .before .before .before .before), second-took c)
 
--- src/read.rt:74:38
 part-read-field-end-2 : tie.Need-part-read-field-end-2
 part-read-field-end-2 c = search needs
 
--- src/read.rt:74:51
 add-read-field-2 : tie.Need-add-read-field-2
-add-read-field-2 c = let h = rw (c .before .before .before .before .before .before .before .before .width .given .1) at (c .before .before .before .before .before .before .before .before .before .before .read-field .ensures .1) in
-    let k = rw (c .before .before .depth .given .1, rest-of, length-drop) at (c .before .before .before .before .read-field2 .ensures .1) in omega arith
+add-read-field-2 c = omega (arith, first-took (c .before .before .before .before .before .before .before), second-took (c .before))
 
--- src/read.rt:74:60
 bit-stands-requires-3 : tie.Need-bit-stands-requires-3
 bit-stands-requires-3 c κs = search needs
 
--- src/read.rt:74:27
 read-field-requires-3 : tie.Need-read-field-requires-3
-read-field-requires-3 c κs = let h = rw (c .before .before .before .before .before .before .before .before .before .width .given .1) at (c .before .before .before .before .before .before .before .before .before .before .before .read-field .ensures .1) in
-    let k = rw (c .before .before .before .depth .given .1, rest-of, length-drop) at (c .before .before .before .before .before .read-field2 .ensures .1) in
+read-field-requires-3 c κs = 
+    let h = first-took (c .before .before .before .before .before .before .before .before) in
+    let k = second-took (c .before .before) in
     simp (rest-of, length-drop) (omega arith)
 
--- src/read.rt:75:44
 enum-known-e-3 : tie.Need-enum-known-e-3
 enum-known-e-3 c = search needs
 
--- src/read.rt:76:42
 enum-known-shifts : tie.Need-enum-known-shifts
 enum-known-shifts c = search needs
 
--- src/read.rt:82:29
 add-t34 : tie.Need-add-t34
-add-t34 c = let h = rw (c .before .before .before .before .before .before .before .before .before .before .before .before .before .width .given .1) at (c .before .before .before .before .before .before .before .before .before .before .before .before .before .before .before .read-field .ensures .1) in
-    let k = rw (c .before .before .before .before .before .before .before .depth .given .1, rest-of, length-drop) at (c .before .before .before .before .before .before .before .before .before .read-field2 .ensures .1) in
-    let l = rw (c .before .shifts .given .1, rest-of, length-drop) at (c .before .before .before .read-field3 .ensures .1) in omega arith
+add-t34 c = 
+    let l = rw (c .before .shifts .given .1, rest-of, length-drop) at (c .before .before .before .read-field3 .ensures .1) in
+    omega (arith, first-took (c .before .before .before .before .before .before .before .before .before .before .before .before), second-took (c .before .before .before .before .before .before))
 
--- src/read.rt:62:1
 returns : tie.Need-returns
 unfolding size
 returns c = (simp (← (c .before .before .before .before .bit-stands .ensures), c .before .before .before .read-field .ensures .0, c .before .e .given .1), tt)
 
--- src/read.rt:62:1
 returns-2 : tie.Need-returns-2
 unfolding size
 returns-2 c =
@@ -121,7 +103,6 @@ returns-2 c =
     let g = rw (c .before .e2 .given .1, rest-of) at (c .before .before .before .read-field2 .ensures .0) in
     (simp (← (c .before .before .before .before .before .before .before .before .before .before .bit-stands .ensures), f, ← (c .before .before .before .before .bit-stands2 .ensures), g), tt)
 
--- src/read.rt:62:1
 returns-3 : tie.Need-returns-3
 unfolding size
 returns-3 c =
@@ -130,7 +111,6 @@ returns-3 c =
     let h = rw (c .before .e3 .given .1, rest-of) at (c .before .before .before .read-field3 .ensures .0) in
     (simp (← (c .before .before .before .before .before .before .before .before .before .before .before .before .before .before .before .before .bit-stands .ensures), f, ← (c .before .before .before .before .before .before .before .before .before .before .bit-stands2 .ensures), g, ← (c .before .before .before .before .bit-stands3 .ensures), add-assoc, drop-drop, h), tt)
 
--- src/read.rt:62:1
 returns-4 : tie.Need-returns-4
 unfolding size
 returns-4 c =

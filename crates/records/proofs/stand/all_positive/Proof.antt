@@ -1,16 +1,14 @@
+-- `records::stand::all_positive` meets its contract.
 use borrow.Author.Needs.{needs}
 use borrow.Author.Tests.{not-true, not-false}
 use native.Mathlib.Omega.{arith}
-use Prim.Native.Nat.{ℕ, _+_, _-_, _≤_}
-use mathlib.Core.Path.{_≡_, refl, sym, _∙_}
+use Prim.Native.Nat.{_-_, _≤_}
+use mathlib.Core.Path.{_≡_, refl, sym}
 use lib.ListN.{length, take, drop}
 use Rattle.records.specs.Sizes.{all-have-size, no-item}
 use Rattle.records.proofs.Tests.{part-next, part-done, all-have-size-next, all-have-size-done}
 use Rattle.records.proofs.stand.all_positive.Statement.{statement}
 use Rattle.records.proofs.stand.all_positive.Tie as tie
-use Rattle.records.proofs.stand.all_positive.Reads as reads
-use Rattle.records.proofs.stand.all_positive.Lts as lts
-use Rattle.records.proofs.stand.is_positive.Reads as is-positive-reads
 
 abbrev Inv-loop : tie.InvT-loop
 Inv-loop n items i₀ i = (i ≤ n) × (all-have-size (drop i (take n items)) ≡ all-have-size (take n items))
@@ -18,23 +16,18 @@ Inv-loop n items i₀ i = (i ≤ n) × (all-have-size (drop i (take n items)) �
 abbrev μ-loop : tie.MeasureT-loop
 μ-loop n items i₀ i = n - i
 
--- src/stand.rt:34:5
 loop-holds : tie.Need-loop-holds Inv-loop μ-loop
 loop-holds c = (omega arith, refl)
 
--- src/stand.rt:35:20
 mul-item : tie.Need-mul-item Inv-loop μ-loop
 mul-item c = search needs
 
--- src/stand.rt:35:20
 array-copy-out-item : tie.Need-array-copy-out-item Inv-loop μ-loop
 array-copy-out-item c = search needs
 
--- src/stand.rt:37:13
 is-positive-requires : tie.Need-is-positive-requires Inv-loop μ-loop
 is-positive-requires c κs = search needs
 
--- src/stand.rt:38:13
 returns : tie.Need-returns Inv-loop μ-loop
 returns c =
     let l = c .before .before .before .before .before .loop in
@@ -42,15 +35,12 @@ returns c =
     let h : length (a .t1) ≡ 10 = search needs in
     sym (rw (← (l .inv .1), part-next (a .n) (l .i) (a .t1) (omega arith) no-item (omega arith), all-have-size-next, ← (c .before .is-positive .ensures), not-true (c .before .is-positive .result) (c .if1 .taken)) refl)
 
--- src/stand.rt:40:13
 add-i : tie.Need-add-i Inv-loop μ-loop
 add-i c = search needs
 
--- src/stand.rt:34:5
 loop-less : tie.Need-loop-less Inv-loop μ-loop
 loop-less c = search needs
 
--- src/stand.rt:34:5
 loop-again : tie.Need-loop-again Inv-loop μ-loop
 loop-again c =
     let l = c .before .before .before .before .before .loop in
@@ -58,7 +48,6 @@ loop-again c =
     let h : length (a .t1) ≡ 10 = search needs in
     (omega arith, sym (rw (← (l .inv .1), part-next (a .n) (l .i) (a .t1) (omega arith) no-item (omega arith), all-have-size-next, ← (c .before .is-positive .ensures), not-false (c .before .is-positive .result) (c .if1 .left)) refl))
 
--- src/stand.rt:29:1
 returns-2 : tie.Need-returns-2 Inv-loop μ-loop
 returns-2 c =
     let l = c .before .loop in

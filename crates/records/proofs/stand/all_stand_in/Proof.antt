@@ -1,8 +1,9 @@
+-- `records::stand::all_stand_in` meets its contract.
 use borrow.Author.Needs.{needs}
 use borrow.Author.Tests.{not-true, not-false}
 use native.Mathlib.Omega.{arith}
-use Prim.Native.Nat.{ℕ, _+_, _-_, _≤_}
-use mathlib.Core.Path.{_≡_, refl, sym, _∙_}
+use Prim.Native.Nat.{_-_, _≤_}
+use mathlib.Core.Path.{_≡_, refl, sym}
 use lib.ListN.{length, take, drop}
 use Rattle.records.specs.declared.Previous.the-variants.{Nothing}
 use Rattle.records.specs.Sizes.{no-precedence}
@@ -10,10 +11,6 @@ use Rattle.records.specs.Precedences.{all-stand}
 use Rattle.records.proofs.Tests.{part-next, part-done, all-stand-next, all-stand-done}
 use Rattle.records.proofs.stand.all_stand_in.Statement.{statement}
 use Rattle.records.proofs.stand.all_stand_in.Tie as tie
-use Rattle.records.proofs.stand.all_stand_in.Reads as reads
-use Rattle.records.proofs.stand.all_stand_in.Lts as lts
-use Rattle.records.proofs.read.both_items.Reads as both-items-reads
-use Rattle.records.proofs.read.is_rising.Reads as is-rising-reads
 
 abbrev Inv-loop : tie.InvT-loop
 Inv-loop m n precedences last₀ i₀ last i = (i ≤ m) × (all-stand n last (drop i (take m precedences)) ≡ all-stand n Nothing (take m precedences))
@@ -21,23 +18,18 @@ Inv-loop m n precedences last₀ i₀ last i = (i ≤ m) × (all-stand n last (d
 abbrev μ-loop : tie.MeasureT-loop
 μ-loop m n precedences last₀ i₀ last i = m - i
 
--- src/stand.rt:52:5
 loop-holds : tie.Need-loop-holds Inv-loop μ-loop
 loop-holds c = (omega arith, refl)
 
--- src/stand.rt:53:17
 mul-o : tie.Need-mul-o Inv-loop μ-loop
 mul-o c = search needs
 
--- src/stand.rt:53:17
 array-copy-out-o : tie.Need-array-copy-out-o Inv-loop μ-loop
 array-copy-out-o c = search needs
 
--- src/stand.rt:54:13
 both-items-requires : tie.Need-both-items-requires Inv-loop μ-loop
 both-items-requires c κs = search needs
 
--- src/stand.rt:55:13
 returns : tie.Need-returns Inv-loop μ-loop
 returns c =
     let l = c .before .before .before .before .loop in
@@ -45,11 +37,9 @@ returns c =
     let h : length (a .t1) ≡ 90 = search needs in
     sym (rw (← (l .inv .1), part-next (a .m) (l .i) (a .t1) (omega arith) no-precedence (omega arith), all-stand-next, ← (c .before .both-items .ensures), not-true (c .before .both-items .result) (c .if1 .taken)) refl)
 
--- src/stand.rt:57:13
 is-rising-requires : tie.Need-is-rising-requires Inv-loop μ-loop
 is-rising-requires c κs = search needs
 
--- src/stand.rt:58:13
 returns-2 : tie.Need-returns-2 Inv-loop μ-loop
 returns-2 c =
     let l = c .before .before .before .before .before .before .loop in
@@ -57,15 +47,12 @@ returns-2 c =
     let h : length (a .t1) ≡ 90 = search needs in
     sym (rw (← (l .inv .1), part-next (a .m) (l .i) (a .t1) (omega arith) no-precedence (omega arith), all-stand-next, ← (c .before .before .before .both-items .ensures), not-false (c .before .before .before .both-items .result) (c .before .before .if1 .left), ← (c .before .is-rising .ensures), not-true (c .before .is-rising .result) (c .if2 .taken)) refl)
 
--- src/stand.rt:61:13
 add-i : tie.Need-add-i Inv-loop μ-loop
 add-i c = search needs
 
--- src/stand.rt:52:5
 loop-less : tie.Need-loop-less Inv-loop μ-loop
 loop-less c = search needs
 
--- src/stand.rt:52:5
 loop-again : tie.Need-loop-again Inv-loop μ-loop
 loop-again c =
     let l = c .before .before .before .before .before .before .loop in
@@ -73,7 +60,6 @@ loop-again c =
     let h : length (a .t1) ≡ 90 = search needs in
     (omega arith, sym (rw (← (l .inv .1), part-next (a .m) (l .i) (a .t1) (omega arith) no-precedence (omega arith), all-stand-next, ← (c .before .before .before .both-items .ensures), not-false (c .before .before .before .both-items .result) (c .before .before .if1 .left), ← (c .before .is-rising .ensures), not-false (c .before .is-rising .result) (c .if2 .left)) refl))
 
--- src/stand.rt:46:1
 returns-3 : tie.Need-returns-3 Inv-loop μ-loop
 returns-3 c =
     let l = c .before .loop in

@@ -1,26 +1,21 @@
+-- `records::stand::is_positive` meets its contract.
 use Rattle.records.specs.Sizes.{positive}
 use borrow.Author.Tests.{le-leb, lt-leb}
 use Rattle.records.proofs.stand.is_positive.Statement.{statement}
 use Rattle.records.proofs.stand.is_positive.Tie as tie
-use Rattle.records.proofs.stand.is_positive.Reads as reads
-use Rattle.records.proofs.stand.is_positive.Lts as lts
 
--- src/stand.rt:17:9
 returns : tie.Need-returns
 unfolding positive
 returns c = simp (lt-leb _ _ (c .if1 .taken))
 
--- src/stand.rt:20:9
 returns-2 : tie.Need-returns-2
 unfolding positive
 returns-2 c = simp (le-leb _ _ (c .before .before .if1 .left), lt-leb _ _ (c .if2 .taken))
 
--- src/stand.rt:23:9
 returns-3 : tie.Need-returns-3
 unfolding positive
 returns-3 c = simp (le-leb _ _ (c .before .before .before .before .if1 .left), le-leb _ _ (c .before .before .if2 .left), lt-leb _ _ (c .if3 .taken))
 
--- src/stand.rt:13:1
 returns-4 : tie.Need-returns-4
 unfolding positive
 returns-4 c = simp (le-leb _ _ (c .before .before .before .before .if1 .left), le-leb _ _ (c .before .before .if2 .left), le-leb _ _ (c .if3 .left))

@@ -1,15 +1,12 @@
+-- `records::write::field_len` meets its contract.
 use borrow.Author.Needs.{needs}
 use Rattle.records.proofs.Writers.{field-none, field-two}
 use Rattle.records.proofs.write.field_len.Statement.{statement}
 use Rattle.records.proofs.write.field_len.Tie as tie
-use Rattle.records.proofs.write.field_len.Reads as reads
-use Rattle.records.proofs.write.field_len.Lts as lts
 
--- src/write.rt:19:1
 returns : tie.Need-returns
 returns c = (rw (field-none _ _ (c .if1 .taken)), search needs)
 
--- src/write.rt:19:1
 returns-2 : tie.Need-returns-2
 returns-2 c = (rw (field-two _ _ (c .if1 .left)), search needs)
 

@@ -1,15 +1,12 @@
+-- `records::write::flag_of` meets its contract.
 use borrow.Author.Needs.{needs}
 use borrow.Author.Tests.{eq-eqb, ne-eqb}
 use Rattle.records.proofs.write.flag_of.Statement.{statement}
 use Rattle.records.proofs.write.flag_of.Tie as tie
-use Rattle.records.proofs.write.flag_of.Reads as reads
-use Rattle.records.proofs.write.flag_of.Lts as lts
 
--- src/write.rt:13:1
 returns : tie.Need-returns
 returns c = (simp (eq-eqb _ _ (c .if1 .taken)), search needs)
 
--- src/write.rt:13:1
 returns-2 : tie.Need-returns-2
 returns-2 c = (simp (ne-eqb _ _ (c .if1 .left)), search needs)
 

@@ -1,21 +1,16 @@
+-- `records::write::item_len` meets its contract.
 use native.Mathlib.Omega.{arith}
 use Rattle.records.proofs.Writers.{item-length}
 use borrow.Author.Needs.{needs}
 use Rattle.records.proofs.write.item_len.Statement.{statement}
 use Rattle.records.proofs.write.item_len.Tie as tie
-use Rattle.records.proofs.write.item_len.Reads as reads
-use Rattle.records.proofs.write.item_len.Lts as lts
-use Rattle.records.proofs.write.size_len.Reads as size-len-reads
 
--- src/write.rt:64:9
 size-len-requires : tie.Need-size-len-requires
 size-len-requires c κs = search needs
 
--- src/write.rt:64:5
 add-result : tie.Need-add-result
 add-result c = search needs
 
--- src/write.rt:60:1
 returns : tie.Need-returns
 returns c = (omega (arith, item-length (c .before .before .args .item)), omega arith)
 

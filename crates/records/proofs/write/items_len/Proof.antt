@@ -1,16 +1,14 @@
+-- `records::write::items_len` meets its contract.
 use borrow.Author.Needs.{needs}
 use native.Mathlib.Omega.{arith}
-use Prim.Native.Nat.{ℕ, _+_, _-_, _*_, _≤_}
-use mathlib.Core.Path.{_≡_, refl, sym}
+use Prim.Native.Nat.{_-_, _*_, _≤_}
+use mathlib.Core.Path.{_≡_, refl}
 use lib.ListN.{length, take, length-append}
 use Rattle.records.specs.Bytes.{item-bytes, items-bytes}
 use Rattle.records.specs.Sizes.{no-item}
 use Rattle.records.proofs.Writers.{row-none, row-next}
 use Rattle.records.proofs.write.items_len.Statement.{statement}
 use Rattle.records.proofs.write.items_len.Tie as tie
-use Rattle.records.proofs.write.items_len.Reads as reads
-use Rattle.records.proofs.write.items_len.Lts as lts
-use Rattle.records.proofs.write.item_len.Reads as item-len-reads
 
 abbrev Inv-loop : tie.InvT-loop
 Inv-loop n items sum₀ i₀ sum i = (i ≤ n) × (sum ≡ length (items-bytes (take i items))) × (sum ≤ 7 * i)
@@ -18,35 +16,27 @@ Inv-loop n items sum₀ i₀ sum i = (i ≤ n) × (sum ≡ length (items-bytes (
 abbrev μ-loop : tie.MeasureT-loop
 μ-loop n items sum₀ i₀ sum i = n - i
 
--- src/write.rt:83:5
 loop-holds : tie.Need-loop-holds Inv-loop μ-loop
 loop-holds c = (omega arith, rw (row-none item-bytes) refl, omega arith)
 
--- src/write.rt:84:30
 mul-item-len : tie.Need-mul-item-len Inv-loop μ-loop
 mul-item-len c = search needs
 
--- src/write.rt:84:30
 array-copy-out-item-len : tie.Need-array-copy-out-item-len Inv-loop μ-loop
 array-copy-out-item-len c = search needs
 
--- src/write.rt:84:21
 item-len-requires : tie.Need-item-len-requires Inv-loop μ-loop
 item-len-requires c κs = search needs
 
--- src/write.rt:84:15
 add-sum : tie.Need-add-sum Inv-loop μ-loop
 add-sum c = omega arith
 
--- src/write.rt:85:13
 add-i : tie.Need-add-i Inv-loop μ-loop
 add-i c = omega arith
 
--- src/write.rt:83:5
 loop-less : tie.Need-loop-less Inv-loop μ-loop
 loop-less c = omega arith
 
--- src/write.rt:83:5
 loop-again : tie.Need-loop-again Inv-loop μ-loop
 loop-again c =
     let l = c .before .before .before .loop in
@@ -54,7 +44,6 @@ loop-again c =
     let h : length (a .t1) ≡ 10 = search needs in
     (omega arith, rw (row-next item-bytes (a .t1) (l .i) no-item (omega arith), length-append) (omega arith), omega arith)
 
--- src/write.rt:77:1
 returns : tie.Need-returns Inv-loop μ-loop
 returns c =
     let l = c .before .loop in

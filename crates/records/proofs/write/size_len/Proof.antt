@@ -1,33 +1,25 @@
+-- `records::write::size_len` meets its contract.
 use native.Mathlib.Omega.{arith}
 use Rattle.records.proofs.Writers.{size-length}
 use borrow.Author.Needs.{needs}
 use Rattle.records.proofs.write.size_len.Statement.{statement}
 use Rattle.records.proofs.write.size_len.Tie as tie
-use Rattle.records.proofs.write.size_len.Reads as reads
-use Rattle.records.proofs.write.size_len.Lts as lts
-use Rattle.records.proofs.write.field_len.Reads as field-len-reads
 
--- src/write.rt:47:5
 field-len-requires : tie.Need-field-len-requires
 field-len-requires c κs = search needs
 
--- src/write.rt:47:32
 field-len-requires-2 : tie.Need-field-len-requires-2
 field-len-requires-2 c κs = search needs
 
--- src/write.rt:47:5
 add-result : tie.Need-add-result
 add-result c = search needs
 
--- src/write.rt:47:59
 field-len-requires-3 : tie.Need-field-len-requires-3
 field-len-requires-3 c κs = search needs
 
--- src/write.rt:47:5
 add-result-2 : tie.Need-add-result-2
 add-result-2 c = search needs
 
--- src/write.rt:44:1
 returns : tie.Need-returns
 returns c = (omega (arith, size-length (c .before .before .before .args .size)), omega arith)
 

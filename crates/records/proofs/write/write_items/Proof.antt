@@ -1,18 +1,16 @@
+-- `records::write::write_items` meets its contract.
 use borrow.Author.Needs.{needs}
 use native.Mathlib.Omega.{arith}
 use native.Mathlib.Nat.{add-zero}
-use mathlib.Core.Path.{_≡_, refl, sym, ap, _∙_}
-use Prim.Native.Nat.{ℕ, _+_, _-_, _*_, _≤_}
+use mathlib.Core.Path.{_≡_, refl, sym}
+use Prim.Native.Nat.{_+_, _-_, _≤_}
 use lib.ListN.{length, take, length-append}
-use lib.Seq.{sets, length-take-le}
-use Rattle.records.specs.Bytes.{item-bytes, items-bytes, precedence-bytes, precedences-bytes}
-use Rattle.records.specs.Sizes.{no-item, no-precedence}
-use Rattle.records.proofs.Writers.{row-none, row-next, row-room, sets-append, precedences-length}
+use lib.Seq.{sets}
+use Rattle.records.specs.Bytes.{item-bytes, items-bytes}
+use Rattle.records.specs.Sizes.{no-item}
+use Rattle.records.proofs.Writers.{row-none, row-next, row-room, sets-append}
 use Rattle.records.proofs.write.write_items.Statement.{statement}
 use Rattle.records.proofs.write.write_items.Tie as tie
-use Rattle.records.proofs.write.write_items.Reads as reads
-use Rattle.records.proofs.write.write_items.Lts as lts
-use Rattle.records.proofs.write.write_item.Reads as write-item-reads
 
 abbrev Inv-loop : tie.InvT-loop
 Inv-loop out₀ at n items k₀ i₀ out k i =
@@ -24,19 +22,15 @@ Inv-loop out₀ at n items k₀ i₀ out k i =
 abbrev μ-loop : tie.MeasureT-loop
 μ-loop out₀ at n items k₀ i₀ out k i = n - i
 
--- src/write.rt:97:5
 loop-holds : tie.Need-loop-holds Inv-loop μ-loop
 loop-holds c = (omega arith, rw (row-none item-bytes) (sym (add-zero _)), rw (row-none item-bytes) refl, refl)
 
--- src/write.rt:98:32
 mul-write-item : tie.Need-mul-write-item Inv-loop μ-loop
 mul-write-item c = search needs
 
--- src/write.rt:98:32
 array-copy-out-write-item : tie.Need-array-copy-out-write-item Inv-loop μ-loop
 array-copy-out-write-item c = search needs
 
--- src/write.rt:98:9
 write-item-requires : tie.Need-write-item-requires Inv-loop μ-loop
 write-item-requires c κs =
     let l = c .before .before .before .loop in
@@ -44,15 +38,12 @@ write-item-requires c κs =
     let h : length (a .t3) ≡ 10 = search needs in
     omega (arith, row-room item-bytes (a .t3) (l .i) (a .n) no-item (omega arith) (omega arith))
 
--- src/write.rt:99:13
 add-i : tie.Need-add-i Inv-loop μ-loop
 add-i c = search needs
 
--- src/write.rt:97:5
 loop-less : tie.Need-loop-less Inv-loop μ-loop
 loop-less c = search needs
 
--- src/write.rt:97:5
 loop-again : tie.Need-loop-again Inv-loop μ-loop
 loop-again c =
     let l = c .before .before .before .before .before .before .loop in
@@ -66,11 +57,9 @@ loop-again c =
       omega (arith, w .kept .0),
     )
 
--- src/write.rt:90:1
 same-length : tie.Need-same-length Inv-loop μ-loop
 same-length c = c .before .loop .inv .3
 
--- src/write.rt:90:1
 returns : tie.Need-returns Inv-loop μ-loop
 returns c =
     let l = c .before .loop in

@@ -1,18 +1,15 @@
+-- `records::write::write_precedences` meets its contract.
 use borrow.Author.Needs.{needs}
 use native.Mathlib.Omega.{arith}
-use native.Mathlib.Nat.{add-zero}
-use mathlib.Core.Path.{_≡_, refl, sym, ap, _∙_}
+use mathlib.Core.Path.{_≡_, refl, ap, _∙_}
 use Prim.Native.Nat.{ℕ, _+_, _-_, _*_, _≤_}
-use lib.ListN.{length, getD, take, length-append}
+use lib.ListN.{length, getD, take}
 use lib.Seq.{sets, length-take-le}
 use Rattle.records.specs.Bytes.{precedence-bytes, precedences-bytes}
 use Rattle.records.specs.Sizes.{no-precedence}
 use Rattle.records.proofs.Writers.{row-none, row-next, sets-append, precedences-length}
 use Rattle.records.proofs.write.write_precedences.Statement.{statement}
 use Rattle.records.proofs.write.write_precedences.Tie as tie
-use Rattle.records.proofs.write.write_precedences.Reads as reads
-use Rattle.records.proofs.write.write_precedences.Lts as lts
-use Rattle.records.proofs.write.write_precedence.Reads as write-precedence-reads
 
 abbrev Inv-loop : tie.InvT-loop
 Inv-loop out₀ at m precedences k₀ i₀ out k i =
@@ -24,31 +21,24 @@ Inv-loop out₀ at m precedences k₀ i₀ out k i =
 abbrev μ-loop : tie.MeasureT-loop
 μ-loop out₀ at m precedences k₀ i₀ out k i = m - i
 
--- src/write.rt:121:5
 loop-holds : tie.Need-loop-holds Inv-loop μ-loop
 loop-holds c = (omega arith, omega arith, rw (row-none precedence-bytes) refl, refl)
 
--- src/write.rt:122:38
 mul-write-precedence : tie.Need-mul-write-precedence Inv-loop μ-loop
 mul-write-precedence c = search needs
 
--- src/write.rt:122:38
 array-copy-out-write-precedence : tie.Need-array-copy-out-write-precedence Inv-loop μ-loop
 array-copy-out-write-precedence c = search needs
 
--- src/write.rt:122:9
 write-precedence-requires : tie.Need-write-precedence-requires Inv-loop μ-loop
 write-precedence-requires c κs = omega arith
 
--- src/write.rt:123:13
 add-i : tie.Need-add-i Inv-loop μ-loop
 add-i c = search needs
 
--- src/write.rt:121:5
 loop-less : tie.Need-loop-less Inv-loop μ-loop
 loop-less c = search needs
 
--- src/write.rt:121:5
 loop-again : tie.Need-loop-again Inv-loop μ-loop
 loop-again c =
     let l = c .before .before .before .before .before .before .loop in
@@ -65,11 +55,9 @@ loop-again c =
       omega (arith, w .kept .0),
     )
 
--- src/write.rt:114:1
 same-length : tie.Need-same-length Inv-loop μ-loop
 same-length c = c .before .loop .inv .3
 
--- src/write.rt:114:1
 returns : tie.Need-returns Inv-loop μ-loop
 returns c =
     let l = c .before .loop in
