@@ -356,7 +356,7 @@ def hand_read():
     # long slices
     add_read(bytes(10000), "refused 7 1")
     add_read(b"\xff" * 10000, "refused 2 0")
-    add_read(LONGEST + bytes(9739), "refused 7 261")
+    add_read(LONGEST + bytes(739), "refused 7 261")
     add_read(EXAMPLE + b"\xff" * 987, "refused 7 13")
 
 
