@@ -2,13 +2,15 @@
 use mathlib.Core.Bool.{Bool, true, false, not, _&&_, _||_, false≢true}
 use mathlib.Core.Logic.{_⊎_, inl, inr}
 use mathlib.Core.Path.{_≡_, refl, sym, _∙_}
-use Prim.Native.Nat.{ℕ, zero, suc, _+_, _≤_, _<_, max}
+use Prim.Native.Nat.{ℕ, zero, suc, _≤_, _<_, max}
 use native.Mathlib.Nat.{eq-or-lt-of-le, le-of-suc-le-suc}
+use native.Mathlib.Decide.{decLe}
 use native.Mathlib.Omega.{arith}
 use lib.Dec.{ltb}
+use lib.ListN.{getD, length}
 use borrow.Author.Tests.{ltb-true, lt-ltb}
 use mathlib.Core.List.{List, [], _∷_, List·Memᴰ, List·Memᴰ·head, List·Memᴰ·tail, List·Memᴰ·not-nil, List·Memᴰ·cases-cons}
-use Rattle.model.specs.Below.{some-below, all-below, most-below, all-in}
+use Rattle.model.specs.Below.{some-below, all-below, most-below, all-in, first-in}
 
 -- where the first test passes, so does the second
 abbrev pub Implies : Bool → Bool → Type 0
@@ -94,6 +96,19 @@ pub all-of : (n : ℕ) (f : ℕ → Bool) → ((i : ℕ) → i < n → f i ≡ t
 all-of zero f h = refl
 all-of (suc n) f h = all-cons (f n) (all-below n f) (h n (omega arith)) (all-of n f (λ i l. h i (omega arith)))
 
+pub all-mono : (n : ℕ) {f g : ℕ → Bool} → ((i : ℕ) → Implies (f i) (g i)) → Implies (all-below n f) (all-below n g)
+all-mono n {f} {g} h e = all-of n g (λ i l. h i (all-at n f e i l))
+
+-- a number at which a test fails that does not pass at all
+pub all-not : (n : ℕ) (f : ℕ → Bool) → all-below n f ≡ false → (i : ℕ) × (i < n) × (f i ≡ false)
+all-not zero f e = absurd (false≢true (sym e))
+all-not (suc n) f e = go (f n) refl e (all-not n f)
+  where
+    go : (b : Bool) → f n ≡ b → elim b as (λ _. Bool) [ true ↦ all-below n f | false ↦ false ] ≡ false → (all-below n f ≡ false → (i : ℕ) × (i < n) × (f i ≡ false))
+        → (i : ℕ) × (i < suc n) × (f i ≡ false)
+    go true q d ih = let (i, l, r) = ih d in (i, omega arith, r)
+    go false q d ih = (n, omega arith, q)
+
 -- a number at which some test passes
 some-case : (b c : Bool) → elim b as (λ _. Bool) [ true ↦ true | false ↦ c ] ≡ true → (b ≡ true) ⊎ (c ≡ true)
 some-case true c e = inl refl
@@ -144,3 +159,65 @@ in-at f (y ∷ l) e x m = go (List·Memᴰ·cases-cons m) (in-at f l (all-case (
 pub in-of : {A : Type 0} (f : A → Bool) (l : List A) → ((x : A) → List·Memᴰ x l → f x ≡ true) → all-in f l ≡ true
 in-of f [] h = refl
 in-of f (y ∷ l) h = all-cons (f y) (all-in f l) (h y (List·Memᴰ·head refl)) (in-of f l (λ x m. h x (List·Memᴰ·tail m)))
+
+-- the greatest below n
+pub most-at : (n : ℕ) (f : ℕ → ℕ) (i : ℕ) → i < n → f i ≤ most-below n f
+most-at zero f i h = absurd (omega arith)
+most-at (suc n) f i h = go (eq-or-lt-of-le (le-of-suc-le-suc h)) (most-at n f i)
+  where
+    go : (i ≡ n) ⊎ (i < n) → (i < n → f i ≤ most-below n f) → f i ≤ max (f n) (most-below n f)
+    go (inl e) ih = rw e (omega arith)
+    go (inr l) ih = omega (arith, ih l)
+
+pub most-le : (n : ℕ) (f : ℕ → ℕ) (c : ℕ) → ((i : ℕ) → i < n → f i ≤ c) → most-below n f ≤ c
+most-le zero f c h = omega arith
+most-le (suc n) f c h = omega (arith, h n (omega arith), most-le n f c (λ i l. h i (omega arith)))
+
+-- a test that does not fail passes
+pub stays : (b : Bool) → (b ≡ false → ⊥) → b ≡ true
+stays true f = refl
+stays false f = absurd (f refl)
+
+pub clash : {b : Bool} → b ≡ true → b ≡ false → ⊥
+clash p q = false≢true (sym q ∙ p)
+
+-- the first element of a list that passes: it is found if some element passes, and it is the one before which none does
+pub record First {A : Type 0} (f : A → Bool) (d : A) (l : List A) (j : ℕ) : Type 0 where
+  pub within : j < length l
+  pub passes : f (getD l j d) ≡ true
+  pub earlier : (m : ℕ) → m < j → f (getD l m d) ≡ false
+
+pub first-is : {A : Type 0} (f : A → Bool) (d : A) (l : List A) (j : ℕ) → First f d l j → first-in f d l ≡ getD l j d
+first-is {A} f d [] j h = absurd (omega (arith, h .within))
+first-is {A} f d (x ∷ l) zero h = go (f x) (h .passes)
+  where
+    go : (b : Bool) → b ≡ true → elim b as (λ _. A) [ true ↦ x | false ↦ first-in f d l ] ≡ x
+    go true e = refl
+    go false e = absurd (false≢true e)
+first-is {A} f d (x ∷ l) (suc j) h = go (f x) (h .earlier zero (omega arith)) (first-is f d l j (record { within = omega (arith, h .within); passes = h .passes; earlier = λ m g. h .earlier (suc m) (omega arith) }))
+  where
+    go : (b : Bool) → b ≡ false → first-in f d l ≡ getD l j d → elim b as (λ _. A) [ true ↦ x | false ↦ first-in f d l ] ≡ getD l j d
+    go true e ih = absurd (false≢true (sym e))
+    go false e ih = ih
+
+pub first-exists : {A : Type 0} (f : A → Bool) (d : A) (l : List A) (i : ℕ) → i < length l → f (getD l i d) ≡ true → (j : ℕ) × (j ≤ i) × First f d l j
+first-exists f d [] i h e = absurd (omega arith)
+first-exists f d (x ∷ l) zero h e = (zero, omega arith, record { within = omega arith; passes = e; earlier = λ m g. absurd (omega arith) })
+first-exists f d (x ∷ l) (suc i) h e = go (f x) refl (first-exists f d l i (omega arith) e)
+  where
+    go : (b : Bool) → f x ≡ b → (j : ℕ) × (j ≤ i) × First f d l j → (j : ℕ) × (j ≤ suc i) × First f d (x ∷ l) j
+    go true q ih = (zero, omega arith, record { within = omega arith; passes = q; earlier = λ m g. absurd (omega arith) })
+    go false q (j, le, r) = (suc j, omega arith, record { within = omega (arith, r .within); passes = r .passes; earlier = before })
+      where
+        before : (m : ℕ) → m < suc j → f (getD (x ∷ l) m d) ≡ false
+        before zero g = q
+        before (suc m) g = r .earlier m (omega arith)
+
+pub most-some : (n : ℕ) (f : ℕ → ℕ) → 1 ≤ most-below n f → (i : ℕ) × (i < n) × (f i ≡ most-below n f)
+most-some zero f h = absurd (omega arith)
+most-some (suc n) f h = go (decLe (most-below n f) (f n)) (most-some n f)
+  where
+    go : Dec (most-below n f ≤ f n) → (1 ≤ most-below n f → (i : ℕ) × (i < n) × (f i ≡ most-below n f))
+        → (i : ℕ) × (i < suc n) × (f i ≡ max (f n) (most-below n f))
+    go (yes l) ih = (n, omega arith, omega arith)
+    go (no l) ih = let (i, li, e) = ih (omega arith) in (i, omega arith, omega arith)

@@ -1,0 +1,112 @@
+-- Document 01's "Plausible errors", each refuted by a small example; by computation.
+use mathlib.Core.Bool.{Bool, true, false, cond, _&&_}
+use mathlib.Core.List.{List, [], _∷_, List·Memᴰ·not-nil}
+use mathlib.Core.Path.{_≡_, refl}
+use Prim.Native.Nat.{ℕ, zero, suc, _+_, _*_}
+use native.Mathlib.Omega.{arith}
+use lib.Dec.{leb, ltb}
+use lib.ListN.{getD}
+use borrow.Author.Tests.{leb-true}
+use Rattle.model.specs.Below.{all-below}
+use Rattle.model.specs.Problem.{Problem, Positions, time, Feasible, ends-before, feasible}
+use Rattle.model.specs.Domains.{Domains, may-before, may-overlap, remove-overlap, fix-before, fix-overlap, full-domains}
+use Rattle.model.specs.Rules.{rule4}
+use Rattle.model.specs.Propagate.{propagate}
+use Rattle.model.specs.Search.{infeasible}
+use Rattle.model.specs.Calls.{budget-spent, no-packing}
+use Rattle.model.specs.Run.{run}
+use Rattle.model.specs.Halls.{Triple, case, problem, xyt, unit, with-budget, right}
+use Rattle.model.specs.Admits.{Sound}
+use Rattle.model.proofs.Below.{all-at}
+use Rattle.model.proofs.Theorems.{infeasible-exactly}
+
+-- starts told item by item
+abbrev at-starts : List Triple → Positions
+at-starts s a u = getD (getD s u []) a 0
+
+-- "Floor areas that never exceed the hall in a shift taken for a fit". The floor taken by items below n in a shift
+abbrev floor-area : Problem → Positions → ℕ → ℕ → ℕ
+floor-area p q s zero = 0
+floor-area p q s (suc u) =
+    cond (leb (q time u) s && ltb s (q time u + p .size time u)) (p .size 0 u * p .size 1 u) 0 + floor-area p q s u
+
+abbrev areas-fit : Problem → Positions → Bool
+areas-fit p q = all-below (p .capacity time) (λ s. leb (floor-area p q s (p .items)) (p .capacity 0 * p .capacity 1))
+
+-- 3×3×1; two of 2×2×1: 8 of 9 fields, and yet nothing fits
+abbrev pub two-squares : Problem
+two-squares = problem (case (xyt 3 3 1) (xyt 2 2 1 ∷ xyt 2 2 1 ∷ []) [] [])
+
+pub areas-fit-there : areas-fit two-squares (at-starts []) ≡ true
+areas-fit-there = refl
+
+pub two-squares-infeasible : run two-squares ≡ infeasible
+unfolding right run
+two-squares-infeasible = refl
+
+two-squares-sound : Sound two-squares
+two-squares-sound = record {
+  limited = omega arith;
+  positive = λ a u la lu. leb-true _ _ (all-at 2 (λ v. leb 1 (two-squares .size a v)) (all-at 3 (λ b. all-below 2 (λ v. leb 1 (two-squares .size b v))) refl a la) u lu);
+  named = λ o m. absurd (List·Memᴰ·not-nil m);
+}
+
+-- so no packing of them is feasible
+pub areas-do-not-suffice : (q : Positions) → Feasible two-squares q → ⊥
+areas-do-not-suffice = infeasible-exactly two-squares two-squares-sound .0 two-squares-infeasible
+
+-- "Rule 4 used when only three of the four overlaps are known". On x ab, bc, cd overlap, da and ac do not, and b ends at the start of d
+abbrev pub four-in-line : Problem
+four-in-line = problem (case (xyt 7 4 1) (xyt 2 1 1 ∷ xyt 4 1 1 ∷ xyt 2 1 1 ∷ xyt 2 1 1 ∷ []) [] [])
+
+abbrev in-line : Positions
+in-line = at-starts (xyt 0 0 0 ∷ xyt 1 1 0 ∷ xyt 4 2 0 ∷ xyt 5 3 0 ∷ [])
+
+pub in-line-feasible : (feasible four-in-line in-line && ends-before four-in-line in-line 0 1 3) ≡ true
+unfolding right
+in-line-feasible = refl
+
+-- so rule 4 does not ask for "b before d" there, and does with the fourth overlap
+unfoldable pub three-overlaps : Domains
+three-overlaps = remove-overlap (fix-overlap (fix-overlap (fix-overlap full-domains 0 0 1) 0 1 2) 0 2 3) 0 0 2
+
+pub three-do-not-ask : rule4 four-in-line three-overlaps 0 1 3 ≡ false
+unfolding right three-overlaps
+three-do-not-ask = refl
+
+pub four-ask : rule4 four-in-line (fix-overlap three-overlaps 0 3 0) 0 1 3 ≡ true
+unfolding right three-overlaps
+four-ask = refl
+
+-- "A piece that overlaps u taken as standing on the far side of v". On x 0 ends before 1, and 2 overlaps 0: it does not stand past 1
+abbrev pub far-side : Problem
+far-side = problem (case (xyt 4 2 1) (xyt 2 1 1 ∷ unit ∷ xyt 3 1 1 ∷ []) [] [])
+
+abbrev near-side : Positions
+near-side = at-starts (xyt 0 0 0 ∷ xyt 2 0 0 ∷ xyt 1 1 0 ∷ [])
+
+pub near-side-feasible : (feasible far-side near-side && ends-before far-side near-side 0 0 1) ≡ true
+unfolding right
+near-side-feasible = refl
+
+pub not-past : ends-before far-side near-side 0 1 2 ≡ false
+unfolding right
+not-past = refl
+
+-- with these two relations fixed, propagation removes "1 before 2" and leaves the two others
+unfoldable pub near-domains : Domains
+near-domains = propagate far-side (fix-overlap (fix-before full-domains 0 0 1) 0 0 2)
+
+pub far-side-removed : may-before near-domains 0 1 2 ≡ false
+unfolding right near-domains
+far-side-removed = refl
+
+pub near-sides-left : (may-before near-domains 0 2 1 && may-overlap near-domains 0 1 2) ≡ true
+unfolding right near-domains
+near-sides-left = refl
+
+-- "The last allowed step finds a contradiction and 'none' is reported while a second turn is still due": the second of three steps finds one
+pub second-due :
+    right (case (xyt 2 1 1) (unit ∷ unit ∷ unit ∷ []) [] (with-budget 2 budget-spent 2 ∷ with-budget 1 no-packing 1 ∷ with-budget 1 no-packing 0 ∷ [])) ≡ true
+unfolding right
+second-due = refl

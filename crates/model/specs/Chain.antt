@@ -1,0 +1,38 @@
+-- Chains as lists of items (document 01, rule 5): what `longest` is the greatest total of.
+use mathlib.Core.Bool.{Bool, true, false}
+use mathlib.Core.List.{List, [], _∷_}
+use mathlib.Core.Path.{_≡_}
+use Prim.Native.Nat.{ℕ, _+_, _<_}
+use Rattle.model.specs.Problem.{Problem}
+use Rattle.model.specs.Domains.{Domains, fixed-before}
+use Rattle.model.specs.Rules.{listed, joined}
+
+module _ (p : Problem) (linked : ℕ → ℕ → Bool) where
+  -- "a row of distinct pieces, each known before the next"
+  pub data Chain : List ℕ → Type 0 where
+    alone : {u : ℕ} → u < p .items → Chain (u ∷ [])
+    link : {u v : ℕ} {l : List ℕ} → u < p .items → linked u v ≡ true → listed u (v ∷ l) ≡ false → Chain (v ∷ l) → Chain (u ∷ v ∷ l)
+
+-- "its total the sum of measures" (proofs/Chain shows that it is `measures`)
+module _ (p : Problem) (a : ℕ) (on : ℕ → ℕ → ℕ → ℕ) where
+  abbrev pub total-from : ℕ → List ℕ → ℕ
+  total-from u [] = p .size a u
+  total-from u (v ∷ l) = on u v (total-from v l)
+
+-- a chain from its first item on, and its total
+abbrev pub Starting : Problem → Domains → ℕ → List ℕ → Type 0
+Starting p k a = Chain p (λ u v. fixed-before k a u v)
+
+abbrev pub starting-total : Problem → ℕ → ℕ → List ℕ → ℕ
+starting-total p a = total-from p a (λ u v rest. joined p a u v (p .size a u) rest)
+
+-- a chain from its last item back, and its total
+abbrev pub Ending : Problem → Domains → ℕ → List ℕ → Type 0
+Ending p k a = Chain p (λ u v. fixed-before k a v u)
+
+abbrev pub ending-total : Problem → ℕ → ℕ → List ℕ → ℕ
+ending-total p a = total-from p a (λ u v rest. joined p a v u rest (p .size a u))
+
+abbrev pub measures : Problem → ℕ → List ℕ → ℕ
+measures p a [] = 0
+measures p a (u ∷ l) = p .size a u + measures p a l

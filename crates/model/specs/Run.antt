@@ -1,0 +1,33 @@
+-- The search of a problem: what its paths show, one call, the run and its step count.
+use mathlib.Core.Bool.{Bool, true, false}
+use mathlib.Core.List.{List}
+use Prim.Native.Nat.{ℕ, _*_, _-_}
+use Rattle.model.specs.Problem.{Problem, Positions}
+use Rattle.model.specs.Branching.{Branch, inconsistent, packed, path-domains, plan}
+use Rattle.model.specs.Search.{Outlook, conflict, complete, fork, Checkpoint, steps, opening, path-count}
+use Rattle.model.specs.Calls.{taken, Result, call}
+
+-- "contradictory"; "each pair has 'before' known"; "else"
+abbrev pub outlook : Bool → Bool → Outlook
+outlook true full = conflict
+outlook false true = complete
+outlook false false = fork
+
+unfoldable pub look : Problem → List Branch → Outlook
+look p path = let k = path-domains p path in outlook (inconsistent p k) (packed p k)
+
+-- one call: the answer with its plan, the steps taken and the checkpoint
+abbrev pub search : Problem → ℕ → Checkpoint → Result Positions
+search p budget κ = call (look p) (plan p) budget κ
+
+-- "A row of turns has at most 3 × n × (n − 1) entries"
+abbrev pub path-limit : Problem → ℕ
+path-limit p = 3 * (p .items * (p .items - 1))
+
+-- "one run of this search takes steps from the opening note until the note is finished": no run takes more steps than there are paths (proofs/Theorems)
+unfoldable pub run : Problem → Checkpoint
+run p = steps (look p) (path-count (path-limit p)) opening
+
+-- "The number of these steps .. is the sheet's step count"
+unfoldable pub step-count : Problem → ℕ
+step-count p = taken (look p) (path-count (path-limit p)) opening

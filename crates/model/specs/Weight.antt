@@ -1,0 +1,21 @@
+-- How much can still be removed: the relations left over one, summed. Each branch removes one, so that a path is no longer than this.
+use mathlib.Core.Bool.{cond}
+use Prim.Native.Nat.{ℕ, zero, suc, pred, _+_}
+use Rattle.model.specs.Problem.{Problem}
+use Rattle.model.specs.Domains.{Domains, may-overlap, may-before}
+
+-- f 0 + .. + f (n - 1)
+abbrev pub sum-below : ℕ → (ℕ → ℕ) → ℕ
+sum-below zero f = 0
+sum-below (suc n) f = sum-below n f + f n
+
+-- over the axes and the pairs of items below n
+abbrev pub sum-slots : ℕ → (ℕ → ℕ → ℕ → ℕ) → ℕ
+sum-slots n f = sum-below 3 (λ a. sum-below n (λ v. sum-below v (λ u. f a u v)))
+
+-- how many relations are left
+unfoldable pub relations : Domains → ℕ → ℕ → ℕ → ℕ
+relations k a u v = cond (may-overlap k a u v) 1 0 + (cond (may-before k a u v) 1 0 + cond (may-before k a v u) 1 0)
+
+unfoldable pub weight : Problem → Domains → ℕ
+weight p k = sum-slots (p .items) (λ a u v. pred (relations k a u v))
