@@ -1,3 +1,5 @@
 pub mod Valid
 pub mod Values
 pub mod Meaning
+pub mod Decode
+pub mod Encode

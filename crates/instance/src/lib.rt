@@ -2,9 +2,16 @@
 ghost use mathlib.Core.Path.{_≡_};
 ghost use Rattle.instance.specs.Valid.{valid};
 ghost use Rattle.instance.specs.Values.{opening-checkpoint, origin-packing};
+ghost use lib.ListN.{length};
+ghost use Rattle.instance.specs.Decode.{decode, read-result};
+ghost use Rattle.instance.specs.Encode.{write-answer, written-room};
 use records::Item;
 use records::Precedence;
 use records::Size;
+use refusal::Refusal;
+
+pub mod read;
+pub mod write;
 
 // A sheet. Entries past the counts are no part of it.
 pub struct Instance {
@@ -42,6 +49,23 @@ pub struct Checkpoint {
     pub branches: [u8; 270],
 }
 
+pub enum ReadAnswer {
+    Read,
+    Refused(Refusal),
+}
+
+// What reading gives. Where it is refused the instance is an empty one.
+pub struct ReadResult {
+    pub answer: ReadAnswer,
+    pub instance: Instance,
+}
+
+// What writing gives: how many bytes were written.
+pub enum WriteAnswer {
+    Written(usize),
+    Refused(Refusal),
+}
+
 impl Instance {
     pub const MAX_ITEMS: usize = 10;
 
@@ -59,6 +83,27 @@ impl Instance {
             length: 0,
             branches,
         }
+    }
+
+    // Reads a sheet.
+    pub fn read(bytes: &[u8]) -> ReadResult
+        ensures { λ r. ⌜ r ≡ read-result (decode (now (bytes .entry))) ⌝ }
+    {
+        read::read_sheet(bytes)
+    }
+
+    // Writes the sheet into the lent room, if it is an instance and the room is long enough.
+    pub fn write(self, out: &mut [u8]) -> WriteAnswer
+        ensures { λ r. ⌜ r ≡ write-answer self (length (now (out .entry))) ⌝ }
+        ensures { λ _. ⌜ now (out .exit) ≡ written-room self (now (out .entry)) ⌝ }
+    {
+        if !self.is_valid() {
+            return WriteAnswer::Refused(Refusal::InvalidInstance);
+        }
+        if out.len() < write::sheet_len(self) {
+            return WriteAnswer::Refused(Refusal::BadArgument);
+        }
+        WriteAnswer::Written(write::write_sheet(out, self))
     }
 
     // Whether the value is an instance: none of number 9's conditions holds.

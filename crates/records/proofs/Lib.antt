@@ -1,4 +1,8 @@
+pub mod Cases
+pub mod Counts
 pub mod Readers
 pub mod Rows
 pub mod Writers
 pub mod Tests
+pub mod Stood
+pub mod Back

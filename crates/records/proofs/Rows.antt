@@ -61,11 +61,11 @@ module _ {A : Type 0} where
     along-refused h = α .same ∙ rw h
 
     -- the whole row is read
-    pub along-done : {at : ℕ} {rest : List ℕ} → here ≡ got [] at rest → n ≤ i → (whole ≡ got (take n xs) at rest) × (xs ≡ take n xs ++ replicate (room - n) blank)
+    pub along-done : {at : ℕ} {rest : List ℕ} → here ≡ got [] at rest → n ≤ i → (whole ≡ got (take n xs) at rest) × ((xs ≡ take n xs ++ replicate (room - n) blank) × (length (take n xs) ≡ n))
     along-done {at} {rest} h l =
         let m : length (α .parts) ≡ n = omega arith in
         let t : take n xs ≡ α .parts = rw (α .stored) (take-at (α .parts) _ n m) in
-        (α .same ∙ rw (h, t, append-nil), rw t (α .stored ∙ rw m))
+        (α .same ∙ rw (h, t, append-nil), (rw t (α .stored ∙ rw m), rw t m))
 
 -- where `used` bytes of the row have been read and i of its n parts
 module _ (n i at used : ℕ) (rest : List ℕ) (more-parts : i < n) where

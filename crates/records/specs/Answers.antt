@@ -2,7 +2,7 @@
 use Prim.Native.Nat.{ℕ, _+_, _-_, _≤_}
 use mathlib.Core.List.{List, _++_}
 use mathlib.Core.Path.{_≡_}
-use lib.ListN.{take, drop, replicate}
+use lib.ListN.{length, take, drop, replicate}
 use Rattle.records.specs.declared.Size.{Size}
 use Rattle.records.specs.declared.Item.{Item}
 use Rattle.records.specs.declared.Precedence.{Precedence}
@@ -67,5 +67,5 @@ row-within n (E.Refused e) = Unit {0}
 
 -- of `room` entries those from n on are blank, where the row was read
 abbrev pub blank-after : {A : Type 0} → ℕ → A → ℕ → Stop → List A → Type 0
-blank-after room blank n (E.After used) xs = xs ≡ take n xs ++ replicate (room - n) blank
+blank-after room blank n (E.After used) xs = (xs ≡ take n xs ++ replicate (room - n) blank) × (length (take n xs) ≡ n)
 blank-after room blank n (E.Refused e) xs = Unit {0}

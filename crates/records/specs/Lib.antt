@@ -3,3 +3,4 @@ pub mod Precedences
 pub mod Bytes
 pub mod Reading
 pub mod Answers
+pub mod Bounds

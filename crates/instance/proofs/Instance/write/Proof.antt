@@ -1,0 +1,70 @@
+use native.Mathlib.Omega.{arith}
+use mathlib.Core.Path.{_≡_, refl, sym, _∙_}
+use mathlib.Core.Bool.{true}
+use Prim.Native.Nat.{_≤_, _<_}
+use lib.ListN.{length}
+use borrow.Author.Tests.{lt-ltb, le-ltb, le-leb, lt-leb, not-true, not-false}
+use Rattle.records.proofs.Writers.{sets-front}
+use Rattle.instance.specs.Valid.{valid}
+use Rattle.instance.specs.Encode.{encode, write-answer, written-room}
+use borrow.Author.Needs.{needs}
+use Rattle.instance.proofs.Instance.write.Statement.{statement}
+use Rattle.instance.proofs.Instance.write.Tie as tie
+use Rattle.instance.proofs.Instance.write.Reads as reads
+use Rattle.instance.proofs.Instance.write.Lts as lts
+use Rattle.instance.proofs.Instance.is_valid.Reads as is-valid-reads
+use Rattle.instance.proofs.write.sheet_len.Reads as sheet-len-reads
+use Rattle.instance.proofs.write.write_sheet.Reads as write-sheet-reads
+
+-- src/lib.rt:100:13
+is-valid-requires : tie.Need-is-valid-requires
+is-valid-requires c κs = search needs
+
+-- src/lib.rt:101:13
+returns : tie.Need-returns
+unfolding write-answer written-room
+returns c = 
+    let h = sym (c .before .is-valid .ensures) ∙ not-true (c .before .is-valid .result) (c .if1 .taken) in
+    (rw h, rw h)
+
+-- src/lib.rt:103:24
+sheet-len-requires : tie.Need-sheet-len-requires
+sheet-len-requires c κs = sym (c .before .is-valid .ensures) ∙ not-false (c .before .is-valid .result) (c .if1 .left)
+
+-- src/lib.rt:104:13
+returns-2 : tie.Need-returns-2
+unfolding write-answer written-room
+returns-2 c = 
+    let a = c .before .before .before .before .before .args in
+    let h = sym (c .before .before .before .is-valid .ensures) ∙ not-false (c .before .before .before .is-valid .result) (c .before .before .if1 .left) in
+    let l : length (a .out .now) < length (encode (a .self)) = omega arith in
+    (rw (h, lt-ltb _ _ l), rw (h, lt-leb _ _ l))
+
+-- src/lib.rt:106:30
+write-sheet-requires : tie.Need-write-sheet-requires
+write-sheet-requires c κs = (sym (c .before .before .before .before .is-valid .ensures) ∙ not-false (c .before .before .before .before .is-valid .result) (c .before .before .before .if1 .left), omega arith)
+
+-- src/lib.rt:96:5
+same-length : tie.Need-same-length
+same-length c = search needs
+
+-- src/lib.rt:96:5
+returns-3 : tie.Need-returns-3
+unfolding write-answer written-room
+returns-3 c = 
+    let a = c .before .before .before .before .before .before .before .before .before .args in
+    let h = sym (c .before .before .before .before .before .before .before .is-valid .ensures) ∙ not-false (c .before .before .before .before .before .before .before .is-valid .result) (c .before .before .before .before .before .before .if1 .left) in
+    let l : length (encode (a .self)) ≤ length (a .out .now) = omega arith in
+    (rw (h, le-ltb _ _ l, c .before .before .write-sheet .ensures .0), rw (h, le-leb _ _ l) (c .before .before .write-sheet .ensures .1 ∙ sets-front (encode (a .self)) (a .out .now) l))
+
+pub write-spec : {M : Type 1} → statement M
+write-spec =
+    tie.close
+    (tie.spec
+    is-valid-requires
+    returns
+    sheet-len-requires
+    returns-2
+    write-sheet-requires
+    same-length
+    returns-3)
