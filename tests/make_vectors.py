@@ -11,9 +11,9 @@ A case is an op byte, the payload's length in 2 bytes, and the payload; numbers 
     op            payload                                      line
     1 read        a sheet                                      read .. or refused NUMBER PLACE
     2 write       instance, room (2), fill (1)                 written LENGTH HEX or refused NUMBER PLACE HEX
-    3 record      k (4), a sheet                               record NUMBER PLACE [HEX]
+    3 record      k (8), a sheet                               record NUMBER PLACE [HEX]
     4 check       instance, positions                          feasible, not feasible or refused ..
-    5 clearance   instance, positions, u (4), v (4), axis (1)  clearance N or refused ..
+    5 clearance   instance, positions, u (8), v (8), axis (1)  clearance N or refused ..
     6 rewrite     a sheet, read and then written               rewritten LENGTH HEX or refused ..
     7 valid       instance                                     valid, not valid
 
@@ -28,6 +28,8 @@ import sys
 import reference
 
 READ, WRITE, RECORD, CHECK, CLEARANCE, REWRITE, VALID = range(1, 8)
+# What the program runs so far.
+RUN = (READ, WRITE, REWRITE, VALID)
 KINDS = ["", "read", "write", "record", "check", "clearance", "rewrite", "valid"]
 GUARD = 4
 MOST_ROOM = 300
@@ -170,7 +172,7 @@ def add_write(value, room, expected=None, fill=0xA5):
 
 
 def add_record(sheet, k, expected=None):
-    add(RECORD, little(k, 4) + sheet, record_line(sheet, k), expected)
+    add(RECORD, little(k, 8) + sheet, record_line(sheet, k), expected)
 
 
 def add_check(value, positions, expected=None):
@@ -178,7 +180,7 @@ def add_check(value, positions, expected=None):
 
 
 def add_clearance(value, positions, u, v, axis, expected=None):
-    payload = instance_bytes(value) + positions_bytes(positions) + little(u, 4) + little(v, 4) + bytes([axis])
+    payload = instance_bytes(value) + positions_bytes(positions) + little(u, 8) + little(v, 8) + bytes([axis])
     add(CLEARANCE, payload, clearance_line(value, positions, u, v, axis), expected)
 
 
@@ -470,10 +472,10 @@ def refused_values():
 
 
 def hand_record():
-    largest = 2 ** 32 - 1
+    largest = 2 ** 64 - 1
     add_record(EXAMPLE, 0, "record 0 0 010200")
     add_record(EXAMPLE, 1, "record 0 0 00")
-    for k in (2, 9, 10, 255, 256, 65535, 65536, largest):
+    for k in (2, 9, 10, 255, 256, 65535, 65536, 2 ** 32 - 1, 2 ** 32, 2 ** 63, largest):
         add_record(EXAMPLE, k, "record 5 0")
     add_record(b"", 0, "record 1 0")
     add_record(b"", largest, "record 1 0")
@@ -633,8 +635,8 @@ def hand_clearance():
         add_clearance(three, starts, 1, 1, axis, "clearance -1")
         add_clearance(three, starts, 2, 2, axis, "clearance -65535")
     # an item that is not there, then an axis that is not there
-    largest = 2 ** 32 - 1
-    for u, v in ((3, 0), (0, 3), (3, 3), (9, 0), (0, 10), (256, 0), (0, 65536), (largest, 0), (0, largest)):
+    largest = 2 ** 64 - 1
+    for u, v in ((3, 0), (0, 3), (3, 3), (9, 0), (0, 10), (256, 0), (0, 65536), (2 ** 32, 0), (largest, 0), (0, largest)):
         for axis in (0, 3):
             add_clearance(three, starts, u, v, axis, "refused 5 0")
     for axis in (3, 4, 128, 255):
@@ -827,8 +829,8 @@ def main():
         assert len(places) >= 2, number
     for number in (8, 9):
         assert sum(line.startswith("refused %d 0" % number) for line in lines) >= 2
-    stdin = b"".join(bytes([op]) + little(len(payload), 2) + payload for op, payload in cases)
-    stdout = "".join(line + "\n" for line in lines).encode()
+    stdin = b"".join(bytes([op]) + little(len(payload), 2) + payload for op, payload in cases if op in RUN)
+    stdout = "".join(line + "\n" for (op, _), line in zip(cases, lines) if op in RUN).encode()
     folder = os.path.join(os.path.dirname(os.path.abspath(__file__)), "..", "crates", "vectors")
     files = [(os.path.join(folder, "stdin"), stdin), (os.path.join(folder, "stdout"), stdout)]
     if sys.argv[1:] == ["--check"]:
