@@ -287,8 +287,8 @@ module _ (container : Size) (is : List Item) (os : List Precedence) (yard : ℕ)
       let y = items-listed-back map-of is (flag-bit map-of 8 0 (length is) (bit-8 (size-flags container) (flag 0 (length is)) (flag 0 (length os)) (flag 0 yard) k a b c)) n h in
       let z = precedences-listed-back map-of (length is) os (flag-bit map-of 16 0 (length os) (bit-16 (size-flags container) (flag 0 (length is)) (flag 0 (length os)) (flag 0 yard) k a b c)) m t in
       let l : 0 + 1 + length (size-bytes container) + length (counted-bytes (length is) (items-bytes is)) + length (counted-bytes (length os) (precedences-bytes os)) + length (field-bytes 0 yard)
-          ≡ length (map-of ∷ (size-bytes container ++ (counted-bytes (length is) (items-bytes is) ++ (counted-bytes (length os) (precedences-bytes os) ++ field-bytes 0 yard)))) =
-          simp length-append (omega arith) in
+      ≡ length (map-of ∷ (size-bytes container ++ (counted-bytes (length is) (items-bytes is) ++ (counted-bytes (length os) (precedences-bytes os) ++ field-bytes 0 yard)))) =
+      simp length-append (omega arith) in
       rw (made-encode container is os yard, le-ltb 63 map-of small, x, y, z, yard-end) (ap (λ (k : ℕ). got (instance-of container is os yard) k []) l)
 
 encoded : (i : Instance) → length (items-of i) ≡ i .«item_count» → length (precedences-of i) ≡ i .«precedence_count» → encode (blanked i) ≡ encode i
@@ -302,6 +302,6 @@ written-read i h α =
     let n : length (items-of i) ≡ i .«item_count» = length-take-le (i .«item_count») (i .items) (omega (arith, σ .items-few, α .items-room)) in
     let m : length (precedences-of i) ≡ i .«precedence_count» = length-take-le (i .«precedence_count») (i .precedences) (omega (arith, σ .precedences-few, α .precedences-room)) in
     let b = parts-back (i .container) (items-of i) (precedences-of i) (i .«yard_number») (σ .container-has-size) (omega (arith, σ .items-few)) (σ .items-have-size)
-        (omega (arith, σ .precedences-few)) (rw n (σ .precedences-stand)) in
+    (omega (arith, σ .precedences-few)) (rw n (σ .precedences-stand)) in
     let e : encode i ≡ encode (blanked i) = sym (encoded i n m) in
     rw e b

@@ -1,3 +1,4 @@
 pub mod Drafts
 pub mod Sheets
 pub mod Inverse
+pub mod Lookup

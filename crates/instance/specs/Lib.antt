@@ -3,3 +3,4 @@ pub mod Values
 pub mod Meaning
 pub mod Decode
 pub mod Encode
+pub mod Record

@@ -10,6 +10,7 @@ use records::Precedence;
 use records::Size;
 use refusal::Refusal;
 
+pub mod label;
 pub mod read;
 pub mod write;
 
@@ -64,6 +65,12 @@ pub struct ReadResult {
 pub enum WriteAnswer {
     Written(usize),
     Refused(Refusal),
+}
+
+// A refusal in numbers; 0 and 0 where nothing is refused.
+pub struct RefusalCode {
+    pub number: u8,
+    pub place: usize,
 }
 
 impl Instance {

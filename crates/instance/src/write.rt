@@ -58,7 +58,8 @@ pub fn sheet_len(instance: Instance) -> usize
     let n = instance.item_count;
     let precedences = instance.precedences;
     let m = instance.precedence_count;
-    1 + records::write::size_len(container)
+    1
+        + records::write::size_len(container)
         + item_list_len(items, n)
         + precedence_list_len(precedences, m)
         + records::write::field_len(0, instance.yard_number)
@@ -76,7 +77,12 @@ fn write_item_list(out: &mut [u8], at: usize, items: [Item; 10], n: usize) -> us
     records::write::write_items(out, at + 1, items, n)
 }
 
-fn write_precedence_list(out: &mut [u8], at: usize, precedences: [Precedence; 90], m: usize) -> usize
+fn write_precedence_list(
+    out: &mut [u8],
+    at: usize,
+    precedences: [Precedence; 90],
+    m: usize,
+) -> usize
     requires { ⌜ (m ≤ 90) × (at + length (counted-bytes m (precedences-bytes (take m precedences))) ≤ length (now out)) ⌝ }
     ensures { λ r. ⌜ r ≡ at + length (counted-bytes m (precedences-bytes (take m precedences))) ⌝ }
     ensures { λ _. ⌜ now (out .exit) ≡ sets (now (out .entry)) at (counted-bytes m (precedences-bytes (take m precedences))) ⌝ }

@@ -5,6 +5,8 @@ ghost use lib.ListN.{length};
 use instance::Instance;
 use instance::ReadAnswer;
 use instance::WriteAnswer;
+use packing::CheckAnswer;
+use packing::ClearanceAnswer;
 
 mod parts;
 mod print;
@@ -54,6 +56,48 @@ fn report_write(s: &[u8]) {
     print::bytes(&space, room + GUARD);
 }
 
+fn report_record(s: &[u8]) {
+    if s.len() < 8 {
+        print::word(b"no such case");
+        return;
+    }
+    let k = parts::eight_at(s, 0);
+    let sheet = &s[8..];
+    let code = instance::label::item_record_refusal(sheet, k);
+    print::word(b"record");
+    print::number(code.number as usize);
+    print::number(code.place);
+    let record = instance::label::item_record(sheet, k);
+    if record.len() == 0 {
+        return;
+    }
+    print::bytes(record, record.len());
+}
+
+fn report_check(s: &[u8]) {
+    let answer = packing::check(parts::instance_of(s), parts::packing_of(s));
+    match answer {
+        CheckAnswer::Feasible => print::word(b"feasible"),
+        CheckAnswer::NotFeasible => print::word(b"not feasible"),
+        CheckAnswer::Refused(e) => print::refused(e),
+    }
+}
+
+fn report_clearance(s: &[u8]) {
+    let rest = parts::INSTANCE_BYTES + parts::PACKING_BYTES;
+    let u = parts::eight_at(s, rest);
+    let v = parts::eight_at(s, rest + 8);
+    let axis = parts::byte_at(s, rest + 16);
+    let answer = packing::clearance(parts::instance_of(s), parts::packing_of(s), u, v, axis);
+    match answer {
+        ClearanceAnswer::Clearance(n) => {
+            print::word(b"clearance");
+            print::signed(n);
+        }
+        ClearanceAnswer::Refused(e) => print::refused(e),
+    }
+}
+
 fn rewrite(instance: Instance) {
     let mut space = [0u8; 261];
     let answer = instance.write(&mut space);
@@ -89,6 +133,9 @@ fn report(op: u8, s: &[u8]) {
     match op {
         1 => report_read(s),
         2 => report_write(s),
+        3 => report_record(s),
+        4 => report_check(s),
+        5 => report_clearance(s),
         6 => report_rewrite(s),
         7 => report_valid(s),
         _ => print::word(b"no such case"),

@@ -2,11 +2,15 @@
 ghost use Prim.Native.Nat.{_<_, _+_};
 ghost use lib.ListN.{length};
 use instance::Instance;
+use instance::Packing;
+use instance::Position;
 use records::Item;
 use records::Precedence;
 use records::Size;
 
 pub const INSTANCE_BYTES: usize = 252;
+
+pub const PACKING_BYTES: usize = 60;
 
 fn wide(x: u8) -> u16
     ensures { λ r. ⌜ r < 256 ⌝ }
@@ -28,6 +32,21 @@ pub fn two_at(s: &[u8], at: usize) -> u16
     wide(byte_at(s, at)) + 256 * wide(byte_at(s, at + 1))
 }
 
+// Four bytes, low byte first.
+fn four_at(s: &[u8], at: usize) -> usize
+    requires { ⌜ at < 2000 ⌝ }
+    ensures { λ r. ⌜ r < 4294967296 ⌝ }
+{
+    two_at(s, at) as usize + 65536 * (two_at(s, at + 2) as usize)
+}
+
+// Eight bytes, low byte first: any number.
+pub fn eight_at(s: &[u8], at: usize) -> usize
+    requires { ⌜ at < 1000 ⌝ }
+{
+    four_at(s, at) + 4294967296 * four_at(s, at + 4)
+}
+
 fn size_at(s: &[u8], at: usize) -> Size
     requires { ⌜ at < 1000 ⌝ }
 {
@@ -39,6 +58,15 @@ fn size_at(s: &[u8], at: usize) -> Size
         depth,
         shifts,
     }
+}
+
+fn position_at(s: &[u8], at: usize) -> Position
+    requires { ⌜ at < 1000 ⌝ }
+{
+    let x = two_at(s, at);
+    let y = two_at(s, at + 2);
+    let t = two_at(s, at + 4);
+    Position { x, y, t }
 }
 
 fn items_at(s: &[u8], at: usize) -> [Item; 10]
@@ -87,4 +115,16 @@ pub fn instance_of(s: &[u8]) -> Instance {
         precedence_count,
         yard_number,
     }
+}
+
+// The packing after the instance.
+pub fn packing_of(s: &[u8]) -> Packing {
+    let start = Packing::origin();
+    let mut positions = start.positions;
+    let mut i: usize = 0;
+    while i < 10 {
+        positions[i] = position_at(s, INSTANCE_BYTES + 6 * i);
+        i += 1;
+    }
+    Packing { positions }
 }

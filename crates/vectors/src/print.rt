@@ -18,6 +18,17 @@ pub fn number(n: usize) {
     io::print_decimal(1, n as u64);
 }
 
+// A signed number.
+pub fn signed(n: i32) {
+    if n < 0 {
+        io::write_all(1, b" -");
+        io::print_decimal(1, (0 - (n as i64)) as u64);
+        return;
+    }
+    io::write_all(1, b" ");
+    io::print_decimal(1, n as u64);
+}
+
 fn wide(x: u8) -> u64 {
     x as u64
 }

@@ -23,7 +23,7 @@ is-valid-requires c κs = search needs
 -- src/lib.rt:101:13
 returns : tie.Need-returns
 unfolding write-answer written-room
-returns c = 
+returns c =
     let h = sym (c .before .is-valid .ensures) ∙ not-true (c .before .is-valid .result) (c .if1 .taken) in
     (rw h, rw h)
 
@@ -34,7 +34,7 @@ sheet-len-requires c κs = sym (c .before .is-valid .ensures) ∙ not-false (c .
 -- src/lib.rt:104:13
 returns-2 : tie.Need-returns-2
 unfolding write-answer written-room
-returns-2 c = 
+returns-2 c =
     let a = c .before .before .before .before .before .args in
     let h = sym (c .before .before .before .is-valid .ensures) ∙ not-false (c .before .before .before .is-valid .result) (c .before .before .if1 .left) in
     let l : length (a .out .now) < length (encode (a .self)) = omega arith in
@@ -51,7 +51,7 @@ same-length c = search needs
 -- src/lib.rt:96:5
 returns-3 : tie.Need-returns-3
 unfolding write-answer written-room
-returns-3 c = 
+returns-3 c =
     let a = c .before .before .before .before .before .before .before .before .before .args in
     let h = sym (c .before .before .before .before .before .before .before .is-valid .ensures) ∙ not-false (c .before .before .before .before .before .before .before .is-valid .result) (c .before .before .before .before .before .before .if1 .left) in
     let l : length (encode (a .self)) ≤ length (a .out .now) = omega arith in

@@ -59,27 +59,29 @@ add-read-from-precedences c = let w = rw (c .before .before .before .before .sto
 
 -- src/read.rt:208:13
 read-from-precedences-requires : tie.Need-read-from-precedences-requires
-read-from-precedences-requires c κs = 
+read-from-precedences-requires c κs =
     let w = rw (c .before .before .before .before .stop2 .given .1) at (c .before .before .before .before .before .before .read-item-list .ensures .1 .0 .0) in
-    let b = rw (c .before .before .before .before .stop2 .given .1) at (c .before .before .before .before .before .before .read-item-list .ensures .1 .1) in
-    (simp (rest-of, length-drop) (omega arith), record {
-      items-few = c .before .before .before .before .before .before .read-item-list .ensures .1 .0 .1;
-      precedences-few = rw (c .before .empty .ensures) (omega arith);
-      items-blank = blank-filled 10 _ no-item _ b;
-      precedences-blank = rw (c .before .empty .ensures) refl;
-    })
+    let b = rw (c .before .before .before .before .stop2 .given .1) at (c .before .before .before .before .before .before .read-item-list .ensures .1 .1) in (
+      simp (rest-of, length-drop) (omega arith),
+      record {
+        items-few = c .before .before .before .before .before .before .read-item-list .ensures .1 .0 .1;
+        precedences-few = rw (c .before .empty .ensures) (omega arith);
+        items-blank = blank-filled 10 _ no-item _ b;
+        precedences-blank = rw (c .before .empty .ensures) refl;
+      },
+    )
 
 -- src/read.rt:194:1
 returns : tie.Need-returns
 unfolding from-items
-returns c = 
+returns c =
     let e = rw (c .before .before .stop .given .1) at (c .before .before .before .before .read-item-list .ensures .0) in
     c .refuse .ensures ∙ simp (← (c .before .before .before .before .before .bit-stands .ensures), e)
 
 -- src/read.rt:194:1
 returns-2 : tie.Need-returns-2
 unfolding from-items
-returns-2 c = 
+returns-2 c =
     let e = rw (c .before .before .before .before .before .stop2 .given .1) at (c .before .before .before .before .before .before .before .read-item-list .ensures .0) in
     let f = rw rest-of at (c .read-from-precedences .ensures) in
     f ∙ simp (← (c .before .before .before .before .before .before .before .before .bit-stands .ensures), e)

@@ -54,21 +54,23 @@ add-read-from-yard c = let w = rw (c .before .before .before .stop2 .given .1) a
 
 -- src/read.rt:188:13
 read-from-yard-requires : tie.Need-read-from-yard-requires
-read-from-yard-requires c κs = 
+read-from-yard-requires c κs =
     let w = rw (c .before .before .before .stop2 .given .1) at (c .before .before .before .before .before .read-precedence-list .ensures .1 .0 .0) in
     let b = rw (c .before .before .before .stop2 .given .1) at (c .before .before .before .before .before .read-precedence-list .ensures .1 .1) in
-    let δ = c .before .before .before .before .before .before .before .before .pre .1 in
-    (simp (rest-of, length-drop) (omega arith), record {
-      items-few = δ .items-few;
-      precedences-few = c .before .before .before .before .before .read-precedence-list .ensures .1 .0 .1;
-      items-blank = δ .items-blank;
-      precedences-blank = blank-filled 90 _ no-precedence _ b;
-    })
+    let δ = c .before .before .before .before .before .before .before .before .pre .1 in (
+      simp (rest-of, length-drop) (omega arith),
+      record {
+        items-few = δ .items-few;
+        precedences-few = c .before .before .before .before .before .read-precedence-list .ensures .1 .0 .1;
+        items-blank = δ .items-blank;
+        precedences-blank = blank-filled 90 _ no-precedence _ b;
+      },
+    )
 
 -- src/read.rt:174:1
 returns : tie.Need-returns
 unfolding from-precedences
-returns c = 
+returns c =
     let a = c .before .before .before .before .before .before .before .args in
     let e = rw (c .before .before .stop .given .1) at (c .before .before .before .before .read-precedence-list .ensures .0) in
     c .refuse .ensures ∙ simp (items-many (a .draft) (c .before .before .before .before .before .before .before .pre .1), ← (c .before .before .before .before .before .bit-stands .ensures), e)
@@ -76,7 +78,7 @@ returns c =
 -- src/read.rt:174:1
 returns-2 : tie.Need-returns-2
 unfolding from-precedences
-returns-2 c = 
+returns-2 c =
     let a = c .before .before .before .before .before .before .before .before .before .args in
     let e = rw (c .before .before .before .before .stop2 .given .1) at (c .before .before .before .before .before .before .read-precedence-list .ensures .0) in
     let f = rw rest-of at (c .read-from-yard .ensures) in

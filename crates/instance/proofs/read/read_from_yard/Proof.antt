@@ -44,7 +44,7 @@ refuse-requires-2 c κs = search needs
 -- src/read.rt:161:17
 returns : tie.Need-returns
 unfolding from-yard
-returns c = 
+returns c =
     let a = c .before .before .before .before .before .before .before .before .args in
     let e = rw (c .before .before .before .yard .given .1) at (c .before .before .before .before .before .read-field .ensures .0) in
     let m : 0 < length (drop (c .before .before .before .yard .given .0 .1 .0) (a .rest .now)) = rw length-drop (omega arith) in
@@ -53,14 +53,14 @@ returns c =
 -- src/read.rt:153:1
 returns-2 : tie.Need-returns-2
 unfolding from-yard
-returns-2 c = 
+returns-2 c =
     let e = rw (c .before .before .e .given .1) at (c .before .before .before .before .read-field .ensures .0) in
     c .refuse .ensures ∙ simp (← (c .before .before .before .before .before .bit-stands .ensures), e)
 
 -- src/read.rt:153:1
 returns-3 : tie.Need-returns-3
 unfolding from-yard
-returns-3 c = 
+returns-3 c =
     let a = c .before .before .before .before .before .before .before .args in
     let e = rw (c .before .before .yard .given .1) at (c .before .before .before .before .read-field .ensures .0) in
     let w = rw (c .before .before .yard .given .1) at (c .before .before .before .before .read-field .ensures .1) in

@@ -23,7 +23,7 @@ no-precedence-list-requires c κs = search needs
 
 -- src/read.rt:131:9
 returns : tie.Need-returns
-returns c = 
+returns c =
     let a = c .before .before .before .args in
     let w = c .no-precedence-list .ensures in
     (rw (w .0 .0, w .0 .1, not-true (a .standing) (c .before .if1 .taken), add-zero), (rw (w .0 .0, w .0 .1) (omega arith, omega arith), rw (w .0 .0, w .0 .1, w .1) (refl, refl)))
@@ -66,7 +66,7 @@ add-read-precedences c = let h = rw (c .before .before .before .count .given .1)
 
 -- src/read.rt:137:17
 read-precedences-requires : tie.Need-read-precedences-requires
-read-precedences-requires c κs = 
+read-precedences-requires c κs =
     let a = c .before .before .before .before .before .before .before .before .args in
     let h = rw (c .before .before .before .count .given .1) at (c .before .before .before .before .before .read-count .ensures .1) in
     let e = rw (c .before .before .before .count .given .1) at (c .before .before .before .before .before .read-count .ensures .0) in
@@ -87,14 +87,14 @@ enum-known-stop-2 c = search needs
 
 -- src/read.rt:143:39
 add-t26 : tie.Need-add-t26
-add-t26 c = 
+add-t26 c =
     let h = rw (c .before .before .before .before .before .before .before .before .count .given .1) at (c .before .before .before .before .before .before .before .before .before .before .read-count .ensures .1) in
     let k = rw (c .before .stop2 .given .1, rest-of, length-drop) at (c .before .before .before .before .read-precedences .ensures .1 .0) in
     omega arith
 
 -- src/read.rt:124:1
 returns-2 : tie.Need-returns-2
-returns-2 c = 
+returns-2 c =
     let a = c .before .before .before .before .before .before .before .args in
     let w = c .no-precedence-list2 .ensures in
     let e = rw (c .before .before .e .given .1) at (c .before .before .before .before .read-count .ensures .0) in
@@ -102,7 +102,7 @@ returns-2 c =
 
 -- src/read.rt:124:1
 returns-3 : tie.Need-returns-3
-returns-3 c = 
+returns-3 c =
     let a = c .before .before .before .before .before .before .before .before .before .before .before .before .before .before .args in
     let w = c .no-precedence-list3 .ensures in
     let e = rw (c .before .before .before .before .before .before .before .before .before .count .given .1) at (c .before .before .before .before .before .before .before .before .before .before .before .read-count .ensures .0) in
@@ -111,7 +111,7 @@ returns-3 c =
 
 -- src/read.rt:124:1
 returns-4 : tie.Need-returns-4
-returns-4 c = 
+returns-4 c =
     let a = c .before .before .before .before .before .before .before .before .before .before .before .before .before .args in
     let e = rw (c .before .before .before .before .before .before .before .before .count .given .1) at (c .before .before .before .before .before .before .before .before .before .before .read-count .ensures .0) in
     let i = rw (c .before .before .before .before .before .before .before .before .count .given .1) at (c .before .before .before .before .before .before .before .before .before .before .read-count .ensures .1) in

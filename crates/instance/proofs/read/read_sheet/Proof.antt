@@ -88,7 +88,7 @@ read-from-items-requires c κs = let w = rw (c .before .before .container .given
 -- src/read.rt:214:1
 returns-3 : tie.Need-returns-3
 unfolding decode
-returns-3 c = 
+returns-3 c =
     let a = c .before .before .before .before .before .before .before .before .before .before .args in
     let e = rw (rest-of, c .before .before .e .given .1) at (c .before .before .before .before .read-size .ensures .0) in
     c .refuse3 .ensures ∙ simp (byte-one 0 (a .bytes .now) (c .before .before .before .before .before .before .before .before .if1 .left), le-ltb _ _ (c .before .before .before .before .before .before .if2 .left), e)
@@ -96,7 +96,7 @@ returns-3 c =
 -- src/read.rt:214:1
 returns-4 : tie.Need-returns-4
 unfolding decode
-returns-4 c = 
+returns-4 c =
     let a = c .before .before .before .before .before .before .before .before .before .before .before .args in
     let e = rw (rest-of, c .before .before .before .container .given .1) at (c .before .before .before .before .before .read-size .ensures .0) in
     let f = rw rest-of at (c .read-from-items .ensures) in

@@ -22,7 +22,7 @@ add-result c = search needs
 
 -- src/write.rt:41:1
 returns-2 : tie.Need-returns-2
-returns-2 c = 
+returns-2 c =
     let a = c .before .args in
     let h : length (a .precedences) ≡ 90 = search needs in
     (rw (counted-some _ _ (c .if1 .left)) (omega (arith, precedences-two (a .m) (a .precedences) (omega arith))), omega arith)

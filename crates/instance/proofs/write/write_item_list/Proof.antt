@@ -36,7 +36,7 @@ same-length c = omega (arith, simp length-set at (c .before .before .write-items
 
 -- src/write.rt:68:1
 returns-2 : tie.Need-returns-2
-returns-2 c = 
+returns-2 c =
     let a = c .before .before .before .before .before .before .args in
     (rw (counted-some _ _ (c .before .before .before .before .if1 .left)) (omega arith), c .before .before .write-items .ensures .1 ∙ counted-run _ _ _ _ (c .before .before .before .before .if1 .left))
 

@@ -28,7 +28,7 @@ add-write-precedences c = search needs
 
 -- src/write.rt:89:5
 write-precedences-requires : tie.Need-write-precedences-requires
-write-precedences-requires c κs = 
+write-precedences-requires c κs =
     let a = c .before .before .before .args in
     let l : length (a .precedences) ≡ 90 = search needs in
     let h = rw (counted-some _ _ (c .before .if1 .left)) at (c .before .before .before .pre .1) in
@@ -41,7 +41,7 @@ same-length c = omega (arith, simp length-set at (c .before .before .write-prece
 
 -- src/write.rt:80:1
 returns-2 : tie.Need-returns-2
-returns-2 c = 
+returns-2 c =
     let a = c .before .before .before .before .before .before .args in
     let l : length (a .precedences) ≡ 90 = search needs in
     let k = precedences-two (a .m) (a .precedences) (omega arith) in

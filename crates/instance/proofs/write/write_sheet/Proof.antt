@@ -27,19 +27,19 @@ write-size-requires c κs = let h = encode-length (c .before .before .before .be
 
 -- src/write.rt:105:9
 write-item-list-requires : tie.Need-write-item-list-requires
-write-item-list-requires c κs = 
+write-item-list-requires c κs =
     let h = encode-length (c .before .before .before .before .before .before .before .before .before .before .args .instance) in
     (valid-says _ (c .before .before .before .before .before .before .before .before .before .before .pre .0) .items-few, omega (arith, simp length-set at (c .before .before .before .write-size .kept .0)))
 
 -- src/write.rt:106:9
 write-precedence-list-requires : tie.Need-write-precedence-list-requires
-write-precedence-list-requires c κs = 
+write-precedence-list-requires c κs =
     let h = encode-length (c .before .before .before .before .before .before .before .before .before .before .before .before .before .before .args .instance) in
     (valid-says _ (c .before .before .before .before .before .before .before .before .before .before .before .before .before .before .pre .0) .precedences-few, omega (arith, simp length-set at (c .before .before .before .before .before .before .before .write-size .kept .0), c .before .before .before .write-item-list .kept .0))
 
 -- src/write.rt:107:5
 write-field-requires : tie.Need-write-field-requires
-write-field-requires c κs = 
+write-field-requires c κs =
     let h = encode-length (c .before .before .before .before .before .before .before .before .before .before .before .before .before .before .before .before .before .before .args .instance) in
     omega (arith, simp length-set at (c .before .before .before .before .before .before .before .before .before .before .before .write-size .kept .0), c .before .before .before .before .before .before .before .write-item-list .kept .0, c .before .before .before .write-precedence-list .kept .0)
 

@@ -1,0 +1,7 @@
+pub mod LastAxis
+pub mod Loops
+pub mod Named
+pub mod Decides
+pub mod Answers
+pub mod Gaps
+pub mod Differences

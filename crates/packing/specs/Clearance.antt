@@ -1,0 +1,77 @@
+-- The clearance of two items on an axis, and what is answered (document 01, "Fit" and the refusals 9, 5, 8).
+use mathlib.Core.Bool.{Bool, true, false, cond, _&&_}
+use mathlib.Core.Logic.{_⊎_, inl, inr}
+use mathlib.Core.Path.{_≡_}
+use Prim.Native.Nat.{ℕ, _+_, _≤_, _<_}
+use lib.Dec.{ltb}
+use lib.IntN.{ℤ, pos, natAbs, _+ℤ_, _-ℤ_}
+use lib.Signed.{ltZ, _≤ℤ_}
+use Rattle.model.specs.Problem.{Problem, Positions, EndsBefore}
+use Rattle.refusal.specs.declared.Refusal.{Refusal}
+use Rattle.refusal.specs.declared.Refusal.the-variants.{BadItem, BadArgument, InvalidInstance}
+use Rattle.refusal.specs.Numbers.{number-of, place-of}
+use Rattle.instance.specs.declared.Instance.{Instance}
+use Rattle.instance.specs.declared.Packing.{Packing}
+use Rattle.instance.specs.Valid.{valid}
+use Rattle.instance.specs.Meaning.{problem-of, positions-of}
+use Rattle.packing.specs.declared.ClearanceAnswer.{ClearanceAnswer}
+use Rattle.packing.specs.declared.ClearanceAnswer.the-variants.{Clearance, Refused}
+
+-- the greater of two integers
+unfoldable pub greater-of : ℤ → ℤ → ℤ
+greater-of a b = cond (ltZ a b) b a
+
+-- "v's start − u's end"
+unfoldable pub from-end-to-start : Problem → Positions → ℕ → ℕ → ℕ → ℤ
+from-end-to-start p q a u v = pos (q a v) -ℤ pos (q a u + p .size a u)
+
+-- "the greater of (v's start − u's end) and (u's start − v's end)"
+unfoldable pub clearance-between : Problem → Positions → ℕ → ℕ → ℕ → ℤ
+clearance-between p q a u v = greater-of (from-end-to-start p q a u v) (from-end-to-start p q a v u)
+
+-- the answer, or the refusal where the test fails
+abbrev pub refused-unless : Bool → Refusal → ClearanceAnswer → ClearanceAnswer
+refused-unless true e r = r
+refused-unless false e r = Refused e
+
+-- "9 is tested before 5, 8 and 10 ..; clearance then tests 5 and then 8": 5, with place 0, for an item that is not there; 8 for an axis that is not 0, 1 or 2
+unfoldable pub clearance-answer : Instance → Packing → ℕ → ℕ → ℕ → ClearanceAnswer
+clearance-answer i q u v a =
+    refused-unless (valid i) InvalidInstance
+    (refused-unless (ltb u (i .«item_count») && ltb v (i .«item_count»)) (BadItem 0)
+    (refused-unless (ltb a 3) BadArgument
+    (Clearance (clearance-between (problem-of i) (positions-of q) a u v))))
+
+-- what is returned: the clearance, or a refusal's number and place
+abbrev pub clearance-values : ClearanceAnswer → ℤ ⊎ (ℕ × ℕ)
+clearance-values (Clearance z) = inl z
+clearance-values (Refused e) = inr (number-of e, place-of e)
+
+-- The same answer in numbers, condition by condition.
+pub record Answers (i : Instance) (q : Packing) (u v a : ℕ) (r : ClearanceAnswer) : Type 0 where
+  -- 9: the value is no instance
+  pub nine : valid i ≡ false → clearance-values r ≡ inr (9, 0)
+  -- 5: "a piece not on the sheet"
+  pub five : valid i ≡ true → (i .«item_count» ≤ u) ⊎ (i .«item_count» ≤ v) → clearance-values r ≡ inr (5, 0)
+  -- 8: "clearance axis not 0, 1 or 2"
+  pub eight : valid i ≡ true → u < i .«item_count» → v < i .«item_count» → 3 ≤ a → clearance-values r ≡ inr (8, 0)
+  pub value : valid i ≡ true → u < i .«item_count» → v < i .«item_count» → a < 3 → clearance-values r ≡ inl (clearance-between (problem-of i) (positions-of q) a u v)
+
+-- "above 0 a gap, 0 touching": one item ends so many modules before the other starts
+unfoldable pub Gap : Problem → Positions → ℕ → ℕ → ℕ → ℕ → Type 0
+Gap p q a u v g = (q a u + p .size a u + g ≡ q a v) ⊎ (q a v + p .size a v + g ≡ q a u)
+
+-- v, moved on the axis by m modules, below 0 towards the origin and past it, is apart from u
+unfoldable pub PartedByMove : Problem → Positions → ℕ → ℕ → ℕ → ℤ → Type 0
+PartedByMove p q a u v m = (pos (q a u + p .size a u) ≤ℤ (pos (q a v) +ℤ m)) ⊎ (((pos (q a v) +ℤ m) +ℤ pos (p .size a v)) ≤ℤ pos (q a u))
+
+-- "the least move on that axis that parts them": some move of v by d modules does, and no move by fewer, either way
+pub record LeastMove (p : Problem) (q : Positions) (a u v d : ℕ) : Type 0 where
+  pub parts : (m : ℤ) × (natAbs m ≡ d) × PartedByMove p q a u v m
+  pub least : (m : ℤ) → PartedByMove p q a u v m → d ≤ natAbs m
+
+-- "below 0 the overlap, told as the least move on that axis that parts them, with a minus": of v, and of u
+pub record Overlap (p : Problem) (q : Positions) (a u v d : ℕ) : Type 0 where
+  pub not-apart : (EndsBefore p q a u v ⊎ EndsBefore p q a v u) → ⊥
+  pub of-second : LeastMove p q a u v d
+  pub of-first : LeastMove p q a v u d

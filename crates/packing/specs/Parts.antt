@@ -1,0 +1,48 @@
+-- Parts of the test of a packing, each the work of one loop.
+use mathlib.Core.Bool.{Bool, true, _&&_}
+use mathlib.Core.List.{List, [], _∷_}
+use Prim.Native.Nat.{ℕ, _+_, _<_}
+use lib.Dec.{leb}
+use lib.ListN.{getD}
+use Rattle.model.specs.Below.{all-below}
+use Rattle.model.specs.Problem.{Problem, Positions, apart-on-some-axis, time}
+use Rattle.records.specs.declared.Item.{Item}
+use Rattle.records.specs.declared.Precedence.{Precedence}
+use Rattle.records.specs.Sizes.{no-item, no-precedence}
+use Rattle.instance.specs.declared.Position.{Position}
+use Rattle.instance.specs.Values.{origin}
+use Rattle.instance.specs.Meaning.{measure, start}
+use Rattle.packing.specs.declared.axes.Placed.{Placed}
+
+-- one item on one axis: "start plus measure is at most the hall's measure"
+unfoldable pub within : Problem → Positions → ℕ → ℕ → Bool
+within p q a u = leb (q a u + p .size a u) (p .capacity a)
+
+-- every item on one axis
+unfoldable pub inside-on : Problem → Positions → ℕ → Bool
+inside-on p q a = all-below (p .items) (within p q a)
+
+-- item u is apart from every item of a lower number
+unfoldable pub apart-from-lower : Problem → Positions → ℕ → Bool
+apart-from-lower p q u = all-below u (apart-on-some-axis p q u)
+
+-- the first m precedences name items below n
+pub record Named (n m : ℕ) (os : List Precedence) : Type 0 where
+  pub predecessor : (k : ℕ) → k < m → getD os k no-precedence .predecessor < n
+  pub successor : (k : ℕ) → k < m → getD os k no-precedence .successor < n
+
+-- item u where a packing puts it
+abbrev pub placed-at : List Item → List Position → ℕ → Placed
+placed-at items positions u = record { size = getD items u no-item .size; position = getD positions u origin }
+
+-- start plus measure
+unfoldable pub end-of : ℕ → Placed → ℕ
+end-of a i = start a (i .position) + measure a (i .size)
+
+-- "u's end in t is at most v's start", over the arrays of items and positions
+unfoldable pub kept : List Item → List Position → Precedence → Bool
+kept items positions o = leb (end-of time (placed-at items positions (o .predecessor))) (start time (placed-at items positions (o .successor) .position))
+
+unfoldable pub all-kept : List Item → List Position → List Precedence → Bool
+all-kept items positions [] = true
+all-kept items positions (o ∷ os) = kept items positions o && all-kept items positions os

@@ -1,0 +1,62 @@
+// Starts, measures and ends on one of the axes x 0, y 1, t 2.
+ghost use mathlib.Core.Path.{_≡_};
+ghost use Prim.Native.Nat.{_<_};
+ghost use lib.Dec.{leb};
+ghost use Rattle.instance.specs.Meaning.{measure, start};
+ghost use Rattle.packing.specs.Parts.{placed-at, end-of};
+use instance::Position;
+use records::Item;
+use records::Size;
+
+pub fn measure_on(size: Size, axis: u8) -> u16
+    ensures { λ r. ⌜ r ≡ measure axis size ⌝ }
+{
+    match axis {
+        0 => size.width,
+        1 => size.depth,
+        _ => size.shifts,
+    }
+}
+
+pub fn start_on(position: Position, axis: u8) -> u16
+    ensures { λ r. ⌜ r ≡ start axis position ⌝ }
+{
+    match axis {
+        0 => position.x,
+        1 => position.y,
+        _ => position.t,
+    }
+}
+
+// An item where a packing puts it.
+pub struct Placed {
+    pub size: Size,
+    pub position: Position,
+}
+
+pub fn placed_item(items: [Item; 10], positions: [Position; 10], u: usize) -> Placed
+    requires { ⌜ u < 10 ⌝ }
+    ensures { λ r. ⌜ r ≡ placed-at items positions u ⌝ }
+{
+    let item = items[u];
+    let size = item.size;
+    let position = positions[u];
+    Placed { size, position }
+}
+
+// Start plus measure, which may be above what a u16 holds.
+pub fn end_on(item: Placed, axis: u8) -> u32
+    ensures { λ r. ⌜ (r ≡ end-of axis item) × (r < 131072) ⌝ }
+{
+    let size = item.size;
+    let position = item.position;
+    start_on(position, axis) as u32 + measure_on(size, axis) as u32
+}
+
+// One item ends at or before the other's start.
+pub fn ends_before(item: Placed, other: Placed, axis: u8) -> bool
+    ensures { λ r. ⌜ r ≡ leb (end-of axis item) (start axis (other .position)) ⌝ }
+{
+    let position = other.position;
+    end_on(item, axis) <= start_on(position, axis) as u32
+}

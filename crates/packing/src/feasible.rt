@@ -1,0 +1,140 @@
+// The three conditions of a feasible packing.
+ghost use mathlib.Core.Bool.{true};
+ghost use mathlib.Core.Path.{_≡_};
+ghost use Prim.Native.Nat.{_≤_, _<_};
+ghost use lib.ListN.{take};
+ghost use Rattle.model.specs.Problem.{inside-test, apart-on-some-axis, apart-test, ordered-test};
+ghost use Rattle.instance.specs.Meaning.{problem-of, positions-of};
+ghost use Rattle.instance.specs.Valid.{valid};
+ghost use Rattle.packing.specs.Parts.{inside-on, apart-from-lower, Named, all-kept};
+use crate::axes;
+use instance::Instance;
+use instance::Packing;
+use instance::Position;
+use records::Item;
+use records::Precedence;
+
+// On one axis every item ends within the container.
+fn inside_on_axis(instance: Instance, packing: Packing, axis: u8) -> bool
+    requires { ⌜ instance .«item_count» ≤ 10 ⌝ }
+    ensures { λ r. ⌜ r ≡ inside-on (problem-of instance) (positions-of packing) axis ⌝ }
+{
+    let container = instance.container;
+    let items = instance.items;
+    let count = instance.item_count;
+    let positions = packing.positions;
+    let limit = axes::measure_on(container, axis) as u32;
+    let mut u: usize = 0;
+    while u < count {
+        let item = axes::placed_item(items, positions, u);
+        if limit < axes::end_on(item, axis) {
+            return false;
+        }
+        u = u + 1;
+    }
+    true
+}
+
+// On every axis every item ends within the container.
+pub fn inside(instance: Instance, packing: Packing) -> bool
+    requires { ⌜ instance .«item_count» ≤ 10 ⌝ }
+    ensures { λ r. ⌜ r ≡ inside-test (problem-of instance) (positions-of packing) ⌝ }
+{
+    let mut axis: u8 = 0;
+    while axis < 3 {
+        if !inside_on_axis(instance, packing, axis) {
+            return false;
+        }
+        axis = axis + 1;
+    }
+    true
+}
+
+// Two items are apart on some axis.
+fn apart_on_some_axis(instance: Instance, packing: Packing, u: usize, v: usize) -> bool
+    requires { ⌜ (u < 10) × (v < 10) ⌝ }
+    ensures { λ r. ⌜ r ≡ apart-on-some-axis (problem-of instance) (positions-of packing) u v ⌝ }
+{
+    let items = instance.items;
+    let positions = packing.positions;
+    let first = axes::placed_item(items, positions, u);
+    let second = axes::placed_item(items, positions, v);
+    let mut axis: u8 = 0;
+    while axis < 3 {
+        if axes::ends_before(first, second, axis) {
+            return true;
+        }
+        if axes::ends_before(second, first, axis) {
+            return true;
+        }
+        axis = axis + 1;
+    }
+    false
+}
+
+// An item is apart from every item of a lower number.
+fn apart_from_lower_items(instance: Instance, packing: Packing, u: usize) -> bool
+    requires { ⌜ u < 10 ⌝ }
+    ensures { λ r. ⌜ r ≡ apart-from-lower (problem-of instance) (positions-of packing) u ⌝ }
+{
+    let mut v: usize = 0;
+    while v < u {
+        if !apart_on_some_axis(instance, packing, u, v) {
+            return false;
+        }
+        v = v + 1;
+    }
+    true
+}
+
+// Each two items are apart on some axis.
+pub fn apart(instance: Instance, packing: Packing) -> bool
+    requires { ⌜ instance .«item_count» ≤ 10 ⌝ }
+    ensures { λ r. ⌜ r ≡ apart-test (problem-of instance) (positions-of packing) ⌝ }
+{
+    let n = instance.item_count;
+    let mut u: usize = 0;
+    while u < n {
+        if !apart_from_lower_items(instance, packing, u) {
+            return false;
+        }
+        u = u + 1;
+    }
+    true
+}
+
+// The first m precedences are kept on t.
+fn all_are_kept(
+    items: [Item; 10],
+    positions: [Position; 10],
+    precedences: [Precedence; 90],
+    m: usize,
+) -> bool
+    requires { ⌜ (m ≤ 90) × Named 10 m precedences ⌝ }
+    ensures { λ r. ⌜ r ≡ all-kept items positions (take m precedences) ⌝ }
+{
+    let mut i: usize = 0;
+    while i < m {
+        let o = precedences[i];
+        let u = o.predecessor as usize;
+        let v = o.successor as usize;
+        let first = axes::placed_item(items, positions, u);
+        let second = axes::placed_item(items, positions, v);
+        if !axes::ends_before(first, second, 2) {
+            return false;
+        }
+        i = i + 1;
+    }
+    true
+}
+
+// Each precedence is kept on t.
+pub fn ordered(instance: Instance, packing: Packing) -> bool
+    requires { ⌜ valid instance ≡ true ⌝ }
+    ensures { λ r. ⌜ r ≡ ordered-test (problem-of instance) (positions-of packing) ⌝ }
+{
+    let items = instance.items;
+    let positions = packing.positions;
+    let precedences = instance.precedences;
+    all_are_kept(items, positions, precedences, instance.precedence_count)
+}
