@@ -1,0 +1,853 @@
+"""Makes crates/vectors/stdin and crates/vectors/stdout: cases for reading, writing, item records, check and clearance.
+
+    python3 tests/make_vectors.py            writes both files
+    python3 tests/make_vectors.py --check    says whether they are what it would write
+
+The expected lines come from tests/reference.py. The cases under "by hand" were worked out from document 01:
+their lines stand here, and the reference has to agree with them.
+
+A case is an op byte, the payload's length in 2 bytes, and the payload; numbers have the low byte first.
+
+    op            payload                                      line
+    1 read        a sheet                                      read .. or refused NUMBER PLACE
+    2 write       instance, room (2), fill (1)                 written LENGTH HEX or refused NUMBER PLACE HEX
+    3 record      k (8), a sheet                               record NUMBER PLACE [HEX]
+    4 check       instance, positions                          feasible, not feasible or refused ..
+    5 clearance   instance, positions, u (8), v (8), axis (1)  clearance N or refused ..
+    6 rewrite     a sheet, read and then written               rewritten LENGTH HEX or refused ..
+    7 valid       instance                                     valid, not valid
+
+An instance is 252 bytes: container (6), item count (2), ten items (6 each), precedence count (2), ninety
+precedences (2 each), yard number (2). Positions are ten times x, y, t, 2 bytes each.
+A write gets a room of that many bytes, all of them fill; its HEX is the room and the 4 fill bytes after it.
+"""
+
+import os
+import sys
+
+import reference
+
+READ, WRITE, RECORD, CHECK, CLEARANCE, REWRITE, VALID = range(1, 8)
+KINDS = ["", "read", "write", "record", "check", "clearance", "rewrite", "valid"]
+GUARD = 4
+MOST_ROOM = 300
+MOST_PAYLOAD = 16384
+
+cases = []
+lines = []
+
+
+# Values and their bytes
+
+
+def instance(container, items=(), precedences=(), yard=0):
+    """The instance with these entries, and 0 past them."""
+    return {
+        "container": list(container),
+        "item_count": len(items),
+        "items": [list(items[i]) if i < len(items) else [0, 0, 0] for i in range(10)],
+        "precedence_count": len(precedences),
+        "precedences": [list(precedences[i]) if i < len(precedences) else [0, 0] for i in range(90)],
+        "yard_number": yard,
+    }
+
+
+def copied(value):
+    return {
+        "container": list(value["container"]),
+        "item_count": value["item_count"],
+        "items": [list(item) for item in value["items"]],
+        "precedence_count": value["precedence_count"],
+        "precedences": [list(pair) for pair in value["precedences"]],
+        "yard_number": value["yard_number"],
+    }
+
+
+def packing(*starts):
+    """The packing with these positions, and 0 past them."""
+    return [list(starts[i]) if i < len(starts) else [0, 0, 0] for i in range(10)]
+
+
+def little(number, size):
+    return number.to_bytes(size, "little")
+
+
+def instance_bytes(value):
+    out = b"".join(little(m, 2) for m in value["container"]) + little(value["item_count"], 2)
+    for item in value["items"]:
+        out += b"".join(little(m, 2) for m in item)
+    out += little(value["precedence_count"], 2)
+    for u, v in value["precedences"]:
+        out += bytes([u, v])
+    out += little(value["yard_number"], 2)
+    assert len(out) == 252
+    return out
+
+
+def positions_bytes(positions):
+    return b"".join(little(start, 2) for position in positions for start in position)
+
+
+# Cases, with the lines that the reference expects
+
+
+def is_refused(answer):
+    return isinstance(answer, tuple)
+
+
+def refused(answer):
+    return "refused %d %d" % answer
+
+
+def read_line(sheet):
+    value = reference.read(sheet)
+    if is_refused(value):
+        return refused(value)
+    n = value["item_count"]
+    m = value["precedence_count"]
+    words = ["read"] + value["container"] + ["items", n]
+    for item in value["items"][:n]:
+        words += item
+    words += ["precedences", m]
+    for pair in value["precedences"][:m]:
+        words += pair
+    words += ["yard", value["yard_number"]]
+    rest = [entry for entries in value["items"][n:] + value["precedences"][m:] for entry in entries]
+    words += ["rest", "not zero" if any(rest) else "zero"]
+    return " ".join(str(word) for word in words)
+
+
+def write_line(value, room, fill):
+    answer = reference.write(value, room)
+    if is_refused(answer):
+        return refused(answer) + " " + bytes([fill] * (room + GUARD)).hex()
+    after = bytes([fill] * (room - len(answer) + GUARD))
+    return "written %d %s" % (len(answer), (answer + after).hex())
+
+
+def record_line(sheet, k):
+    part, refusal = reference.record(sheet, k)
+    return ("record %d %d " % refusal + part.hex()).rstrip()
+
+
+def check_line(value, positions):
+    answer = reference.check(value, positions)
+    if is_refused(answer):
+        return refused(answer)
+    return "feasible" if answer else "not feasible"
+
+
+def clearance_line(value, positions, u, v, axis):
+    answer = reference.clearance(value, positions, u, v, axis)
+    if is_refused(answer):
+        return refused(answer)
+    return "clearance %d" % answer
+
+
+def rewrite_line(sheet):
+    value = reference.read(sheet)
+    if is_refused(value):
+        return refused(value)
+    answer = reference.write(value, 261)
+    assert answer == sheet
+    return "rewritten %d %s" % (len(answer), answer.hex())
+
+
+def add(op, payload, line, expected):
+    assert len(payload) <= MOST_PAYLOAD
+    assert expected is None or line == expected, (KINDS[op], payload.hex()[:200], line, expected)
+    cases.append((op, payload))
+    lines.append(line)
+
+
+def add_read(sheet, expected=None):
+    add(READ, sheet, read_line(sheet), expected)
+
+
+def add_write(value, room, expected=None, fill=0xA5):
+    assert room <= MOST_ROOM
+    add(WRITE, instance_bytes(value) + little(room, 2) + bytes([fill]), write_line(value, room, fill), expected)
+
+
+def add_record(sheet, k, expected=None):
+    add(RECORD, little(k, 8) + sheet, record_line(sheet, k), expected)
+
+
+def add_check(value, positions, expected=None):
+    add(CHECK, instance_bytes(value) + positions_bytes(positions), check_line(value, positions), expected)
+
+
+def add_clearance(value, positions, u, v, axis, expected=None):
+    payload = instance_bytes(value) + positions_bytes(positions) + little(u, 8) + little(v, 8) + bytes([axis])
+    add(CLEARANCE, payload, clearance_line(value, positions, u, v, axis), expected)
+
+
+def add_rewrite(sheet, expected=None):
+    add(REWRITE, sheet, rewrite_line(sheet), expected)
+
+
+def add_valid(value, expected=None):
+    add(VALID, instance_bytes(value), "valid" if reference.valid(value) else "not valid", expected)
+
+
+# By hand: reading
+
+ALL_PAIRS = [(u, v) for u in range(10) for v in range(10) if u != v]
+EXAMPLE = bytes.fromhex("1D 02 00 02 00 02 01 02 00 00 01 01 00")
+LONGEST = bytes.fromhex(
+    "3F FFFF FFFF FFFF 0A" + " 07 FFFF FFFF FFFF" * 10 + " 5A"
+    " 0001 0002 0003 0004 0005 0006 0007 0008 0009 0100 0102 0103 0104 0105 0106 0107 0108 0109"
+    " 0200 0201 0203 0204 0205 0206 0207 0208 0209 0300 0301 0302 0304 0305 0306 0307 0308 0309"
+    " 0400 0401 0402 0403 0405 0406 0407 0408 0409 0500 0501 0502 0503 0504 0506 0507 0508 0509"
+    " 0600 0601 0602 0603 0604 0605 0607 0608 0609 0700 0701 0702 0703 0704 0705 0706 0708 0709"
+    " 0800 0801 0802 0803 0804 0805 0806 0807 0809 0900 0901 0902 0903 0904 0905 0906 0907 0908"
+    " FFFF"
+)
+FULL = instance([65535] * 3, [[65535] * 3] * 10, ALL_PAIRS, 65535)
+
+READ_BY_HAND = [
+    ("", "refused 1 0"),
+    ("00", "read 1 1 1 items 0 precedences 0 yard 0 rest zero"),
+    ("1D 02 00 02 00 02 01 02 00 00 01 01 00", "read 2 1 2 items 2 2 1 1 1 1 1 precedences 1 1 0 yard 0 rest zero"),
+    # the map byte
+    ("40", "refused 2 0"),
+    ("80", "refused 2 0"),
+    ("C0", "refused 2 0"),
+    ("FF", "refused 2 0"),
+    ("41 02 00", "refused 2 0"),
+    ("48 00", "refused 2 0"),
+    # the container
+    ("01", "refused 1 1"),
+    ("01 02", "refused 1 2"),
+    ("01 00", "refused 1 2"),
+    ("01 01", "refused 1 2"),
+    ("01 00 00", "refused 3 1"),
+    ("01 01 00", "refused 3 1"),
+    ("01 02 00", "read 2 1 1 items 0 precedences 0 yard 0 rest zero"),
+    ("01 00 01", "read 256 1 1 items 0 precedences 0 yard 0 rest zero"),
+    ("01 01 01", "read 257 1 1 items 0 precedences 0 yard 0 rest zero"),
+    ("01 FF FF", "read 65535 1 1 items 0 precedences 0 yard 0 rest zero"),
+    ("02 00 00", "refused 3 1"),
+    ("02 01 00", "refused 3 1"),
+    ("02 03 00", "read 1 3 1 items 0 precedences 0 yard 0 rest zero"),
+    ("04 01 00", "refused 3 1"),
+    ("04 34 12", "read 1 1 4660 items 0 precedences 0 yard 0 rest zero"),
+    ("03 02 00", "refused 1 3"),
+    ("03 02 00 05", "refused 1 4"),
+    ("03 02 00 01 00", "refused 3 3"),
+    ("05 02 00 00 00", "refused 3 3"),
+    ("06 03 00 04 00", "read 1 3 4 items 0 precedences 0 yard 0 rest zero"),
+    ("07 02 00 03 00 00 00", "refused 3 5"),
+    ("07 02 00 03 00 01 00", "refused 3 5"),
+    ("07 02 00 03 00 02", "refused 1 6"),
+    ("07 02 00 03 00 04 00", "read 2 3 4 items 0 precedences 0 yard 0 rest zero"),
+    # items
+    ("08", "refused 1 1"),
+    ("08 00", "refused 4 1"),
+    ("08 0B", "refused 4 1"),
+    ("08 5B", "refused 4 1"),
+    ("08 FF", "refused 4 1"),
+    ("09 02 00 00", "refused 4 3"),
+    ("0F 02 00 02 00 02 00 0B", "refused 4 7"),
+    ("08 01", "refused 1 2"),
+    ("08 0A", "refused 1 2"),
+    ("08 01 00", "read 1 1 1 items 1 1 1 1 precedences 0 yard 0 rest zero"),
+    ("08 02 00", "refused 1 3"),
+    ("08 02 00 00", "read 1 1 1 items 2 1 1 1 1 1 1 precedences 0 yard 0 rest zero"),
+    ("08 0A 00 00 00 00 00 00 00 00 00 00", "read 1 1 1 items 10" + " 1" * 30 + " precedences 0 yard 0 rest zero"),
+    ("08 01 08", "refused 2 2"),
+    ("08 01 80", "refused 2 2"),
+    ("08 01 0F", "refused 2 2"),
+    ("08 02 08", "refused 2 2"),
+    ("08 02 00 10", "refused 2 3"),
+    ("08 02 01 09 00 20", "refused 2 5"),
+    ("08 01 01", "refused 1 3"),
+    ("08 01 01 02", "refused 1 4"),
+    ("08 01 01 00", "refused 1 4"),
+    ("08 01 01 00 00", "refused 3 3"),
+    ("08 01 01 01 00", "refused 3 3"),
+    ("08 01 02 01 00", "refused 3 3"),
+    ("08 01 04 00 00", "refused 3 3"),
+    ("08 01 03 02 00 01 00", "refused 3 5"),
+    ("08 01 07 02 00 03 00 01 00", "refused 3 7"),
+    ("08 02 01 02 00 04 01 00", "refused 3 6"),
+    ("08 01 07 02 00 03 00 04 00", "read 1 1 1 items 1 2 3 4 precedences 0 yard 0 rest zero"),
+    ("08 01 05 02 01 FF FF", "read 1 1 1 items 1 258 1 65535 precedences 0 yard 0 rest zero"),
+    # precedences
+    ("10", "refused 1 1"),
+    ("10 00", "refused 4 1"),
+    ("10 5B", "refused 4 1"),
+    ("10 FF", "refused 4 1"),
+    ("10 01", "refused 1 2"),
+    ("10 5A", "refused 1 2"),
+    ("10 01 00", "refused 1 3"),
+    ("10 01 00 00", "refused 5 2"),
+    ("10 01 00 01", "refused 5 2"),
+    ("11 02 00 01 00 01", "refused 5 4"),
+    ("18 02 00 00", "refused 1 4"),
+    ("18 02 00 00 00", "refused 4 4"),
+    ("18 02 00 00 5B", "refused 4 4"),
+    ("18 02 00 00 01", "refused 1 5"),
+    ("18 02 00 00 01 00", "refused 1 6"),
+    ("18 02 00 00 01 09", "refused 1 6"),
+    ("18 02 00 00 01 00 02", "refused 5 5"),
+    ("18 02 00 00 01 02 00", "refused 5 5"),
+    ("18 02 00 00 01 FF 00", "refused 5 5"),
+    ("18 02 00 00 01 00 00", "refused 5 5"),
+    ("18 02 00 00 01 01 01", "refused 5 5"),
+    ("18 02 00 00 02 00 01 01 01", "refused 5 7"),
+    ("18 02 00 00 02 00 01 00 01", "refused 6 7"),
+    ("18 02 00 00 02 01 00 00 01", "refused 6 7"),
+    ("18 02 00 00 02 01 00 00 00", "refused 5 7"),
+    ("18 02 00 00 02 01 00 00 02", "refused 5 7"),
+    ("18 03 00 00 00 02 00 02 00 01", "refused 6 8"),
+    ("18 03 00 00 00 03 00 02 01 00 00 01", "refused 6 10"),
+    ("18 03 00 00 00 03 00 02 01 00 01", "refused 1 11"),
+    ("18 02 00 00 01 00 01", "read 1 1 1 items 2 1 1 1 1 1 1 precedences 1 0 1 yard 0 rest zero"),
+    ("18 02 00 00 02 00 01 01 00", "read 1 1 1 items 2 1 1 1 1 1 1 precedences 2 0 1 1 0 yard 0 rest zero"),
+    (
+        "18 03 00 00 00 03 00 01 01 02 02 00",
+        "read 1 1 1 items 3 1 1 1 1 1 1 1 1 1 precedences 3 0 1 1 2 2 0 yard 0 rest zero",
+    ),
+    # the yard number
+    ("20", "refused 1 1"),
+    ("20 01", "refused 1 2"),
+    ("20 00", "refused 1 2"),
+    ("20 00 00", "refused 3 1"),
+    ("20 01 00", "read 1 1 1 items 0 precedences 0 yard 1 rest zero"),
+    ("20 00 01", "read 1 1 1 items 0 precedences 0 yard 256 rest zero"),
+    ("20 FF FF", "read 1 1 1 items 0 precedences 0 yard 65535 rest zero"),
+    ("28 01 00 00 00", "refused 3 3"),
+    ("27 02 00 02 00 02 00 00 00", "refused 3 7"),
+    ("28 01 00 00", "refused 1 4"),
+    # bytes after the last field
+    ("00 00", "refused 7 1"),
+    ("00 FF", "refused 7 1"),
+    ("01 02 00 00", "refused 7 3"),
+    ("08 01 00 00", "refused 7 3"),
+    ("20 01 00 00", "refused 7 3"),
+    ("28 01 00 07 00 05 05 05", "refused 7 5"),
+    ("1D 02 00 02 00 02 01 02 00 00 01 01 00 00", "refused 7 13"),
+    # two faults: the first counts
+    ("01 01 00 99", "refused 3 1"),
+    ("09 01 00 00", "refused 3 1"),
+    ("08 0B 08", "refused 4 1"),
+    ("18 01 00 00 00", "refused 4 3"),
+    ("38 02 00 00 01 01 01 00 00", "refused 5 5"),
+]
+
+
+def hand_read():
+    for sheet, line in READ_BY_HAND:
+        add_read(bytes.fromhex(sheet), line)
+    assert len(LONGEST) == 261
+    pairs = "".join(" %d %d" % pair for pair in ALL_PAIRS)
+    full = "read 65535 65535 65535 items 10" + " 65535" * 30 + " precedences 90" + pairs + " yard 65535 rest zero"
+    add_read(LONGEST, full)
+    add_read(LONGEST + b"\0", "refused 7 261")
+    add_read(LONGEST[:-1], "refused 1 260")
+    add_read(LONGEST[:-2] + b"\0\0", "refused 3 259")
+    add_read(LONGEST[:-4] + b"\x09\x09\xff\xff", "refused 5 257")
+    add_read(LONGEST[:-4] + b"\x09\x07\xff\xff", "refused 6 257")
+    add_read(LONGEST[:-4] + b"\x08\x09\xff\xff", "refused 6 257")
+    add_read(LONGEST[:71] + b"\x08" + LONGEST[72:], "refused 2 71")
+    add_read(LONGEST[:76] + b"\x01\x00" + LONGEST[78:], "refused 3 76")
+    add_read(LONGEST[:78] + b"\x5b" + LONGEST[79:], "refused 4 78")
+    # long slices
+    add_read(bytes(10000), "refused 7 1")
+    add_read(b"\xff" * 10000, "refused 2 0")
+    add_read(LONGEST + bytes(739), "refused 7 261")
+    add_read(EXAMPLE + b"\xff" * 987, "refused 7 13")
+
+
+# By hand: writing and validity
+
+
+def filled(length, fill="a5"):
+    return fill * (length + GUARD)
+
+
+def hand_write():
+    empty = instance([1, 1, 1])
+    add_write(empty, 0, "refused 8 0 " + filled(0))
+    add_write(empty, 1, "written 1 00" + filled(0))
+    add_write(empty, 5, "written 1 00" + filled(4))
+    add_write(empty, 5, "written 1 00" + filled(4, "00"), fill=0)
+    add_write(empty, 5, "written 1 00" + filled(4, "ff"), fill=255)
+    add_write(instance([2, 1, 1]), 3, "written 3 010200" + filled(0))
+    add_write(instance([1, 258, 1]), 3, "written 3 020201" + filled(0))
+    add_write(instance([1, 1, 65535]), 3, "written 3 04ffff" + filled(0))
+    add_write(instance([1, 1, 65535]), 2, "refused 8 0 " + filled(2))
+    add_write(instance([1, 1, 1], yard=1), 3, "written 3 200100" + filled(0))
+    add_write(instance([1, 1, 1], yard=256), 4, "written 3 200001" + filled(1))
+    add_write(instance([1, 1, 1], [[1, 1, 1]]), 3, "written 3 080100" + filled(0))
+    add_write(instance([1, 1, 1], [[1, 2, 1], [3, 1, 4]]), 10, "written 10 0802020200050300" + "0400" + filled(0))
+    example = instance([2, 1, 2], [[2, 1, 1], [1, 1, 1]], [(1, 0)])
+    add_write(example, 13, "written 13 1d020002000201020000010100" + filled(0))
+    add_write(example, 12, "refused 8 0 " + filled(12))
+    add_write(example, 14, "written 13 1d020002000201020000010100" + filled(1))
+    add_write(example, 40, "written 13 1d020002000201020000010100" + filled(27))
+    add_write(example, 0, "refused 8 0 " + filled(0))
+    longest = LONGEST.hex()
+    add_write(FULL, 261, "written 261 " + longest + filled(0))
+    add_write(FULL, 260, "refused 8 0 " + filled(260))
+    add_write(FULL, 262, "written 261 " + longest + filled(1))
+    add_write(FULL, 300, "written 261 " + longest + filled(39))
+    add_write(FULL, 300, "written 261 " + longest + filled(39, "00"), fill=0)
+    # entries past the counts are no part of it
+    past = copied(example)
+    past["items"][2:] = [[0, 7, 65535] for _ in range(8)]
+    past["precedences"][1:] = [[255, 255] for _ in range(89)]
+    add_write(past, 13, "written 13 1d020002000201020000010100" + filled(0))
+    add_valid(past, "valid")
+    for value in (empty, example, FULL):
+        add_valid(value, "valid")
+    circle = instance([3, 1, 3], [[1, 1, 1]] * 3, [(0, 1), (1, 2), (2, 0)])
+    add_valid(circle, "valid")
+    add_write(circle, 17, "written 16 1d03000300030000000300010102" + "0200" + filled(1))
+    # 9 comes before 5 and 8
+    for number, value in enumerate(refused_values()):
+        room, u, axis = (262, 0, 0) if number % 2 == 0 else (0, 65535, 3)
+        add_valid(value, "not valid")
+        add_write(value, room, "refused 9 0 " + filled(room))
+        add_check(value, packing(), "refused 9 0")
+        add_clearance(value, packing(), u, 0, axis, "refused 9 0")
+
+
+def changed(value, key, at, entry):
+    value = copied(value)
+    if at is None:
+        value[key] = entry
+    else:
+        value[key][at] = entry
+    return value
+
+
+def refused_values():
+    """Values that number 9 names, one fault each."""
+    values = []
+    for count in (11, 12, 256, 266, 65535):
+        values.append(changed(FULL, "item_count", None, count))
+    for count in (91, 92, 256, 346, 65535):
+        values.append(changed(FULL, "precedence_count", None, count))
+    for axis in range(3):
+        measures = [2, 3, 4]
+        measures[axis] = 0
+        values.append(instance(measures))
+        values.append(changed(FULL, "container", None, measures))
+        for item in (0, 4, 9):
+            values.append(changed(FULL, "items", item, measures))
+    three = instance([9, 9, 9], [[1, 1, 1]] * 3, [(0, 1), (0, 2), (1, 0)])
+    for at, pair in (
+        (0, [3, 1]),
+        (2, [3, 0]),
+        (2, [255, 0]),
+        (0, [0, 3]),
+        (1, [0, 10]),
+        (2, [1, 255]),
+        (0, [0, 0]),
+        (1, [0, 0]),
+        (1, [1, 1]),
+        (2, [2, 2]),
+        (1, [0, 1]),
+        (2, [0, 2]),
+        (2, [0, 1]),
+        (0, [0, 2]),
+        (0, [2, 0]),
+        (1, [2, 1]),
+    ):
+        values.append(changed(three, "precedences", at, pair))
+    values.append(changed(FULL, "precedences", 89, [9, 9]))
+    values.append(changed(FULL, "precedences", 89, [9, 7]))
+    values.append(instance([1, 1, 1], [], [(0, 1)]))
+    values.append(instance([1, 1, 1], [], [(0, 0)]))
+    values.append(changed(FULL, "item_count", None, 9))
+    values.append(changed(FULL, "item_count", None, 0))
+    return values
+
+
+# By hand: item records
+
+
+def hand_record():
+    largest = 2 ** 64 - 1
+    add_record(EXAMPLE, 0, "record 0 0 010200")
+    add_record(EXAMPLE, 1, "record 0 0 00")
+    for k in (2, 9, 10, 255, 256, 65535, 65536, 2 ** 32 - 1, 2 ** 32, 2 ** 63, largest):
+        add_record(EXAMPLE, k, "record 5 0")
+    add_record(b"", 0, "record 1 0")
+    add_record(b"", largest, "record 1 0")
+    add_record(b"\0", 0, "record 5 0")
+    add_record(b"\0\0", 0, "record 7 1")
+    add_record(bytes.fromhex("080100"), 0, "record 0 0 00")
+    add_record(bytes.fromhex("080100"), 1, "record 5 0")
+    add_record(bytes.fromhex("0803 05 0200 0300 00 02 0400"), 0, "record 0 0 0502000300")
+    add_record(bytes.fromhex("0803 05 0200 0300 00 02 0400"), 1, "record 0 0 00")
+    add_record(bytes.fromhex("0803 05 0200 0300 00 02 0400"), 2, "record 0 0 020400")
+    add_record(bytes.fromhex("0803 05 0200 0300 00 02 0400"), 3, "record 5 0")
+    for k in range(10):
+        add_record(LONGEST, k, "record 0 0 07ffffffffffff")
+    for k in (10, 11, 256, 266, largest):
+        add_record(LONGEST, k, "record 5 0")
+    # the whole sheet is read first
+    add_record(LONGEST + b"\0", 0, "record 7 261")
+    add_record(LONGEST[:-1], 0, "record 1 260")
+    add_record(LONGEST[:-1], largest, "record 1 260")
+    add_record(bytes.fromhex("40"), 0, "record 2 0")
+    add_record(bytes.fromhex("080108"), 0, "record 2 2")
+    add_record(bytes.fromhex("08020080"), 0, "record 2 3")
+    add_record(bytes.fromhex("010100"), 5, "record 3 1")
+    add_record(bytes.fromhex("0802000101 00"), 0, "record 3 4")
+    add_record(bytes.fromhex("0800"), 0, "record 4 1")
+    add_record(bytes.fromhex("080B"), 0, "record 4 1")
+    add_record(bytes.fromhex("1802000000"), 1, "record 4 4")
+    add_record(bytes.fromhex("18020000010101"), 0, "record 5 5")
+    add_record(bytes.fromhex("1802000002000100 01"), 0, "record 6 7")
+    add_record(bytes.fromhex("2801000000"), 0, "record 3 3")
+    add_record(bytes(1000), 0, "record 7 1")
+
+
+# By hand: the check
+
+
+def hand_check():
+    def two(container, first, second, precedences, starts, line):
+        add_check(instance(container, [first, second], precedences), packing(*starts), line)
+
+    add_check(instance([1, 1, 1]), packing(), "feasible")
+    add_check(instance([1, 1, 1]), packing([65535] * 3), "feasible")
+    one = instance([3, 4, 5], [[2, 2, 2]])
+    add_check(one, packing([0, 0, 0]), "feasible")
+    add_check(one, packing([1, 2, 3]), "feasible")
+    add_check(one, packing([2, 2, 3]), "not feasible")
+    add_check(one, packing([1, 3, 3]), "not feasible")
+    add_check(one, packing([1, 2, 4]), "not feasible")
+    add_check(one, packing([65535, 0, 0]), "not feasible")
+    add_check(instance([1, 1, 1], [[2, 1, 1]]), packing(), "not feasible")
+    add_check(instance([1, 1, 1], [[1, 2, 1]]), packing(), "not feasible")
+    add_check(instance([1, 1, 1], [[1, 1, 2]]), packing(), "not feasible")
+    # positions past the count are ignored
+    ignored = packing([1, 2, 3])
+    ignored[1:] = [[65535, 65535, 65535] for _ in range(9)]
+    add_check(one, ignored, "feasible")
+    ignored[1:] = [[1, 2, 3] for _ in range(9)]
+    add_check(one, ignored, "feasible")
+    # touching, a gap, and an overlap by one, on each axis
+    cube = [2, 2, 2]
+    for axis in range(3):
+        for start, line in ((2, "feasible"), (3, "feasible"), (1, "not feasible"), (0, "not feasible")):
+            other = [0, 0, 0]
+            other[axis] = start
+            two([9, 9, 9], cube, cube, [], ([0, 0, 0], other), line)
+            two([9, 9, 9], cube, cube, [], (other, [0, 0, 0]), line)
+    # one inside the other, and a cross
+    two([9, 9, 9], [5, 5, 5], [1, 1, 1], [], ([0, 0, 0], [2, 2, 2]), "not feasible")
+    two([9, 9, 9], [5, 1, 5], [1, 5, 5], [], ([0, 2, 0], [2, 0, 0]), "not feasible")
+    two([9, 9, 9], [5, 1, 5], [1, 5, 4], [], ([0, 2, 0], [2, 0, 5]), "feasible")
+    # precedences
+    two([2, 1, 2], [2, 1, 1], [1, 1, 1], [(1, 0)], ([0, 0, 1], [0, 0, 0]), "feasible")
+    two([2, 1, 2], [2, 1, 1], [1, 1, 1], [(1, 0)], ([0, 0, 0], [0, 0, 1]), "not feasible")
+    two([2, 1, 2], [2, 1, 1], [1, 1, 1], [], ([0, 0, 0], [0, 0, 1]), "feasible")
+    two([4, 1, 9], cube[:1] + [1, 2], [2, 1, 2], [(0, 1)], ([0, 0, 0], [2, 0, 2]), "feasible")
+    two([4, 1, 9], cube[:1] + [1, 2], [2, 1, 2], [(0, 1)], ([0, 0, 0], [2, 0, 1]), "not feasible")
+    two([4, 1, 9], cube[:1] + [1, 2], [2, 1, 2], [(0, 1)], ([0, 0, 0], [2, 0, 0]), "not feasible")
+    two([4, 1, 9], cube[:1] + [1, 2], [2, 1, 2], [(0, 1)], ([0, 0, 0], [2, 0, 7]), "feasible")
+    two([4, 1, 9], [2, 1, 2], [2, 1, 2], [(0, 1), (1, 0)], ([0, 0, 0], [2, 0, 2]), "not feasible")
+    circle = instance([3, 1, 9], [[1, 1, 1]] * 3, [(0, 1), (1, 2), (2, 0)])
+    add_check(circle, packing([0, 0, 0], [1, 0, 1], [2, 0, 2]), "not feasible")
+    chain = instance([3, 1, 9], [[1, 1, 1]] * 3, [(0, 1), (1, 2)])
+    add_check(chain, packing([0, 0, 0], [1, 0, 1], [2, 0, 2]), "feasible")
+    add_check(chain, packing([0, 0, 1], [1, 0, 1], [2, 0, 2]), "not feasible")
+    add_check(chain, packing([0, 0, 0], [1, 0, 2], [2, 0, 2]), "not feasible")
+    # precedences past the count are ignored
+    ignored = instance([3, 1, 9], [[1, 1, 1]] * 2)
+    ignored["precedences"] = [[0, 1] for _ in range(90)]
+    add_check(ignored, packing([0, 0, 0], [1, 0, 0]), "feasible")
+    # sums above 65,535
+    most = [65535] * 3
+    add_check(instance(most, [most]), packing([0, 0, 0]), "feasible")
+    for axis in range(3):
+        start = [0, 0, 0]
+        start[axis] = 1
+        add_check(instance(most, [most]), packing(start), "not feasible")
+        start[axis] = 65535
+        add_check(instance(most, [most]), packing(start), "not feasible")
+        small = [1, 1, 1]
+        add_check(instance(most, [small]), packing(start), "not feasible")
+        start[axis] = 65534
+        add_check(instance(most, [small]), packing(start), "feasible")
+    two([65535, 1, 65535], [1, 1, 65535], [1, 1, 1], [(0, 1)], ([0, 0, 1], [1, 0, 65535]), "not feasible")
+    two([65535, 1, 65535], [1, 1, 65534], [1, 1, 1], [(0, 1)], ([0, 0, 0], [1, 0, 65534]), "feasible")
+    two([65535, 1, 65535], [1, 1, 65534], [1, 1, 1], [(0, 1)], ([0, 0, 0], [1, 0, 65533]), "not feasible")
+    # ten in a line, one of them off by one
+    ten = instance([10, 1, 1], [[1, 1, 1]] * 10)
+    add_check(ten, packing(*[[i, 0, 0] for i in range(10)]), "feasible")
+    add_check(ten, packing(*[[9 - i, 0, 0] for i in range(10)]), "feasible")
+    add_check(ten, packing(*[[min(i, 8), 0, 0] for i in range(10)]), "not feasible")
+    add_check(ten, packing(*[[max(i, 1), 0, 0] for i in range(10)]), "not feasible")
+    add_check(ten, packing(*[[i, 0, 0] for i in range(9)]), "not feasible")
+    add_check(ten, packing(*[[i + 1, 0, 0] for i in range(10)]), "not feasible")
+    stairs = instance([1, 1, 10], [[1, 1, 1]] * 10, [pair for pair in ALL_PAIRS if pair[0] < pair[1]])
+    add_check(stairs, packing(*[[0, 0, i] for i in range(10)]), "feasible")
+    add_check(stairs, packing(*[[0, 0, 9 - i] for i in range(10)]), "not feasible")
+    add_check(FULL, packing(), "not feasible")
+
+
+# By hand: clearance
+
+
+def hand_clearance():
+    def two(first, second, starts, axis, line):
+        value = instance([9, 9, 9], [first, second])
+        add_clearance(value, packing(*starts), 0, 1, axis, line)
+        add_clearance(value, packing(*starts), 1, 0, axis, line)
+
+    for axis in range(3):
+        for start, line in ((6, "3"), (4, "1"), (3, "0"), (2, "-1"), (1, "-2"), (0, "-3")):
+            first, second, other = [1, 1, 1], [1, 1, 1], [7, 7, 7]
+            first[axis] = 3
+            second[axis] = 5
+            other[axis] = start
+            two(first, second, ([0, 0, 0], other), axis, "clearance " + line)
+    # one inside the other: the least move that parts them
+    two([7, 1, 1], [2, 1, 1], ([0, 0, 0], [1, 0, 0]), 0, "clearance -3")
+    two([7, 1, 1], [2, 1, 1], ([0, 0, 0], [5, 0, 0]), 0, "clearance -2")
+    two([7, 1, 1], [2, 1, 1], ([0, 0, 0], [3, 0, 0]), 0, "clearance -4")
+    two([7, 1, 1], [7, 1, 1], ([2, 0, 0], [2, 0, 0]), 0, "clearance -7")
+    # extremes, both ways
+    most = [65535] * 3
+    two(most, most, ([0, 0, 0], [0, 0, 0]), 0, "clearance -65535")
+    two(most, most, (most, most), 1, "clearance -65535")
+    two([1, 1, 1], [1, 1, 1], ([0, 0, 0], most), 2, "clearance 65534")
+    two(most, [1, 1, 1], ([0, 0, 0], most), 0, "clearance 0")
+    two([1, 1, 1], most, ([0, 0, 0], most), 1, "clearance 65534")
+    two(most, [1, 1, 1], (most, [0, 0, 0]), 2, "clearance 65534")
+    two(most, most, ([0, 0, 0], most), 0, "clearance 0")
+    two(most, most, ([0, 0, 0], [65534] * 3), 0, "clearance -1")
+    two(most, [1, 1, 1], (most, most), 0, "clearance -1")
+    # an item with itself
+    three = instance([1, 1, 1], [[2, 3, 4], [1, 1, 1], most], [(0, 1), (1, 0)], 7)
+    starts = packing([5, 6, 7], [0, 0, 0], most, most)
+    for axis, line in enumerate(("-2", "-3", "-4")):
+        add_clearance(three, starts, 0, 0, axis, "clearance " + line)
+        add_clearance(three, starts, 1, 1, axis, "clearance -1")
+        add_clearance(three, starts, 2, 2, axis, "clearance -65535")
+    # an item that is not there, then an axis that is not there
+    largest = 2 ** 64 - 1
+    for u, v in ((3, 0), (0, 3), (3, 3), (9, 0), (0, 10), (256, 0), (0, 65536), (2 ** 32, 0), (largest, 0), (0, largest)):
+        for axis in (0, 3):
+            add_clearance(three, starts, u, v, axis, "refused 5 0")
+    for axis in (3, 4, 128, 255):
+        add_clearance(three, starts, 0, 1, axis, "refused 8 0")
+        add_clearance(three, starts, 2, 2, axis, "refused 8 0")
+    add_clearance(instance([1, 1, 1]), starts, 0, 0, 0, "refused 5 0")
+    add_clearance(FULL, packing(), 9, 8, 2, "clearance -65535")
+    add_clearance(FULL, packing(), 10, 8, 2, "refused 5 0")
+
+
+# Made: from a fixed seed
+
+
+class Numbers:
+    """A fixed sequence of numbers (a linear congruence modulo 2 to the 64, its upper half)."""
+
+    def __init__(self, seed):
+        self.state = seed
+
+    def below(self, n):
+        self.state = (self.state * 6364136223846793005 + 1442695040888963407) % 2 ** 64
+        return (self.state // 2 ** 32) * n // 2 ** 32
+
+    def between(self, low, high):
+        return low + self.below(high - low + 1)
+
+    def one_of(self, entries):
+        return entries[self.below(len(entries))]
+
+
+def some_measure(numbers):
+    return numbers.one_of([1, 1, 2, 3, 255, 256, 257, 65535, numbers.between(1, 65535), numbers.between(1, 300)])
+
+
+def some_precedences(numbers, n):
+    pairs = [(u, v) for u in range(n) for v in range(n) if u != v]
+    share = numbers.one_of([0, 0, 1, 2, 5, 10])
+    return [pair for pair in pairs if numbers.below(10) < share]
+
+
+def some_instance(numbers):
+    n = numbers.below(11)
+    return instance(
+        [some_measure(numbers) for _ in range(3)],
+        [[some_measure(numbers) for _ in range(3)] for _ in range(n)],
+        some_precedences(numbers, n),
+        numbers.one_of([0, 0, 1, 255, 256, 65535, numbers.below(65536)]),
+    )
+
+
+def some_sheet(numbers):
+    return reference.encode(some_instance(numbers))
+
+
+def damaged(numbers, sheet):
+    """The sheet with one byte changed, one bit turned, one byte taken away or one put in."""
+    at = numbers.below(len(sheet))
+    if numbers.below(3) == 0:
+        at = min(at, numbers.below(8))
+    way = numbers.below(8)
+    if way < 3:
+        return sheet[:at] + bytes([numbers.one_of([0, 1, 2, 8, 10, 11, 91, 255])]) + sheet[at + 1 :]
+    if way < 6:
+        return sheet[:at] + bytes([sheet[at] ^ 2 ** numbers.below(8)]) + sheet[at + 1 :]
+    if way < 7:
+        return sheet[:at] + sheet[at + 1 :]
+    return sheet[:at] + bytes([numbers.below(12)]) + sheet[at:]
+
+
+def made_reads(numbers):
+    middle = reference.encode(instance([7, 1, 300], [[2, 1, 3], [1, 1, 1], [4, 5, 6]], [(0, 1), (2, 0)], 9))
+    for sheet in (EXAMPLE, middle, LONGEST):
+        for length in range(len(sheet)):
+            add_read(sheet[:length])
+    for _ in range(80):
+        sheet = some_sheet(numbers)
+        add_read(sheet)
+        add_rewrite(sheet)
+        for _ in range(3):
+            add_read(damaged(numbers, sheet))
+    for _ in range(60):
+        add_read(bytes(numbers.one_of([0, 1, 2, 3, 8, 16, 24, 32, 63, 255]) for _ in range(numbers.below(12))))
+    add_rewrite(LONGEST)
+    add_rewrite(EXAMPLE)
+    add_rewrite(b"\0")
+    add_rewrite(b"")
+    for _ in range(20):
+        add_rewrite(damaged(numbers, some_sheet(numbers)))
+
+
+def made_records(numbers):
+    for _ in range(60):
+        sheet = some_sheet(numbers)
+        add_record(sheet, numbers.below(4))
+        add_record(sheet, numbers.below(12))
+        add_record(damaged(numbers, sheet), numbers.below(10))
+
+
+def made_writes(numbers):
+    for _ in range(60):
+        value = some_instance(numbers)
+        length = len(reference.encode(value))
+        for i in range(value["item_count"], 10):
+            value["items"][i] = [numbers.below(3), numbers.below(3), numbers.below(65536)]
+        for i in range(value["precedence_count"], 90):
+            value["precedences"][i] = [numbers.below(256), numbers.below(12)]
+        room = numbers.one_of([length - 1, length, length, length + 1, length + 2, numbers.below(MOST_ROOM)])
+        add_write(value, min(room, MOST_ROOM), fill=numbers.below(256))
+        add_valid(value, "valid")
+        fault = copied(value)
+        way = numbers.below(4)
+        if way == 0:
+            fault["container"][numbers.below(3)] = 0
+        elif way == 1:
+            fault["items"][numbers.below(10)][numbers.below(3)] = 0
+        elif way == 2:
+            fault["precedences"][numbers.below(90)][numbers.below(2)] = numbers.below(11)
+        else:
+            fault["item_count"] = numbers.below(13)
+        add_valid(fault)
+        add_write(fault, MOST_ROOM - 35, fill=numbers.below(256))
+
+
+def packed(numbers, value, tries):
+    """Positions found one item after another at random; where none is found the item stays at the origin."""
+    positions = packing()
+    for item in range(value["item_count"]):
+        part = copied(value)
+        part["item_count"] = item + 1
+        part["precedences"] = [pair for pair in value["precedences"][: value["precedence_count"]] if max(pair) <= item]
+        part["precedence_count"] = len(part["precedences"])
+        for _ in range(tries):
+            positions[item] = [numbers.below(part["container"][a]) for a in range(3)]
+            if reference.feasible(part, positions):
+                break
+    return positions
+
+
+def made_checks(numbers):
+    # two cubes of 2, the second around the corner of the first
+    cubes = instance([5, 5, 5], [[2, 2, 2], [2, 2, 2]])
+    for x in (1, 2, 3):
+        for y in (1, 2, 3):
+            for t in (1, 2, 3):
+                add_check(cubes, packing([0, 0, 0], [x, y, t]), "feasible" if 2 <= max(x, y, t) else "not feasible")
+    for _ in range(90):
+        n = numbers.between(1, 7)
+        container = [numbers.between(3, 6) for _ in range(3)]
+        items = [[numbers.between(1, 3) for _ in range(3)] for _ in range(n)]
+        value = instance(container, items, [p for p in some_precedences(numbers, n) if p[0] < p[1]][: numbers.below(3)])
+        positions = packed(numbers, value, 60)
+        for i in range(n, 10):
+            positions[i] = [numbers.below(65536) for _ in range(3)]
+        add_check(value, positions)
+        item = numbers.below(n)
+        axis = numbers.below(3)
+        positions[item][axis] = max(0, positions[item][axis] + numbers.one_of([-1, 1]))
+        add_check(value, positions)
+
+
+def made_clearances(numbers):
+    for _ in range(50):
+        value = some_instance(numbers)
+        positions = packing(*[[some_measure(numbers) - 1 for _ in range(3)] for _ in range(10)])
+        u, v = numbers.below(11), numbers.below(11)
+        add_clearance(value, positions, u, v, numbers.below(4))
+        if value["item_count"] > 0:
+            u, v = u % value["item_count"], v % value["item_count"]
+            add_clearance(value, positions, u, v, numbers.below(3))
+            add_clearance(value, positions, v, u, numbers.below(3))
+
+
+# All of it
+
+
+def main():
+    hand_read()
+    hand_write()
+    hand_record()
+    hand_check()
+    hand_clearance()
+    by_hand = len(cases)
+    made_reads(Numbers(1))
+    made_records(Numbers(2))
+    made_writes(Numbers(3))
+    made_checks(Numbers(4))
+    made_clearances(Numbers(5))
+    for number in range(1, 8):
+        places = {line.split()[2] for line in lines if line.startswith("refused %d " % number)}
+        assert len(places) >= 2, number
+    for number in (8, 9):
+        assert sum(line.startswith("refused %d 0" % number) for line in lines) >= 2
+    stdin = b"".join(bytes([op]) + little(len(payload), 2) + payload for op, payload in cases)
+    stdout = "".join(line + "\n" for line in lines).encode()
+    folder = os.path.join(os.path.dirname(os.path.abspath(__file__)), "..", "crates", "vectors")
+    files = [(os.path.join(folder, "stdin"), stdin), (os.path.join(folder, "stdout"), stdout)]
+    if sys.argv[1:] == ["--check"]:
+        for path, content in files:
+            with open(path, "rb") as file:
+                if file.read() != content:
+                    sys.exit("%s is not what this script makes" % os.path.relpath(path))
+    else:
+        for path, content in files:
+            with open(path, "wb") as file:
+                file.write(content)
+    for op in range(1, 8):
+        answers = {}
+        for (case_op, _), line in zip(cases, lines):
+            if case_op == op:
+                word = "not" if line.startswith("not ") else line.split()[0]
+                answers[word] = answers.get(word, 0) + 1
+        print(KINDS[op], sum(answers.values()), " ".join("%s %d" % pair for pair in sorted(answers.items())))
+    print("cases %d, by hand %d; stdin %d bytes, stdout %d bytes" % (len(cases), by_hand, len(stdin), len(stdout)))
+
+
+main()
