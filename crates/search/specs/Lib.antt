@@ -1,0 +1,3 @@
+pub mod Checkpoints
+pub mod Results
+pub mod Standing
