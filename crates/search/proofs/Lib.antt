@@ -1,0 +1,5 @@
+pub mod Checkpoints
+pub mod Budget
+pub mod Sound
+pub mod Standing
+pub mod Packing

@@ -1,0 +1,47 @@
+use borrow.Author.Needs.{needs}
+use Rattle.search.proofs.steps.look.Statement.{statement}
+use Rattle.search.proofs.steps.look.Tie as tie
+use Rattle.search.proofs.steps.look.Reads as reads
+use Rattle.search.proofs.steps.look.Lts as lts
+use Rattle.domains.proofs.branch.branching.Reads as branching-reads
+use Rattle.domains.proofs.propagation.propagate.Reads as propagate-reads
+
+-- src/steps.rt:30:8
+propagate-requires : tie.Need-propagate-requires
+propagate-requires c κs = search needs
+
+-- src/steps.rt:31:9
+returns : tie.Need-returns
+returns c = ?
+
+-- src/steps.rt:33:11
+branching-requires : tie.Need-branching-requires
+branching-requires c κs = ?
+
+-- src/steps.rt:34:30
+enum-told : tie.Need-enum-told
+enum-told c = search needs
+
+-- src/steps.rt:35:23
+enum-known-place : tie.Need-enum-known-place
+enum-known-place c = search needs
+
+-- src/steps.rt:26:1
+returns-2 : tie.Need-returns-2
+returns-2 c = ?
+
+-- src/steps.rt:26:1
+returns-3 : tie.Need-returns-3
+returns-3 c = ?
+
+pub look-spec : {M : Type 1} → statement M
+look-spec =
+    tie.close
+    (tie.spec
+    propagate-requires
+    returns
+    branching-requires
+    enum-told
+    enum-known-place
+    returns-2
+    returns-3)
