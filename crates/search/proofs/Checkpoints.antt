@@ -183,9 +183,9 @@ module _ (i : ℕ) (bs : List ℕ) (some-left : 0 < i) where
   pub branches-fail : 1 < getD bs (i - 1) 0 → all-branches i bs ≡ false
   unfolding all-branches
   branches-fail g =
-      subst (λ (n : ℕ). all-branches n bs ≡ false) one-more (below-fail (i - 1) (λ j. ltb (getD bs j 0) 2) (le-ltb _ _ (omega arith)))
+      subst (λ (n : ℕ). all-branches n bs ≡ false) one-more (below-fail (i - 1) (λ j. ltb (getD bs j 0) 2) (le-ltb (getD bs (i - 1) 0) 2 (omega arith)))
 
   pub branches-pass : getD bs (i - 1) 0 ≤ 1 → all-branches i bs ≡ all-branches (i - 1) bs
   unfolding all-branches
   branches-pass g =
-      subst (λ (n : ℕ). all-branches n bs ≡ all-branches (i - 1) bs) one-more (below-pass (i - 1) (λ j. ltb (getD bs j 0) 2) (lt-ltb _ _ (omega arith)))
+      subst (λ (n : ℕ). all-branches n bs ≡ all-branches (i - 1) bs) one-more (below-pass (i - 1) (λ j. ltb (getD bs j 0) 2) (lt-ltb (getD bs (i - 1) 0) 2 (omega arith)))

@@ -1,12 +1,12 @@
 -- A valid instance is a sound problem.
-use mathlib.Core.Bool.{true, _&&_}
+use mathlib.Core.Bool.{true, not, _&&_}
 use mathlib.Core.List.{List, [], _∷_, map, List·Memᴰ, List·Memᴰ·not-nil, List·Memᴰ·cases-cons}
 use mathlib.Core.Logic.{_⊎_, inl, inr}
 use mathlib.Core.Path.{_≡_, refl, sym, ap, _∙_, subst}
 use Prim.Native.Nat.{ℕ, zero, suc, _≤_, _<_}
 use native.Mathlib.Omega.{arith}
-use lib.Dec.{leb}
-use lib.ListN.{length, getD, take}
+use lib.Dec.{leb, ltb, eqb}
+use lib.ListN.{length, getD, take, length-map}
 use lib.Seq.{getD-take, length-take-le}
 use borrow.Author.Tests.{leb-true, ltb-true, eqb-false, not-true}
 use Rattle.model.specs.Problem as M
@@ -23,6 +23,8 @@ use Rattle.records.specs.Sizes.{positive, all-have-size, no-item}
 use Rattle.instance.specs.declared.Instance.{Instance}
 use Rattle.instance.specs.Valid.{valid, items-of, precedences-of}
 use Rattle.instance.specs.Meaning.{measure, precedence-of, problem-of}
+use Rattle.domains.specs.declared.Shape.{Shape}
+use Rattle.domains.specs.Shape.{Laid, shape-problem}
 
 positive-so : (s : Size) → positive s ≡ true → (a : ℕ) → 1 ≤ measure a s
 unfolding positive
@@ -45,8 +47,8 @@ sizes-so (i ∷ l) h (suc u) g = sizes-so l (and-both (positive (i .size)) (all-
 names-so : (n : ℕ) (o : Precedence) → names-items n o ≡ true → Proper n M.time (o .predecessor) (o .successor)
 unfolding names-items
 names-so n o h =
-    let (u, r) = and-both _ _ h in
-    let (v, d) = and-both _ _ r in
+    let (u, r) = and-both (ltb (o .predecessor) n) (ltb (o .successor) n && not (eqb (o .predecessor) (o .successor))) h in
+    let (v, d) = and-both (ltb (o .successor) n) (not (eqb (o .predecessor) (o .successor))) r in
     record { axis = omega arith; item-u = ltb-true _ _ u; item-v = ltb-true _ _ v; distinct = eqb-false _ _ (not-true _ d) }
 
 stand-so : (n : ℕ) (last : Previous) (l : List Precedence) → all-stand n last l ≡ true
@@ -68,8 +70,8 @@ unfolding valid problem-of
 valid-sound i h long =
     let sizes = all-have-size (items-of i) in
     let stand = all-stand (i .«item_count») Nothing (precedences-of i) in
-    let (count, r₁) = and-both _ (leb (i .«precedence_count») 90 && (positive (i .container) && (sizes && stand))) h in
-    let (many, r₂) = and-both _ (positive (i .container) && (sizes && stand)) r₁ in
+    let (count, r₁) = and-both (leb (i .«item_count») 10) (leb (i .«precedence_count») 90 && (positive (i .container) && (sizes && stand))) h in
+    let (many, r₂) = and-both (leb (i .«precedence_count») 90) (positive (i .container) && (sizes && stand)) r₁ in
     let (container, r₃) = and-both (positive (i .container)) (sizes && stand) r₂ in
     let (σ, τ) = and-both sizes stand r₃ in
     let limited : i .«item_count» ≤ 10 = leb-true _ _ count in
@@ -81,3 +83,12 @@ valid-sound i h long =
   where
     size-at : i .«item_count» ≤ 10 → all-have-size (items-of i) ≡ true → (u : ℕ) → u < i .«item_count» → positive (getD (i .items) u no-item .size) ≡ true
     size-at l s u lu = rw (getD-take (i .«item_count») (i .items) u no-item lu) at (sizes-so (items-of i) s u (rw (length-take-le (i .«item_count») (i .items) (omega arith)) lu))
+
+-- and so is the problem of its arrays
+pub laid-sound : (i : Instance) (s : Shape) → Laid i s → valid i ≡ true → length (i .items) ≡ 10
+    → Sound (shape-problem (s .items) (s .sizes) (s .capacity) (map precedence-of (precedences-of i)))
+laid-sound i s l h long = subst Sound (l .means) (valid-sound i h long)
+
+-- an array of structs is as long as what it is in memory
+pub length-mapped : {A B : Type 0} (f : A → B) (l : List A) (n : ℕ) → length (map f l) ≡ n → length l ≡ n
+length-mapped f l n e = sym (length-map l f) ∙ e

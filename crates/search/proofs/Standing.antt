@@ -1,10 +1,12 @@
 -- Where a search stands: at the root, one branch on, and back at the last first branch.
-use mathlib.Core.Bool.{Bool, true, false}
+use mathlib.Core.Bool.{Bool, true, false, not, _&&_, true≢false}
 use mathlib.Core.List.{List, [], _∷_}
 use mathlib.Core.Logic.{_⊎_, inl, inr}
 use mathlib.Core.Path.{_≡_, refl, sym, ap, _∙_, subst}
 use Prim.Native.Nat.{ℕ, zero, suc, _+_, _-_, _≤_, _<_}
+use native.Mathlib.Decide.{ℕ-discrete}
 use native.Mathlib.Omega.{arith}
+use lib.Dec.{eqb, eqb·suc-zero}
 use lib.ListN.{length, getD, set, length-set}
 use lib.Seq.{getD-set-same, getD-set-other}
 use Rattle.model.specs.Problem.{Problem}
@@ -17,15 +19,17 @@ use Rattle.model.specs.Search as S
 use Rattle.model.specs.Run.{look}
 use Rattle.model.proofs.Admits.{opening-well-formed}
 use Rattle.model.proofs.Path.{path-root, path-branch, path-fork}
-use Rattle.model.proofs.Search.{look-by, look-inconsistent, look-fork}
+use Rattle.model.proofs.Search.{look-fork, limit-270}
+use Rattle.model.proofs.Run.{forking-so}
 use Rattle.model.proofs.Theorems.{fork-most}
-use Rattle.model.proofs.Search.{limit-270}
 use Rattle.domains.specs.declared.Place.{Place}
 use Rattle.domains.specs.Choice.{Branched, branch-of as side}
 use Rattle.search.specs.declared.Outlook.{Outlook}
 use Rattle.search.specs.declared.Outlook.the-variants.{Conflict, Complete, Fork}
+use Rattle.search.specs.declared.Replay.{Replay}
 use Rattle.search.specs.declared.Snapshot.{Snapshot}
-use Rattle.search.specs.Standing.{slot-of, Ready, Looked, Kept, Saved, Standing, without-seconds}
+use Rattle.search.specs.Checkpoints.{branch-of, path-of}
+use Rattle.search.specs.Standing.{slot-of, Ready, Looked, Kept, Saved, Standing, Replayed, without-seconds}
 
 module _ (p : Problem) where
   -- the domains of a path, made ready for one branch more
@@ -104,3 +108,33 @@ module _ (p : Problem) where
       let κ = t .saved .0 d in
       let γ = rw n at β in
       record { room = σ .room; forks = t .forks; saved = t .saved; ready = ready-next (t .to) (κ .domains) (κ .place) γ }
+
+-- A replay that stopped at a beginning that is no branching point, and one that came to the path's end
+forking-fails : (look : List Branch → S.Outlook) (bs : List ℕ) (i n : ℕ) → i < n → S.is-fork (look (path-of i bs)) ≡ false → S.forking look (path-of n bs) ≡ false
+forking-fails look bs i zero h e = absurd (omega arith)
+forking-fails look bs i (suc n) h e = go (ℕ-discrete i n) (forking-fails look bs i n)
+  where
+    either : (a b : Bool) → b ≡ false → (a && b) ≡ false
+    either true b d = d
+    either false b d = refl
+
+    go : Dec (i ≡ n) → (i < n → S.is-fork (look (path-of i bs)) ≡ false → S.forking look (path-of n bs) ≡ false)
+        → (S.is-fork (look (path-of n bs)) && S.forking look (path-of n bs)) ≡ false
+    go (yes d) ih = ap (λ (b : Bool). b && S.forking look (path-of n bs)) (rw d at e)
+    go (no d) ih = either (S.is-fork (look (path-of n bs))) (S.forking look (path-of n bs)) (ih (omega arith) e)
+
+pub replayed-not : (p : Problem) (bs : List ℕ) (i n : ℕ) (levels : List Snapshot) (k : Domains) → i < n → S.is-fork (look p (path-of i bs)) ≡ false
+    → Replayed p (path-of n bs) (record { follows = false; levels = levels; domains = k })
+replayed-not p bs i n levels k h e = record { verdict = sym (forking-fails (look p) bs i n h e); stands = λ f. absurd (true≢false (sym f)) }
+
+pub replayed : (p : Problem) (path : List Branch) (levels : List Snapshot) (k : Domains) → Standing p levels k path
+    → Replayed p path (record { follows = true; levels = levels; domains = k })
+replayed p path levels k σ = record { verdict = sym (forking-so (look p) path .1 (σ .forks)); stands = λ _. σ }
+
+pub replayed-of : {p q : Problem} {path : List Branch} {r : Replay} → q ≡ p → Replayed p path r → Replayed q path r
+replayed-of {path = path} {r} e h = subst (λ (x : Problem). Replayed x path r) (sym e) h
+
+-- the number of a branch as a Boolean
+pub side-of : (m : ℕ) → side (not (eqb m 0)) ≡ branch-of m
+side-of zero = refl
+side-of (suc m) = rw (eqb·suc-zero m)

@@ -37,8 +37,12 @@ answer-of C.no-packing = Infeasible
 answer-of (C.packing q) = Packed
 
 -- "those past the sheet's count .. are 0 when the search returns them"
+abbrev pub position-if : Bool → Positions → ℕ → Position
+position-if true q u = record { x = q 0 u; y = q 1 u; t = q 2 u }
+position-if false q u = origin
+
 abbrev pub position-of : ℕ → Positions → ℕ → Position
-position-of n q u = elim (ltb u n) [ true ↦ record { x = q 0 u; y = q 1 u; t = q 2 u } | false ↦ origin ]
+position-of n q u = position-if (ltb u n) q u
 
 unfoldable pub packing-of : Problem → Positions → Packing
 packing-of p q = record { positions = map (position-of (p .items) q) (0 ∷ 1 ∷ 2 ∷ 3 ∷ 4 ∷ 5 ∷ 6 ∷ 7 ∷ 8 ∷ 9 ∷ []) }
@@ -75,13 +79,18 @@ packed-after m bs n q =
     record { answer = Packed; steps = m; checkpoint = record { status = Status.Packed; length = n; branches = bs }; packing = q }
 
 -- 10: "a note that doesn't follow its sheet"
-unfoldable pub followed : Problem → ℕ → Checkpoint → S.Checkpoint → SearchResult
-followed p budget c κ = elim (S.follows (R.look p) κ) [ true ↦ result-of p (R.search p budget κ) | false ↦ refused NotFollowing c ]
+abbrev pub followed-if : Bool → Problem → ℕ → Checkpoint → S.Checkpoint → SearchResult
+followed-if true p budget c κ = result-of p (R.search p budget κ)
+followed-if false p budget c κ = refused NotFollowing c
+
+abbrev pub followed : Problem → ℕ → Checkpoint → S.Checkpoint → SearchResult
+followed p budget c κ = followed-if (S.follows (R.look p) κ) p budget c κ
 
 -- "9 is tested before .. 10"; "other contents get 10"
+abbrev pub result-if : Bool → Bool → Instance → Checkpoint → ℕ → SearchResult
+result-if true true i c budget = followed (problem-of i) budget c (checkpoint-of c)
+result-if true false i c budget = refused NotFollowing c
+result-if false w i c budget = refused InvalidInstance c
+
 unfoldable pub search-result : Instance → Checkpoint → ℕ → SearchResult
-search-result i c budget =
-    elim (valid i) [
-      true ↦ elim (well-formed c) [ true ↦ followed (problem-of i) budget c (checkpoint-of c) | false ↦ refused NotFollowing c ]
-    | false ↦ refused InvalidInstance c
-    ]
+search-result i c budget = result-if (valid i) (well-formed c) i c budget

@@ -1,3 +1,8 @@
+use Rattle.search.proofs.Outcome.{number-small}
+use Rattle.refusal.specs.declared.Refusal.{Refusal}
+use Prim.Native.Nat.{ℕ, _+_, _≤_}
+use mathlib.Core.Path.{_≡_, refl, sym, ap, _∙_}
+use native.Mathlib.Omega.{arith}
 use borrow.Author.Needs.{needs}
 use Rattle.search.proofs.Answer.number.Statement.{statement}
 use Rattle.search.proofs.Answer.number.Tie as tie
@@ -27,7 +32,7 @@ number-requires c κs = search needs
 
 -- src/lib.rt:63:35
 add-result : tie.Need-add-result
-add-result c = ?
+add-result c = omega (arith, c .number .ensures, number-small (c .before .before .self .given .0 .0))
 
 -- src/lib.rt:56:5
 returns : tie.Need-returns
@@ -43,7 +48,7 @@ returns-3 c = search needs
 
 -- src/lib.rt:56:5
 returns-4 : tie.Need-returns-4
-returns-4 c = ?
+returns-4 c = rw (c .before .before .self .given .1) (ap (λ (m : ℕ). 100 + m) (c .number .ensures))
 
 pub number-spec : {M : Type 1} → statement M
 number-spec =

@@ -1,3 +1,4 @@
+use Rattle.search.proofs.Seeing.{seen-well-formed, seen-conflict, seen-complete, seen-fork}
 use borrow.Author.Needs.{needs}
 use Rattle.search.proofs.steps.look.Statement.{statement}
 use Rattle.search.proofs.steps.look.Tie as tie
@@ -12,11 +13,13 @@ propagate-requires c κs = search needs
 
 -- src/steps.rt:31:9
 returns : tie.Need-returns
-returns c = ?
+returns c = seen-conflict _ _ _ (c .before .propagate .ensures) (c .if1 .taken)
 
 -- src/steps.rt:33:11
 branching-requires : tie.Need-branching-requires
-branching-requires c κs = ?
+branching-requires c κs = 
+    let a = c .before .before .before .before .args in
+    (seen-well-formed (a .n) (a .sizes .now) (a .capacity .now) (c .before .before .propagate .ensures), c .before .before .before .before .pre .limited)
 
 -- src/steps.rt:34:30
 enum-told : tie.Need-enum-told
@@ -28,11 +31,11 @@ enum-known-place c = search needs
 
 -- src/steps.rt:26:1
 returns-2 : tie.Need-returns-2
-returns-2 c = ?
+returns-2 c = seen-complete _ _ _ (c .before .before .before .before .before .propagate .ensures) (c .before .before .before .before .if1 .left) (rw (c .enum-told .given .1) at (c .before .before .branching .ensures))
 
 -- src/steps.rt:26:1
 returns-3 : tie.Need-returns-3
-returns-3 c = ?
+returns-3 c = seen-fork _ _ _ (c .before .before .before .before .before .before .propagate .ensures) (c .before .before .before .before .before .if1 .left) (rw (c .before .place .given .1) at (c .before .before .before .branching .ensures))
 
 pub look-spec : {M : Type 1} → statement M
 look-spec =

@@ -1,3 +1,29 @@
+use Rattle.search.proofs.Standing.{replayed-of, side-of}
+use Rattle.search.proofs.Checkpoints.{path-length, path-next}
+use lib.ListN.{getD}
+use Rattle.search.proofs.Standing.{fork-rising, replayed, replayed-not}
+use Rattle.search.proofs.Sound.{laid-sound}
+use Rattle.instance.specs.Valid.{precedences-of}
+use Rattle.instance.specs.Meaning.{precedence-of, problem-of}
+use Rattle.search.specs.Standing.{Looked, Replayed}
+use Rattle.search.specs.declared.Outlook.the-variants.{Conflict, Complete, Fork}
+use Rattle.search.proofs.Sound.{length-mapped}
+use Rattle.search.proofs.Standing.{stand-root, stand-next}
+use Rattle.search.specs.Standing.{Standing}
+use Rattle.search.specs.Checkpoints.{path-of}
+use Rattle.model.specs.Domains.{Domains}
+use Rattle.domains.specs.Shape.{shape-problem, Given}
+use Rattle.model.specs.Admits.{Sound}
+use Rattle.model.specs.Order.{WellFormed}
+use Rattle.model.specs.Branching.{Branch, opening-domains}
+use Rattle.model.specs.Problem.{Problem, Precedence}
+use lib.ListN as L
+use native.Mathlib.Omega.{arith}
+use Prim.Native.Nat.{ℕ, suc, _+_, _-_, _≤_, _<_}
+use mathlib.Core.Path.{_≡_, refl, sym, ap, _∙_, subst}
+use mathlib.Core.List.{List, [], _∷_, map}
+use mathlib.Core.Bool.{Bool, true, false}
+use borrow.Author.Needs.{needs}
 use Rattle.search.proofs.steps.replay.Statement.{statement}
 use Rattle.search.proofs.steps.replay.Tie as tie
 use Rattle.search.proofs.steps.replay.Reads as reads
@@ -9,82 +35,131 @@ use Rattle.search.proofs.steps.look.Reads as look-reads
 use Rattle.search.proofs.steps.no_levels.Reads as no-levels-reads
 
 abbrev Inv-loop : tie.InvT-loop
-Inv-loop length branches n sizes capacity levels₀ k₀ i₀ levels k i = ?
+Inv-loop length branches n sizes capacity levels₀ k₀ i₀ levels k i = 
+    (i ≤ length)
+    × ((os : List Precedence) → k₀ ≡ opening-domains (shape-problem n sizes capacity os) → Standing (shape-problem n sizes capacity os) levels k (path-of i branches))
 
 abbrev μ-loop : tie.MeasureT-loop
-μ-loop length branches n sizes capacity levels₀ k₀ i₀ levels k i = ?
+μ-loop length branches n sizes capacity levels₀ k₀ i₀ levels k i = length - i
+
+long : (c : tie.Start Inv-loop μ-loop) → L.length (c .args .instance .items) ≡ 10
+long c = search length-mapped
+
+-- the problem of the arrays
+abbrev problem : tie.After-shape-of Inv-loop μ-loop → Problem
+problem c =
+    shape-problem (c .shape-of .result .items) (c .shape-of .result .sizes) (c .shape-of .result .capacity)
+    (map precedence-of (precedences-of (c .before .args .instance)))
+
+sound : (c : tie.After-shape-of Inv-loop μ-loop) → Sound (problem c)
+sound c = laid-sound (c .before .args .instance) (c .shape-of .result) (c .shape-of .ensures) (c .before .pre .0) (long (c .before))
+
+arrays : (c : tie.After-shape-of Inv-loop μ-loop) {k : Domains} → WellFormed k
+    → Given k (c .shape-of .result .items) (c .shape-of .result .sizes) (c .shape-of .result .capacity)
+arrays c w = record { well-formed = w; limited = sound c .limited; sizes-long = search needs; capacity-long = search needs }
+
+-- where the replay stands
+here : (c : tie.At-loop Inv-loop μ-loop)
+    → Standing (problem (c .before .before .before .before .before)) (c .loop .levels) (c .loop .k) (path-of (c .loop .i) (c .before .before .before .before .before .before .args .t2))
+here c = c .loop .inv .1 _ (c .before .opening-domains .ensures ∙ ap opening-domains (c .before .before .before .before .before .shape-of .ensures .means))
+
+-- what is seen there
+seen : (c : tie.After-look Inv-loop μ-loop)
+    → Looked (problem (c .before .before .before .before .before .before .before .before .before .before)) (path-of (c .before .before .before .before .before .loop .i) (c .before .before .before .before .before .before .before .before .before .before .before .args .t2))
+    (c .look .last .0) (c .look .result)
+seen c = c .look .ensures .looked _ _ (here (c .before .before .before .before .before) .ready)
 
 -- src/steps.rt:57:9
 shape-of-requires : tie.Need-shape-of-requires Inv-loop μ-loop
-shape-of-requires c κs = ?
+shape-of-requires c κs = search needs
 
 -- src/steps.rt:61:22
 no-levels-requires : tie.Need-no-levels-requires Inv-loop μ-loop
-no-levels-requires c κs = ?
+no-levels-requires c κs = search needs
 
 -- src/steps.rt:62:17
 opening-domains-requires : tie.Need-opening-domains-requires Inv-loop μ-loop
-opening-domains-requires c κs = ?
+opening-domains-requires c κs = c .before .before .before .before .pre .0
 
 -- src/steps.rt:64:5
 loop-holds : tie.Need-loop-holds Inv-loop μ-loop
-loop-holds c = ?
+loop-holds c = (omega arith, λ os e. stand-root (shape-problem _ _ _ os) (c .before .no-levels .ensures) e)
 
 -- src/steps.rt:65:15
 look-requires : tie.Need-look-requires Inv-loop μ-loop
-look-requires c κs = ?
+look-requires c κs = arrays (c .before .before .before .before .before .before .before .before .before) (here (c .before .before .before .before) .ready .well-formed)
 
 -- src/steps.rt:66:27
 enum-known-place : tie.Need-enum-known-place Inv-loop μ-loop
-enum-known-place c = ?
+enum-known-place c = search needs
 
 -- src/steps.rt:67:17
 mul-levels : tie.Need-mul-levels Inv-loop μ-loop
-mul-levels c = ?
+mul-levels c = search needs
 
 -- src/steps.rt:67:17
 array-set-from-levels : tie.Need-array-set-from-levels Inv-loop μ-loop
-array-set-from-levels c = ?
+array-set-from-levels c = omega (arith, c .before .before .before .before .before .before .before .before .before .before .before .before .before .before .pre .1)
 
 -- src/steps.rt:68:53
 array-read-apply-branch : tie.Need-array-read-apply-branch Inv-loop μ-loop
-array-read-apply-branch c = ?
+array-read-apply-branch c = omega (arith, c .before .before .before .before .before .before .before .before .before .before .before .before .before .before .before .pre .1)
 
 -- src/steps.rt:68:17
 apply-branch-requires : tie.Need-apply-branch-requires Inv-loop μ-loop
-apply-branch-requires c κs = ?
+apply-branch-requires c κs = 
+    let s = rw (c .before .before .place .given .1) at (seen (c .before .before .before .before)) in
+    (c .before .before .before .before .look .ensures .well-formed, fork-rising (problem (c .before .before .before .before .before .before .before .before .before .before .before .before .before .before)) _ (sound (c .before .before .before .before .before .before .before .before .before .before .before .before .before .before)) (s .0) (s .2))
 
 -- src/steps.rt:69:21
 add-i : tie.Need-add-i Inv-loop μ-loop
-add-i c = ?
+add-i c = omega arith
 
 -- src/steps.rt:64:5
 loop-less : tie.Need-loop-less Inv-loop μ-loop
-loop-less c = ?
+loop-less c = omega arith
 
 -- src/steps.rt:64:5
 loop-again : tie.Need-loop-again Inv-loop μ-loop
-loop-again c = ?
+loop-again c = (
+    omega arith,
+    λ os e.
+    let l = c .before .before .before .before .before .before .before .before .before .before .loop in
+    let bs = c .before .before .before .before .before .before .before .before .before .before .before .before .before .before .before .before .args .t2 in
+    let σ = l .inv .1 os e in
+    let s = rw (c .before .before .before .place .given .1) at (c .before .before .before .before .before .look .ensures .looked os (path-of (l .i) bs) (σ .ready)) in
+    rw (path-next, ← side-of (getD bs (l .i) 0))
+    (stand-next (shape-problem _ _ _ os) σ s (sym (path-length (l .i) bs)) (omega (arith, c .before .before .before .before .before .before .before .before .before .before .before .before .before .before .before .before .pre .1)) (c .apply-branch .ensures))
+  )
 
 -- src/steps.rt:71:66
 enum-told : tie.Need-enum-told Inv-loop μ-loop
-enum-told c = ?
+enum-told c = search needs
 
 -- src/steps.rt:71:34
 returns : tie.Need-returns Inv-loop μ-loop
-returns c = ?
+returns c = 
+    let s = rw (c .enum-told .given .1) at (seen (c .before .before)) in
+    replayed-of (c .before .before .before .before .before .before .before .before .before .before .before .before .shape-of .ensures .means)
+    (replayed-not (problem (c .before .before .before .before .before .before .before .before .before .before .before .before)) (c .before .before .before .before .before .before .before .before .before .before .before .before .before .args .t2) (c .before .before .before .before .before .before .before .loop .i) (c .before .before .before .before .before .before .before .before .before .before .before .before .before .args .length) _ _ (omega arith) (rw s))
 
 -- src/steps.rt:72:66
 enum-told-2 : tie.Need-enum-told-2 Inv-loop μ-loop
-enum-told-2 c = ?
+enum-told-2 c = search needs
 
 -- src/steps.rt:72:34
 returns-2 : tie.Need-returns-2 Inv-loop μ-loop
-returns-2 c = ?
+returns-2 c = 
+    let s = rw (c .enum-told2 .given .1) at (seen (c .before .before)) in
+    replayed-of (c .before .before .before .before .before .before .before .before .before .before .before .before .shape-of .ensures .means)
+    (replayed-not (problem (c .before .before .before .before .before .before .before .before .before .before .before .before)) (c .before .before .before .before .before .before .before .before .before .before .before .before .before .args .t2) (c .before .before .before .before .before .before .before .loop .i) (c .before .before .before .before .before .before .before .before .before .before .before .before .before .args .length) _ _ (omega arith) (rw (s .0)))
 
 -- src/steps.rt:53:1
 returns-3 : tie.Need-returns-3 Inv-loop μ-loop
-returns-3 c = ?
+returns-3 c = 
+    let e : c .before .loop .i ≡ c .before .before .before .before .before .before .before .args .length = omega arith in
+    replayed-of (c .before .before .before .before .before .before .shape-of .ensures .means)
+    (rw (← e) (replayed (problem (c .before .before .before .before .before .before)) _ _ _ (here (c .before))))
 
 pub replay-spec : {M : Type 1} → statement M
 replay-spec =
