@@ -1,5 +1,5 @@
 -- Laws of a path's branches in an array, and of checkpoints as values.
-use mathlib.Core.Bool.{Bool, true, false}
+use mathlib.Core.Bool.{Bool, true, false, _&&_}
 use mathlib.Core.List.{List, [], _∷_}
 use mathlib.Core.Path.{_≡_, refl, sym, ap, _∙_, subst}
 use Prim.Native.Nat.{ℕ, zero, suc, _+_, _-_, _≤_, _<_}
@@ -9,7 +9,7 @@ use native.Mathlib.Omega.{arith}
 use lib.Dec.{leb, ltb, eqb}
 use lib.ListN.{length, getD, set, replicate, length-set, length-replicate}
 use lib.Seq.{getD-set-same, getD-set-other, set-getD, set-set, set-out}
-use borrow.Author.Tests.{le-leb, lt-ltb, le-ltb, ltb-true}
+use borrow.Author.Tests.{le-leb, lt-ltb, le-ltb, leb-true, ltb-true}
 use Rattle.model.specs.Below.{all-below}
 use Rattle.model.specs.Branching.{Branch, first, second}
 use Rattle.model.specs.Search as S
@@ -17,7 +17,7 @@ use Rattle.model.proofs.Below.{and-intro, and-both, all-at, all-of}
 use Rattle.instance.specs.declared.Checkpoint.{Checkpoint}
 use Rattle.instance.specs.declared.Status.{Status}
 use Rattle.instance.specs.declared.Status.the-variants.{Open, Infeasible, Packed}
-use Rattle.search.specs.Checkpoints.{branch-of, number-of, path-of, checkpoint-of, all-branches, well-formed, Bits, branches-of, value-of}
+use Rattle.search.specs.Checkpoints.{branch-of, number-of, path-of, with-status, checkpoint-of, length-allowed, all-branches, well-formed, Bits, branches-of, value-of}
 use Rattle.search.specs.Standing.{without-seconds, Holds}
 
 -- a branch and its number
@@ -106,6 +106,24 @@ unfolding well-formed value-of
 value-well-formed (S.open-at path) h = and-intro (le-leb _ _ h) (and-intro refl (branches-bits path (length path)))
 value-well-formed S.infeasible h = and-intro refl (and-intro refl (branches-bits [] 0))
 value-well-formed (S.packed-at path) h = and-intro (le-leb _ _ h) (and-intro refl (branches-bits path (length path)))
+
+-- a checkpoint by its status
+pub checkpoint-as : (c : Checkpoint) {s : Status} → c .status ≡ s → checkpoint-of c ≡ with-status s (path-of (c .length) (c .branches))
+unfolding checkpoint-of
+checkpoint-as c e = ap (λ (s : Status). with-status s (path-of (c .length) (c .branches))) e
+
+-- what a well-formed value says of its branches
+pub well-formed-bits : (c : Checkpoint) → well-formed c ≡ true → Bits (c .length) (c .branches)
+unfolding well-formed
+well-formed-bits c h =
+    let rest = length-allowed (c .status) (c .length) && all-branches (c .length) (c .branches) in
+    let (l, r) = and-both (leb (c .length) 270) rest h in
+    record { within = leb-true _ _ l; bits = and-both (length-allowed (c .status) (c .length)) (all-branches (c .length) (c .branches)) r .1 }
+
+-- the first n branches, written anew
+pub path-again : (n : ℕ) (bs : List ℕ) → n ≤ 270 → path-of n (branches-of (path-of n bs)) ≡ path-of n bs
+path-again n bs h =
+    subst (λ (m : ℕ). path-of m (branches-of (path-of n bs)) ≡ path-of n bs) (path-length n bs) (path-back (path-of n bs) (rw path-length h))
 
 -- The array of a path within a call
 

@@ -6,3 +6,4 @@ pub mod Packing
 pub mod Outcome
 pub mod Seeing
 pub mod Going
+pub mod Claim

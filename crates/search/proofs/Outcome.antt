@@ -1,4 +1,5 @@
 -- The results of a call as values.
+use mathlib.Core.Bool.{Bool, true, false, _&&_}
 use mathlib.Core.List.{List}
 use mathlib.Core.Path.{_≡_, refl, sym, ap, _∙_, subst}
 use Prim.Native.Nat.{ℕ, _≤_}
@@ -9,16 +10,18 @@ use Rattle.model.specs.Branching.{Branch, plan}
 use Rattle.model.specs.Search as S
 use Rattle.model.specs.Calls as C
 use Rattle.model.specs.Run.{look, search}
+use Rattle.model.proofs.Below.{and-intro}
 use Rattle.refusal.specs.declared.Refusal.{Refusal}
 use Rattle.refusal.specs.declared.Refusal.the-variants.{EndsEarly, UnknownBit, WrittenDefault, BadCount, BadItem, NotRising, TrailingBytes, BadArgument, InvalidInstance, NotFollowing}
 use Rattle.refusal.specs.Numbers.{number-of}
+use Rattle.instance.specs.declared.Checkpoint.{Checkpoint}
 use Rattle.instance.specs.declared.Packing.{Packing}
 use Rattle.instance.specs.Values.{origin-packing}
 use Rattle.search.specs.declared.SearchResult.{SearchResult}
 use Rattle.search.specs.Checkpoints.{branches-of, value-of}
-use Rattle.search.specs.Results.{packing-of, result-of, infeasible-after, spent-after, packed-after}
+use Rattle.search.specs.Results.{packing-of, result-of, refused, followed, infeasible-after, spent-after, packed-after}
 use Rattle.search.specs.Standing.{Holds}
-use Rattle.search.proofs.Budget.{Comes}
+use Rattle.search.proofs.Budget.{Comes, rest-start, rest-finished}
 
 pub number-small : (e : Refusal) → number-of e ≤ 10
 number-small (EndsEarly place) = omega arith
@@ -51,3 +54,29 @@ module _ (p : Problem) (budget : ℕ) (start : S.Checkpoint) where
       → Comes (look p) budget start t (S.packed-at path) → packed-after t bs n q ≡ result-of p (search p budget start)
   unfolding packed-after result-of value-of
   comes-packed h e γ = rw (h .many, h .values, e) (at-end γ)
+
+  -- a finished checkpoint repeats its answer
+  pub comes-again : S.Finished start → Comes (look p) budget start 0 start
+  comes-again f = rest-finished (look p) budget start (rest-start (look p) budget start) f
+
+  -- a checkpoint that follows, and one that does not
+  module _ (c : Checkpoint) where
+    pub follows-result : S.follows (look p) start ≡ true → result-of p (search p budget start) ≡ followed p budget c start
+    follows-result e = rw e
+
+    pub refused-result : S.follows (look p) start ≡ false → refused NotFollowing c ≡ followed p budget c start
+    refused-result e = rw e
+
+module _ (p : Problem) (path : List Branch) where
+  pub complete-follows : S.forking (look p) path ≡ true → look p path ≡ S.complete → S.follows (look p) (S.packed-at path) ≡ true
+  complete-follows f e = and-intro f (rw e)
+
+  pub incomplete : S.is-complete (look p path) ≡ false → S.follows (look p) (S.packed-at path) ≡ false
+  incomplete e = go (S.forking (look p) path)
+    where
+      go : (b : Bool) → (b && S.is-complete (look p path)) ≡ false
+      go true = e
+      go false = refl
+
+  pub unforked : S.forking (look p) path ≡ false → S.follows (look p) (S.packed-at path) ≡ false
+  unforked e = rw e

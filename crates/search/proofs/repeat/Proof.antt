@@ -1,3 +1,24 @@
+use Rattle.search.proofs.Outcome.{comes-packed, comes-again, follows-result, refused-result, complete-follows, incomplete, unforked}
+use Rattle.search.proofs.Seeing.{startable, started-plan}
+use Rattle.search.proofs.Sound.{length-mapped, laid-sound}
+use Rattle.search.proofs.Checkpoints.{path-length}
+use Rattle.search.specs.Standing.{Standing, Looked}
+use Rattle.search.specs.Checkpoints.{path-of}
+use Rattle.domains.specs.Shape.{shape-problem, Given}
+use Rattle.instance.specs.Valid.{precedences-of}
+use Rattle.instance.specs.Meaning.{precedence-of, problem-of}
+use Rattle.model.specs.Run.{look}
+use Rattle.model.proofs.Run.{forking-so}
+use Rattle.model.specs.Search as S
+use Rattle.model.specs.Admits.{Sound}
+use Rattle.model.specs.Order.{WellFormed}
+use Rattle.model.specs.Branching.{Branch}
+use Rattle.model.specs.Domains.{Domains}
+use Rattle.model.specs.Problem.{Problem}
+use borrow.Author.Tests.{not-true, not-false}
+use lib.ListN as L
+use mathlib.Core.Path.{_≡_, refl, sym, ap, _∙_, subst}
+use mathlib.Core.List.{List, map}
 use borrow.Author.Needs.{needs}
 use Rattle.search.proofs.repeat.Statement.{statement}
 use Rattle.search.proofs.repeat.Tie as tie
@@ -11,6 +32,32 @@ use Rattle.search.proofs.results.refused.Reads as refused-reads
 use Rattle.search.proofs.steps.look.Reads as look-reads
 use Rattle.search.proofs.steps.replay.Reads as replay-reads
 
+long : (c : tie.Start) → L.length (c .args .instance .items) ≡ 10
+long c = search length-mapped
+
+-- the path, and the problem of the arrays
+abbrev path : tie.Start → List Branch
+path c = path-of (c .args .checkpoint .length) (c .args .checkpoint .branches)
+
+abbrev problem : tie.After-shape-of → Problem
+problem c =
+    shape-problem (c .shape-of .result .items) (c .shape-of .result .sizes) (c .shape-of .result .capacity)
+    (map precedence-of (precedences-of (c .before .before .before .before .before .args .instance)))
+
+sound : (c : tie.After-shape-of) → Sound (problem c)
+sound c = laid-sound (c .before .before .before .before .before .args .instance) (c .shape-of .result) (c .shape-of .ensures) (c .before .before .before .before .before .pre .0) (long (c .before .before .before .before .before))
+
+arrays : (c : tie.After-shape-of) {k : Domains} → WellFormed k → Given k (c .shape-of .result .items) (c .shape-of .result .sizes) (c .shape-of .result .capacity)
+arrays c w = record { well-formed = w; limited = sound c .limited; sizes-long = search needs; capacity-long = search needs }
+
+-- where the replay has come to
+here : (c : tie.After-shape-of) → Standing (problem c) (c .before .before .before .replay .result .levels) (c .before .before .before .replay .result .domains) (path (c .before .before .before .before .before))
+here c = rw (c .shape-of .ensures .means) at (c .before .before .before .replay .ensures .stands (not-false _ (c .before .if1 .left)))
+
+-- what is seen there
+seen : (c : tie.After-look) → Looked (problem (c .before .before .before .before .before .before .before)) (path (c .before .before .before .before .before .before .before .before .before .before .before .before)) (c .look .last .0) (c .look .result)
+seen c = c .look .ensures .looked _ _ (here (c .before .before .before .before .before .before .before) .ready)
+
 -- src/lib.rt:110:9
 replay-requires : tie.Need-replay-requires
 replay-requires c κs = search needs
@@ -21,7 +68,11 @@ refused-requires c κs = search needs
 
 -- src/lib.rt:112:9
 returns : tie.Need-returns
-returns c = ?
+returns c = 
+    let a = c .before .before .before .before .before .args in
+    let p = problem-of (a .instance) in
+    c .refused .ensures
+    ∙ refused-result p (a .budget) (S.packed-at (path (c .before .before .before .before .before))) (a .checkpoint) (unforked p (path (c .before .before .before .before .before)) (sym (c .before .before .before .replay .ensures .verdict) ∙ not-true _ (c .before .if1 .taken)))
 
 -- src/lib.rt:114:9
 shape-of-requires : tie.Need-shape-of-requires
@@ -29,7 +80,7 @@ shape-of-requires c κs = search needs
 
 -- src/lib.rt:119:11
 look-requires : tie.Need-look-requires
-look-requires c κs = ?
+look-requires c κs = arrays (c .before .before .before .before .before .before) (here (c .before .before .before .before .before .before) .ready .well-formed)
 
 -- src/lib.rt:121:17
 enum-told : tie.Need-enum-told
@@ -41,7 +92,9 @@ path-branches-requires c κs = search needs
 
 -- src/lib.rt:122:17
 starts-of-requires : tie.Need-starts-of-requires
-starts-of-requires c κs = ?
+starts-of-requires c κs = 
+    let l = rw (c .before .before .before .before .enum-told .given .1) at (seen (c .before .before .before .before .before .before)) in
+    startable _ _ _ _ (path (c .before .before .before .before .before .before .before .before .before .before .before .before .before .before .before .before .before .before)) (sound (c .before .before .before .before .before .before .before .before .before .before .before .before .before)) (arrays (c .before .before .before .before .before .before .before .before .before .before .before .before .before) (c .before .before .before .before .before .before .look .ensures .well-formed)) l
 
 -- src/lib.rt:123:13
 packed-requires : tie.Need-packed-requires
@@ -65,15 +118,34 @@ refused-requires-3 c κs = search needs
 
 -- src/lib.rt:103:1
 returns-2 : tie.Need-returns-2
-returns-2 c = ?
+returns-2 c = 
+    let p = problem (c .before .before .before .before .before .before .before .before .before .before .before .before .before .before .before) in
+    let l = rw (c .before .before .before .before .before .before .enum-told .given .1) at (seen (c .before .before .before .before .before .before .before .before)) in
+    let q : L.length (c .before .starts-of .result .positions) ≡ 10 = search length-mapped in
+    let κ = S.packed-at (path (c .before .before .before .before .before .before .before .before .before .before .before .before .before .before .before .before .before .before .before .before)) in
+    let f = complete-follows p (path (c .before .before .before .before .before .before .before .before .before .before .before .before .before .before .before .before .before .before .before .before)) (forking-so (look p) (path (c .before .before .before .before .before .before .before .before .before .before .before .before .before .before .before .before .before .before .before .before)) .1 (here (c .before .before .before .before .before .before .before .before .before .before .before .before .before .before .before) .forks)) (l .0) in
+    rw (c .before .before .before .before .before .before .before .before .before .before .before .before .before .before .before .shape-of .ensures .means)
+    (c .packed .ensures
+    ∙ comes-packed p (c .before .before .before .before .before .before .before .before .before .before .before .before .before .before .before .before .before .before .before .before .args .budget) κ (record { many = sym (path-length _ _); values = c .before .before .before .before .before .path-branches .ensures }) (started-plan _ _ _ _ (path (c .before .before .before .before .before .before .before .before .before .before .before .before .before .before .before .before .before .before .before .before)) l (c .before .starts-of .ensures) q) (comes-again p (c .before .before .before .before .before .before .before .before .before .before .before .before .before .before .before .before .before .before .before .before .args .budget) κ tt)
+    ∙ follows-result p (c .before .before .before .before .before .before .before .before .before .before .before .before .before .before .before .before .before .before .before .before .args .budget) κ _ f)
 
 -- src/lib.rt:103:1
 returns-3 : tie.Need-returns-3
-returns-3 c = ?
+returns-3 c = 
+    let a = c .before .before .before .before .before .before .before .before .before .before .before .before .before .before .before .args in
+    let p = problem (c .before .before .before .before .before .before .before .before .before .before) in
+    let l = rw (c .before .enum-told2 .given .1) at (seen (c .before .before .before)) in
+    rw (c .before .before .before .before .before .before .before .before .before .before .shape-of .ensures .means)
+    (c .refused2 .ensures ∙ refused-result p (a .budget) (S.packed-at (path (c .before .before .before .before .before .before .before .before .before .before .before .before .before .before .before))) (a .checkpoint) (incomplete p (path (c .before .before .before .before .before .before .before .before .before .before .before .before .before .before .before)) (rw l)))
 
 -- src/lib.rt:103:1
 returns-4 : tie.Need-returns-4
-returns-4 c = ?
+returns-4 c = 
+    let a = c .before .before .before .before .before .before .before .before .before .before .before .before .before .before .before .args in
+    let p = problem (c .before .before .before .before .before .before .before .before .before .before) in
+    let l = rw (c .before .enum-told3 .given .1) at (seen (c .before .before .before)) in
+    rw (c .before .before .before .before .before .before .before .before .before .before .shape-of .ensures .means)
+    (c .refused3 .ensures ∙ refused-result p (a .budget) (S.packed-at (path (c .before .before .before .before .before .before .before .before .before .before .before .before .before .before .before))) (a .checkpoint) (incomplete p (path (c .before .before .before .before .before .before .before .before .before .before .before .before .before .before .before)) (rw (l .0))))
 
 pub repeat-spec : {M : Type 1} → statement M
 repeat-spec =
