@@ -1,14 +1,14 @@
 -- Steps within a budget: the rest from here is the whole from the start.
 use mathlib.Core.List.{List}
-use mathlib.Core.Path.{_≡_, refl, sym, ap, _∙_, subst}
-use Prim.Native.Nat.{ℕ, zero, suc, _+_, _-_, _≤_, _<_}
+use mathlib.Core.Path.{_≡_, sym, _∙_, subst}
+use Prim.Native.Nat.{ℕ, suc, _+_, _-_, _≤_, _<_}
 use native.Mathlib.Nat.{sub-zero}
 use native.Mathlib.Omega.{arith}
-use Rattle.model.specs.Branching.{Branch}
-use Rattle.model.specs.Search.{Outlook, Checkpoint, open-at, act, steps, Finished}
-use Rattle.model.specs.Calls.{taken}
-use Rattle.model.proofs.Run.{finished-stays}
 use Rattle.model.proofs.Calls.{finished-takes-none}
+use Rattle.model.proofs.Run.{finished-stays}
+use Rattle.model.specs.Branching.{Branch}
+use Rattle.model.specs.Calls.{taken}
+use Rattle.model.specs.Search.{Outlook, Checkpoint, open-at, act, steps, Finished}
 
 module _ (look : List Branch → Outlook) (budget : ℕ) (start : Checkpoint) where
   -- t steps from the start lead to κ
@@ -32,7 +32,7 @@ module _ (look : List Branch → Outlook) (budget : ℕ) (start : Checkpoint) wh
       let g : steps look (suc (budget - (t + 1))) (open-at path) ≡ steps look budget start = rw s at (ρ .same) in
       let m : t + taken look (suc (budget - (t + 1))) (open-at path) ≡ taken look budget start = rw s at (ρ .count) in
       let n : t + suc (taken look (budget - (t + 1)) (act o path)) ≡ taken look budget start =
-        subst (λ (x : Outlook). t + suc (taken look (budget - (t + 1)) (act x path)) ≡ taken look budget start) e m in
+      subst (λ (x : Outlook). t + suc (taken look (budget - (t + 1)) (act x path)) ≡ taken look budget start) e m in
       record {
         within = omega arith;
         same = subst (λ (x : Outlook). steps look (budget - (t + 1)) (act x path) ≡ steps look budget start) e g;

@@ -6,17 +6,16 @@ use Prim.Native.Nat.{ℕ, zero, suc, _+_, _-_, _≤_, _<_}
 use native.Mathlib.Decide.{ℕ-discrete, decLt}
 use native.Mathlib.Numerals.{add-one}
 use native.Mathlib.Omega.{arith}
-use lib.Dec.{leb, ltb, eqb}
+use lib.Dec.{leb, ltb}
 use lib.ListN.{length, getD, set, replicate, length-set, length-replicate}
 use lib.Seq.{getD-set-same, getD-set-other, set-getD, set-set, set-out}
 use borrow.Author.Tests.{le-leb, lt-ltb, le-ltb, leb-true, ltb-true}
+use Rattle.model.proofs.Below.{and-intro, and-both, all-at, all-of}
 use Rattle.model.specs.Below.{all-below}
 use Rattle.model.specs.Branching.{Branch, first, second}
 use Rattle.model.specs.Search as S
-use Rattle.model.proofs.Below.{and-intro, and-both, all-at, all-of}
 use Rattle.instance.specs.declared.Checkpoint.{Checkpoint}
 use Rattle.instance.specs.declared.Status.{Status}
-use Rattle.instance.specs.declared.Status.the-variants.{Open, Infeasible, Packed}
 use Rattle.search.specs.Checkpoints.{branch-of, number-of, path-of, with-status, checkpoint-of, length-allowed, all-branches, well-formed, Bits, branches-of, value-of}
 use Rattle.search.specs.Standing.{without-seconds, Holds}
 

@@ -5,31 +5,30 @@ use mathlib.Core.List.{List}
 use mathlib.Core.Logic.{_↔_}
 use mathlib.Core.Option.{some}
 use mathlib.Core.Path.{_≡_, refl, sym, ap, _∙_, subst}
-use Prim.Native.Nat.{ℕ, suc, _+_, _≤_, _<_}
+use Prim.Native.Nat.{ℕ, _≤_, _<_}
 use native.Mathlib.Decide.{decLt}
 use native.Mathlib.Omega.{arith}
 use lib.ListN.{length}
-use Rattle.model.specs.Problem.{Problem, Positions, Feasible}
-use Rattle.model.specs.Branching.{Branch, plan}
-use Rattle.model.specs.Admits.{Sound}
-use Rattle.model.specs.Search as S
-use Rattle.model.specs.Calls as C
-use Rattle.model.specs.Run.{look, search, run, step-count}
 use Rattle.model.proofs.Theorems as T
+use Rattle.model.specs.Admits.{Sound}
+use Rattle.model.specs.Branching.{plan}
+use Rattle.model.specs.Calls as C
+use Rattle.model.specs.Problem.{Problem, Positions, Feasible}
+use Rattle.model.specs.Run.{look, search, step-count}
+use Rattle.model.specs.Search as S
 use Rattle.refusal.specs.declared.Refusal.{Refusal}
-use Rattle.refusal.specs.declared.Refusal.the-variants.{InvalidInstance, NotFollowing}
-use Rattle.instance.specs.declared.Instance.{Instance}
-use Rattle.instance.specs.declared.Checkpoint.{Checkpoint}
-use Rattle.instance.specs.declared.Packing.{Packing}
+use Rattle.refusal.specs.declared.Refusal.the-variants.{InvalidInstance}
+use Rattle.instance.specs.Meaning.{problem-of, positions-of}
 use Rattle.instance.specs.Valid.{valid}
 use Rattle.instance.specs.Values.{opening-checkpoint}
-use Rattle.instance.specs.Meaning.{problem-of, positions-of}
-use Rattle.search.specs.declared.Answer.{Answer}
-use Rattle.search.specs.declared.Answer.the-variants.{Packed, Infeasible, BudgetSpent, Refused}
-use Rattle.search.specs.declared.SearchResult.{SearchResult}
-use Rattle.search.specs.Checkpoints.{checkpoint-of, well-formed, branches-of, value-of}
+use Rattle.instance.specs.declared.Checkpoint.{Checkpoint}
+use Rattle.instance.specs.declared.Instance.{Instance}
+use Rattle.instance.specs.declared.Packing.{Packing}
 use Rattle.search.specs.Calls.{reply-of, exec, plan-of}
-use Rattle.search.specs.Results.{answer-of, packing-of, packing-with, result-of, refused, followed, followed-if, result-if, search-result}
+use Rattle.search.specs.Checkpoints.{checkpoint-of, well-formed, branches-of, value-of}
+use Rattle.search.specs.Results.{answer-of, packing-with, result-of, refused, result-if, search-result}
+use Rattle.search.specs.declared.Answer.the-variants.{Packed, Infeasible}
+use Rattle.search.specs.declared.SearchResult.{SearchResult}
 use Rattle.search.proofs.Checkpoints.{Short, checkpoint-back, value-well-formed}
 use Rattle.search.proofs.Packing.{packing-back, feasible-same}
 use Rattle.search.proofs.Sound.{valid-sound}

@@ -1,28 +1,28 @@
 -- Steps under way: where the search stands, what the checkpoint holds, and what is left of the budget.
-use mathlib.Core.Bool.{Bool, true, false}
+use mathlib.Core.Bool.{true, false}
 use mathlib.Core.List.{List, [], _∷_}
 use mathlib.Core.Logic.{_⊎_, inl, inr}
-use mathlib.Core.Path.{_≡_, refl, sym, ap, _∙_, subst}
-use Prim.Native.Nat.{ℕ, zero, suc, _+_, _-_, _≤_, _<_}
+use mathlib.Core.Path.{_≡_}
+use Prim.Native.Nat.{ℕ, _+_, _-_, _≤_, _<_}
 use native.Mathlib.Omega.{arith}
 use lib.ListN.{length, getD, set}
-use Rattle.model.specs.Problem.{Problem}
-use Rattle.model.specs.Domains.{Domains}
-use Rattle.model.specs.Branching.{Branch, first, second}
-use Rattle.model.specs.Order.{WellFormed, Rising}
-use Rattle.model.specs.Admits.{Sound}
-use Rattle.model.specs.Search as S
-use Rattle.model.specs.Run.{look}
 use Rattle.model.proofs.Path.{path-well-formed}
 use Rattle.model.proofs.Search.{limit-270}
 use Rattle.model.proofs.Theorems.{fork-most, path-270}
-use Rattle.domains.specs.declared.Place.{Place}
+use Rattle.model.specs.Admits.{Sound}
+use Rattle.model.specs.Branching.{Branch, first, second}
+use Rattle.model.specs.Domains.{Domains}
+use Rattle.model.specs.Order.{WellFormed, Rising}
+use Rattle.model.specs.Problem.{Problem}
+use Rattle.model.specs.Run.{look}
+use Rattle.model.specs.Search as S
 use Rattle.domains.specs.Choice.{Branched}
+use Rattle.domains.specs.declared.Place.{Place}
+use Rattle.search.specs.Standing.{Looked, Standing, Holds, without-seconds}
 use Rattle.search.specs.declared.Outlook.the-variants.{Complete, Fork}
 use Rattle.search.specs.declared.Snapshot.{Snapshot}
-use Rattle.search.specs.Standing.{Looked, Standing, Holds, without-seconds}
-use Rattle.search.proofs.Checkpoints.{holds-next, holds-none, turned}
-use Rattle.search.proofs.Budget.{Rest, Comes, rest-start, rest-next, rest-finished, rest-spent}
+use Rattle.search.proofs.Budget.{Rest, Comes, rest-start, rest-next, rest-finished}
+use Rattle.search.proofs.Checkpoints.{holds-next, turned}
 use Rattle.search.proofs.Standing.{fork-rising, stand-next, stand-back, Turn, turn}
 
 -- some steps on from the path `start`

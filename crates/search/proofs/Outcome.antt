@@ -1,24 +1,21 @@
 -- The results of a call as values.
 use mathlib.Core.Bool.{Bool, true, false, _&&_}
 use mathlib.Core.List.{List}
-use mathlib.Core.Path.{_≡_, refl, sym, ap, _∙_, subst}
+use mathlib.Core.Path.{_≡_, refl}
 use Prim.Native.Nat.{ℕ, _≤_}
 use native.Mathlib.Omega.{arith}
-use lib.ListN.{length}
-use Rattle.model.specs.Problem.{Problem}
-use Rattle.model.specs.Branching.{Branch, plan}
-use Rattle.model.specs.Search as S
-use Rattle.model.specs.Calls as C
-use Rattle.model.specs.Run.{look, search}
 use Rattle.model.proofs.Below.{and-intro}
+use Rattle.model.specs.Branching.{Branch, plan}
+use Rattle.model.specs.Calls as C
+use Rattle.model.specs.Problem.{Problem}
+use Rattle.model.specs.Run.{look, search}
+use Rattle.model.specs.Search as S
+use Rattle.refusal.specs.Numbers.{number-of}
 use Rattle.refusal.specs.declared.Refusal.{Refusal}
 use Rattle.refusal.specs.declared.Refusal.the-variants.{EndsEarly, UnknownBit, WrittenDefault, BadCount, BadItem, NotRising, TrailingBytes, BadArgument, InvalidInstance, NotFollowing}
-use Rattle.refusal.specs.Numbers.{number-of}
 use Rattle.instance.specs.declared.Checkpoint.{Checkpoint}
 use Rattle.instance.specs.declared.Packing.{Packing}
-use Rattle.instance.specs.Values.{origin-packing}
-use Rattle.search.specs.declared.SearchResult.{SearchResult}
-use Rattle.search.specs.Checkpoints.{branches-of, value-of}
+use Rattle.search.specs.Checkpoints.{value-of}
 use Rattle.search.specs.Results.{packing-of, result-of, refused, followed, infeasible-after, spent-after, packed-after}
 use Rattle.search.specs.Standing.{Holds}
 use Rattle.search.proofs.Budget.{Comes, rest-start, rest-finished}

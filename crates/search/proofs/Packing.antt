@@ -1,26 +1,21 @@
 -- A packing as a value.
-use mathlib.Core.Bool.{true, false}
 use mathlib.Core.List.{List, [], _∷_, map}
 use mathlib.Core.Logic.{_⊎_, inl, inr}
-use mathlib.Core.Path.{_≡_, refl, sym, ap, ap₂, _∙_, subst}
-use Prim.Native.Nat.{ℕ, zero, suc, _+_, _-_, _≤_, _<_}
+use mathlib.Core.Path.{_≡_, refl, sym, ap, _∙_}
+use Prim.Native.Nat.{ℕ, zero, suc, _≤_, _<_}
 use native.Mathlib.Decide.{decLt}
 use native.Mathlib.Omega.{arith}
-use lib.Dec.{ltb}
 use lib.ListN.{length, getD}
 use lib.Seq.{ext-getD}
 use borrow.Author.Tests.{lt-ltb, le-ltb}
-use Rattle.model.specs.Problem.{Problem, Positions, Precedence, Feasible, EndsBefore, time}
-use Rattle.model.specs.Domains.{Domains}
-use Rattle.model.specs.Branching.{Branch, path-domains, starts, plan}
-use Rattle.model.specs.Order.{Proper}
 use Rattle.model.specs.Admits.{Sound}
-use Rattle.instance.specs.declared.Position.{Position}
-use Rattle.instance.specs.declared.Packing.{Packing}
+use Rattle.model.specs.Branching.{Branch, path-domains, starts, plan}
+use Rattle.model.specs.Domains.{Domains}
+use Rattle.model.specs.Problem.{Problem, Positions, Feasible, EndsBefore, time}
 use Rattle.instance.specs.Meaning.{start, positions-of}
 use Rattle.instance.specs.Values.{origin}
-use Rattle.domains.specs.Shape.{shape-problem}
-use Rattle.domains.specs.Starts.{Started}
+use Rattle.instance.specs.declared.Packing.{Packing}
+use Rattle.instance.specs.declared.Position.{Position}
 use Rattle.search.specs.Results.{position-of, packing-of}
 
 -- the ten entries of a packing

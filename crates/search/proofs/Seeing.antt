@@ -1,27 +1,26 @@
 -- What propagation and the branching place show of a path.
 use mathlib.Core.Bool.{Bool, true, false}
 use mathlib.Core.List.{List, []}
-use mathlib.Core.Path.{_≡_, refl, sym, ap, _∙_, subst}
+use mathlib.Core.Path.{_≡_, refl, sym, _∙_}
 use Prim.Native.Nat.{ℕ}
 use lib.ListN.{length}
-use Rattle.model.specs.Problem.{Precedence}
-use Rattle.model.specs.Domains.{Domains}
-use Rattle.model.specs.Propagate.{propagate}
-use Rattle.model.specs.Branching.{Branch, inconsistent, path-domains, plan}
-use Rattle.model.specs.Order.{WellFormed}
-use Rattle.model.specs.Admits.{Sound}
 use Rattle.model.proofs.Path.{path-at-rest}
 use Rattle.model.proofs.Search.{look-by, look-inconsistent, look-complete}
-use Rattle.domains.specs.declared.Place.{Place}
-use Rattle.domains.specs.declared.Branching.the-variants.{Packed, At}
+use Rattle.model.specs.Admits.{Sound}
+use Rattle.model.specs.Branching.{Branch, inconsistent, path-domains, plan}
+use Rattle.model.specs.Domains.{Domains}
+use Rattle.model.specs.Order.{WellFormed}
+use Rattle.model.specs.Problem.{Precedence}
+use Rattle.instance.specs.declared.Packing.{Packing}
 use Rattle.domains.specs.Choice.{Chosen}
 use Rattle.domains.specs.Propagated.{Propagated}
 use Rattle.domains.specs.Shape.{shape-problem, Given}
 use Rattle.domains.specs.Starts.{Startable, Started}
-use Rattle.instance.specs.declared.Packing.{Packing}
-use Rattle.search.specs.declared.Outlook.the-variants.{Conflict, Complete, Fork}
+use Rattle.domains.specs.declared.Branching.the-variants.{Packed, At}
+use Rattle.domains.specs.declared.Place.{Place}
 use Rattle.search.specs.Results.{packing-of}
 use Rattle.search.specs.Standing.{Ready, Looked, Seen}
+use Rattle.search.specs.declared.Outlook.the-variants.{Conflict, Complete, Fork}
 use Rattle.search.proofs.Packing.{plan-is}
 
 module _ (n : ℕ) (sizes capacity : List ℕ) {k j : Domains} {r : Bool}
@@ -43,18 +42,18 @@ module _ (n : ℕ) (sizes capacity : List ℕ) {k j : Domains} {r : Bool}
   seen-complete e χ = record {
     well-formed = seen-well-formed;
     looked = λ os path ρ.
-      let p = shape-problem n sizes capacity os in
-      let d = ends os path ρ e in
-      (look-by p path (verdict os path ρ ∙ e) (rw d at (χ p refl)), d);
+        let p = shape-problem n sizes capacity os in
+        let d = ends os path ρ e in
+        (look-by p path (verdict os path ρ ∙ e) (rw d at (χ p refl)), d);
   }
 
   pub seen-fork : {c : Place} → r ≡ false → Chosen j n (At c) → Seen n sizes capacity k j (Fork c)
   seen-fork {c} e χ = record {
     well-formed = seen-well-formed;
     looked = λ os path ρ.
-      let p = shape-problem n sizes capacity os in
-      let d = ends os path ρ e in
-      (look-by p path (verdict os path ρ ∙ e) (rw d at (χ .2 p refl)), d, rw d at (χ .0));
+        let p = shape-problem n sizes capacity os in
+        let d = ends os path ρ e in
+        (look-by p path (verdict os path ρ ∙ e) (rw d at (χ .2 p refl)), d, rw d at (χ .0));
   }
 
 -- domains that show a complete path are those of a packing

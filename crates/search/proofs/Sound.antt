@@ -2,29 +2,29 @@
 use mathlib.Core.Bool.{true, not, _&&_}
 use mathlib.Core.List.{List, [], _∷_, map, List·Memᴰ, List·Memᴰ·not-nil, List·Memᴰ·cases-cons}
 use mathlib.Core.Logic.{_⊎_, inl, inr}
-use mathlib.Core.Path.{_≡_, refl, sym, ap, _∙_, subst}
+use mathlib.Core.Path.{_≡_, sym, _∙_, subst}
 use Prim.Native.Nat.{ℕ, zero, suc, _≤_, _<_}
 use native.Mathlib.Omega.{arith}
 use lib.Dec.{leb, ltb, eqb}
-use lib.ListN.{length, getD, take, length-map}
+use lib.ListN.{length, getD, length-map}
 use lib.Seq.{getD-take, length-take-le}
 use borrow.Author.Tests.{leb-true, ltb-true, eqb-false, not-true}
-use Rattle.model.specs.Problem as M
-use Rattle.model.specs.Order.{Proper}
-use Rattle.model.specs.Admits.{Sound}
 use Rattle.model.proofs.Below.{and-both}
+use Rattle.model.specs.Admits.{Sound}
+use Rattle.model.specs.Order.{Proper}
+use Rattle.model.specs.Problem as M
+use Rattle.records.specs.Precedences.{names-items, all-stand}
+use Rattle.records.specs.Sizes.{positive, all-have-size, no-item}
 use Rattle.records.specs.declared.Item.{Item}
-use Rattle.records.specs.declared.Size.{Size}
 use Rattle.records.specs.declared.Precedence.{Precedence}
 use Rattle.records.specs.declared.Previous.{Previous}
 use Rattle.records.specs.declared.Previous.the-variants.{Nothing, Was}
-use Rattle.records.specs.Precedences.{names-items, all-stand}
-use Rattle.records.specs.Sizes.{positive, all-have-size, no-item}
-use Rattle.instance.specs.declared.Instance.{Instance}
-use Rattle.instance.specs.Valid.{valid, items-of, precedences-of}
+use Rattle.records.specs.declared.Size.{Size}
 use Rattle.instance.specs.Meaning.{measure, precedence-of, problem-of}
-use Rattle.domains.specs.declared.Shape.{Shape}
+use Rattle.instance.specs.Valid.{valid, items-of, precedences-of}
+use Rattle.instance.specs.declared.Instance.{Instance}
 use Rattle.domains.specs.Shape.{Laid, shape-problem}
+use Rattle.domains.specs.declared.Shape.{Shape}
 
 positive-so : (s : Size) → positive s ≡ true → (a : ℕ) → 1 ≤ measure a s
 unfolding positive

@@ -3,33 +3,32 @@ use mathlib.Core.Bool.{Bool, true, false, not, _&&_, true≢false}
 use mathlib.Core.List.{List, [], _∷_}
 use mathlib.Core.Logic.{_⊎_, inl, inr}
 use mathlib.Core.Path.{_≡_, refl, sym, ap, _∙_, subst}
-use Prim.Native.Nat.{ℕ, zero, suc, _+_, _-_, _≤_, _<_}
+use Prim.Native.Nat.{ℕ, zero, suc, _≤_, _<_}
 use native.Mathlib.Decide.{ℕ-discrete}
 use native.Mathlib.Omega.{arith}
 use lib.Dec.{eqb, eqb·suc-zero}
 use lib.ListN.{length, getD, set, length-set}
 use lib.Seq.{getD-set-same, getD-set-other}
-use Rattle.model.specs.Problem.{Problem}
-use Rattle.model.specs.Domains.{Domains, may-overlap}
-use Rattle.model.specs.Propagate.{Slot, propagate}
-use Rattle.model.specs.Branching.{Branch, first, second, inconsistent, packed, opening-domains, choice, branch-at, branched, path-domains}
-use Rattle.model.specs.Order.{WellFormed, Rising}
-use Rattle.model.specs.Admits.{Sound}
-use Rattle.model.specs.Search as S
-use Rattle.model.specs.Run.{look}
 use Rattle.model.proofs.Admits.{opening-well-formed}
 use Rattle.model.proofs.Path.{path-root, path-branch, path-fork}
-use Rattle.model.proofs.Search.{look-fork, limit-270}
 use Rattle.model.proofs.Run.{forking-so}
-use Rattle.model.proofs.Theorems.{fork-most}
-use Rattle.domains.specs.declared.Place.{Place}
+use Rattle.model.proofs.Search.{look-fork}
+use Rattle.model.specs.Admits.{Sound}
+use Rattle.model.specs.Branching.{Branch, first, second, opening-domains, choice, branch-at, branched, path-domains}
+use Rattle.model.specs.Domains.{Domains, may-overlap}
+use Rattle.model.specs.Order.{Rising}
+use Rattle.model.specs.Problem.{Problem}
+use Rattle.model.specs.Propagate.{Slot, propagate}
+use Rattle.model.specs.Run.{look}
+use Rattle.model.specs.Search as S
 use Rattle.domains.specs.Choice.{Branched, branch-of as side}
-use Rattle.search.specs.declared.Outlook.{Outlook}
-use Rattle.search.specs.declared.Outlook.the-variants.{Conflict, Complete, Fork}
-use Rattle.search.specs.declared.Replay.{Replay}
-use Rattle.search.specs.declared.Snapshot.{Snapshot}
+use Rattle.domains.specs.declared.Place.{Place}
 use Rattle.search.specs.Checkpoints.{branch-of, path-of}
 use Rattle.search.specs.Standing.{slot-of, Ready, Looked, Kept, Saved, Standing, Replayed, without-seconds}
+use Rattle.search.specs.declared.Outlook.{Outlook}
+use Rattle.search.specs.declared.Outlook.the-variants.{Fork}
+use Rattle.search.specs.declared.Replay.{Replay}
+use Rattle.search.specs.declared.Snapshot.{Snapshot}
 
 module _ (p : Problem) where
   -- the domains of a path, made ready for one branch more

@@ -1,18 +1,17 @@
 -- A list of calls in values: the terms of the claim (document 01, "The search").
-use mathlib.Core.Path.{_≡_}
 use mathlib.Core.List.{List}
 use Prim.Native.Nat.{ℕ}
-use Rattle.model.specs.Problem.{Problem}
 use Rattle.model.specs.Branching.{Branch, plan}
 use Rattle.model.specs.Calls as C
+use Rattle.model.specs.Problem.{Problem}
 use Rattle.refusal.specs.declared.Refusal.{Refusal}
-use Rattle.instance.specs.declared.Instance.{Instance}
 use Rattle.instance.specs.declared.Checkpoint.{Checkpoint}
+use Rattle.instance.specs.declared.Instance.{Instance}
 use Rattle.instance.specs.declared.Packing.{Packing}
+use Rattle.search.specs.Results.{packing-of, search-result}
 use Rattle.search.specs.declared.Answer.{Answer}
 use Rattle.search.specs.declared.Answer.the-variants.{Packed, Infeasible, BudgetSpent, Refused}
 use Rattle.search.specs.declared.SearchResult.{SearchResult}
-use Rattle.search.specs.Results.{packing-of, search-result}
 
 -- what a caller is told: "It answers placed with the plan, none, or spent", with the steps, or the refusal
 abbrev pub told : Answer → ℕ → Packing → C.Reply Refusal Packing

@@ -4,20 +4,20 @@ use mathlib.Core.List.{List, [], _∷_}
 use mathlib.Core.Path.{_≡_}
 use Prim.Native.Nat.{ℕ}
 use lib.ListN.{length, getD}
-use Rattle.model.specs.Problem.{Problem, Precedence}
-use Rattle.model.specs.Domains.{Domains}
-use Rattle.model.specs.Propagate.{Slot, propagate}
 use Rattle.model.specs.Branching.{Branch, first, second, choice, path-domains}
+use Rattle.model.specs.Domains.{Domains}
 use Rattle.model.specs.Order.{WellFormed}
-use Rattle.model.specs.Search as S
+use Rattle.model.specs.Problem.{Problem, Precedence}
+use Rattle.model.specs.Propagate.{Slot, propagate}
 use Rattle.model.specs.Run.{look}
-use Rattle.domains.specs.declared.Place.{Place}
+use Rattle.model.specs.Search as S
 use Rattle.domains.specs.Shape.{shape-problem}
+use Rattle.domains.specs.declared.Place.{Place}
+use Rattle.search.specs.Checkpoints.{branches-of}
 use Rattle.search.specs.declared.Outlook.{Outlook}
 use Rattle.search.specs.declared.Outlook.the-variants.{Conflict, Complete, Fork}
 use Rattle.search.specs.declared.Replay.{Replay}
 use Rattle.search.specs.declared.Snapshot.{Snapshot}
-use Rattle.search.specs.Checkpoints.{branches-of}
 
 abbrev pub slot-of : Place → Slot
 slot-of c = record { axis = c .axis; u = c .u; v = c .v }

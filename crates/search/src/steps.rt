@@ -11,15 +11,15 @@ ghost use Rattle.domains.specs.Shape.{Given};
 ghost use Rattle.search.specs.Checkpoints.{path-of};
 ghost use Rattle.search.specs.Results.{result-of};
 ghost use Rattle.search.specs.Standing.{Seen, Standing, Replayed, Holds};
-use crate::path;
-use crate::results;
 use crate::Outlook;
 use crate::Replay;
 use crate::SearchResult;
 use crate::Snapshot;
-use domains::branch;
+use crate::path;
+use crate::results;
 use domains::Branching;
 use domains::Place;
+use domains::branch;
 use instance::Instance;
 
 // Propagates, and tells what the domains show.
@@ -68,15 +68,33 @@ pub fn replay(instance: Instance, branches: [u8; 270], length: usize) -> Replay
                 branch::apply_branch(&mut k, place, branches[i] != 0);
                 i = i + 1;
             }
-            Outlook::Conflict => return Replay { follows: false, levels, domains: k },
-            Outlook::Complete => return Replay { follows: false, levels, domains: k },
+            Outlook::Conflict => return Replay {
+                follows: false,
+                levels,
+                domains: k,
+            },
+            Outlook::Complete => return Replay {
+                follows: false,
+                levels,
+                domains: k,
+            },
         }
     }
-    Replay { follows: true, levels, domains: k }
+    Replay {
+        follows: true,
+        levels,
+        domains: k,
+    }
 }
 
 // Steps from an open checkpoint, while the budget lasts.
-pub fn run(instance: Instance, start: Replay, given: [u8; 270], at: usize, budget: u32) -> SearchResult
+pub fn run(
+    instance: Instance,
+    start: Replay,
+    given: [u8; 270],
+    at: usize,
+    budget: u32,
+) -> SearchResult
     requires { ⌜ valid instance ≡ true ⌝ }
     requires { ⌜ Standing (problem-of instance) (start .levels) (start .domains) (path-of at given) × Holds (path-of at given) given at ⌝ }
     ensures { λ r. ⌜ r ≡ result-of (problem-of instance) (search (problem-of instance) budget (S.open-at (path-of at given))) ⌝ }

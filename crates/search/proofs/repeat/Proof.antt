@@ -1,36 +1,27 @@
+use mathlib.Core.List.{List, map}
+use mathlib.Core.Path.{_≡_, sym, _∙_}
+use lib.ListN as L
+use borrow.Author.Needs.{needs}
+use borrow.Author.Tests.{not-true, not-false}
+use Rattle.model.proofs.Run.{forking-so}
+use Rattle.model.specs.Admits.{Sound}
+use Rattle.model.specs.Branching.{Branch}
+use Rattle.model.specs.Domains.{Domains}
+use Rattle.model.specs.Order.{WellFormed}
+use Rattle.model.specs.Problem.{Problem}
+use Rattle.model.specs.Run.{look}
+use Rattle.model.specs.Search as S
+use Rattle.instance.specs.Meaning.{precedence-of, problem-of}
+use Rattle.instance.specs.Valid.{precedences-of}
+use Rattle.domains.specs.Shape.{shape-problem, Given}
+use Rattle.search.specs.Checkpoints.{path-of}
+use Rattle.search.specs.Standing.{Standing, Looked}
+use Rattle.search.proofs.Checkpoints.{path-length}
 use Rattle.search.proofs.Outcome.{comes-packed, comes-again, follows-result, refused-result, complete-follows, incomplete, unforked}
 use Rattle.search.proofs.Seeing.{startable, started-plan}
 use Rattle.search.proofs.Sound.{length-mapped, laid-sound}
-use Rattle.search.proofs.Checkpoints.{path-length}
-use Rattle.search.specs.Standing.{Standing, Looked}
-use Rattle.search.specs.Checkpoints.{path-of}
-use Rattle.domains.specs.Shape.{shape-problem, Given}
-use Rattle.instance.specs.Valid.{precedences-of}
-use Rattle.instance.specs.Meaning.{precedence-of, problem-of}
-use Rattle.model.specs.Run.{look}
-use Rattle.model.proofs.Run.{forking-so}
-use Rattle.model.specs.Search as S
-use Rattle.model.specs.Admits.{Sound}
-use Rattle.model.specs.Order.{WellFormed}
-use Rattle.model.specs.Branching.{Branch}
-use Rattle.model.specs.Domains.{Domains}
-use Rattle.model.specs.Problem.{Problem}
-use borrow.Author.Tests.{not-true, not-false}
-use lib.ListN as L
-use mathlib.Core.Path.{_≡_, refl, sym, ap, _∙_, subst}
-use mathlib.Core.List.{List, map}
-use borrow.Author.Needs.{needs}
 use Rattle.search.proofs.repeat.Statement.{statement}
 use Rattle.search.proofs.repeat.Tie as tie
-use Rattle.search.proofs.repeat.Reads as reads
-use Rattle.search.proofs.repeat.Lts as lts
-use Rattle.domains.proofs.layout.shape_of.Reads as shape-of-reads
-use Rattle.domains.proofs.starts.starts_of.Reads as starts-of-reads
-use Rattle.search.proofs.path.path_branches.Reads as path-branches-reads
-use Rattle.search.proofs.results.packed.Reads as packed-reads
-use Rattle.search.proofs.results.refused.Reads as refused-reads
-use Rattle.search.proofs.steps.look.Reads as look-reads
-use Rattle.search.proofs.steps.replay.Reads as replay-reads
 
 long : (c : tie.Start) → L.length (c .args .instance .items) ≡ 10
 long c = search length-mapped
@@ -58,67 +49,53 @@ here c = rw (c .shape-of .ensures .means) at (c .before .before .before .replay 
 seen : (c : tie.After-look) → Looked (problem (c .before .before .before .before .before .before .before)) (path (c .before .before .before .before .before .before .before .before .before .before .before .before)) (c .look .last .0) (c .look .result)
 seen c = c .look .ensures .looked _ _ (here (c .before .before .before .before .before .before .before) .ready)
 
--- src/lib.rt:110:9
 replay-requires : tie.Need-replay-requires
 replay-requires c κs = search needs
 
--- src/lib.rt:112:9
 refused-requires : tie.Need-refused-requires
 refused-requires c κs = search needs
 
--- src/lib.rt:112:9
 returns : tie.Need-returns
-returns c = 
+returns c =
     let a = c .before .before .before .before .before .args in
     let p = problem-of (a .instance) in
     c .refused .ensures
     ∙ refused-result p (a .budget) (S.packed-at (path (c .before .before .before .before .before))) (a .checkpoint) (unforked p (path (c .before .before .before .before .before)) (sym (c .before .before .before .replay .ensures .verdict) ∙ not-true _ (c .before .if1 .taken)))
 
--- src/lib.rt:114:9
 shape-of-requires : tie.Need-shape-of-requires
 shape-of-requires c κs = search needs
 
--- src/lib.rt:119:11
 look-requires : tie.Need-look-requires
 look-requires c κs = arrays (c .before .before .before .before .before .before) (here (c .before .before .before .before .before .before) .ready .well-formed)
 
--- src/lib.rt:121:17
 enum-told : tie.Need-enum-told
 enum-told c = search needs
 
--- src/lib.rt:121:17
 path-branches-requires : tie.Need-path-branches-requires
 path-branches-requires c κs = search needs
 
--- src/lib.rt:122:17
 starts-of-requires : tie.Need-starts-of-requires
-starts-of-requires c κs = 
+starts-of-requires c κs =
     let l = rw (c .before .before .before .before .enum-told .given .1) at (seen (c .before .before .before .before .before .before)) in
     startable _ _ _ _ (path (c .before .before .before .before .before .before .before .before .before .before .before .before .before .before .before .before .before .before)) (sound (c .before .before .before .before .before .before .before .before .before .before .before .before .before)) (arrays (c .before .before .before .before .before .before .before .before .before .before .before .before .before) (c .before .before .before .before .before .before .look .ensures .well-formed)) l
 
--- src/lib.rt:123:13
 packed-requires : tie.Need-packed-requires
 packed-requires c κs = search needs
 
--- src/lib.rt:125:47
 enum-told-2 : tie.Need-enum-told-2
 enum-told-2 c = search needs
 
--- src/lib.rt:125:30
 refused-requires-2 : tie.Need-refused-requires-2
 refused-requires-2 c κs = search needs
 
--- src/lib.rt:126:46
 enum-told-3 : tie.Need-enum-told-3
 enum-told-3 c = search needs
 
--- src/lib.rt:126:29
 refused-requires-3 : tie.Need-refused-requires-3
 refused-requires-3 c κs = search needs
 
--- src/lib.rt:103:1
 returns-2 : tie.Need-returns-2
-returns-2 c = 
+returns-2 c =
     let p = problem (c .before .before .before .before .before .before .before .before .before .before .before .before .before .before .before) in
     let l = rw (c .before .before .before .before .before .before .enum-told .given .1) at (seen (c .before .before .before .before .before .before .before .before)) in
     let q : L.length (c .before .starts-of .result .positions) ≡ 10 = search length-mapped in
@@ -129,18 +106,16 @@ returns-2 c =
     ∙ comes-packed p (c .before .before .before .before .before .before .before .before .before .before .before .before .before .before .before .before .before .before .before .before .args .budget) κ (record { many = sym (path-length _ _); values = c .before .before .before .before .before .path-branches .ensures }) (started-plan _ _ _ _ (path (c .before .before .before .before .before .before .before .before .before .before .before .before .before .before .before .before .before .before .before .before)) l (c .before .starts-of .ensures) q) (comes-again p (c .before .before .before .before .before .before .before .before .before .before .before .before .before .before .before .before .before .before .before .before .args .budget) κ tt)
     ∙ follows-result p (c .before .before .before .before .before .before .before .before .before .before .before .before .before .before .before .before .before .before .before .before .args .budget) κ _ f)
 
--- src/lib.rt:103:1
 returns-3 : tie.Need-returns-3
-returns-3 c = 
+returns-3 c =
     let a = c .before .before .before .before .before .before .before .before .before .before .before .before .before .before .before .args in
     let p = problem (c .before .before .before .before .before .before .before .before .before .before) in
     let l = rw (c .before .enum-told2 .given .1) at (seen (c .before .before .before)) in
     rw (c .before .before .before .before .before .before .before .before .before .before .shape-of .ensures .means)
     (c .refused2 .ensures ∙ refused-result p (a .budget) (S.packed-at (path (c .before .before .before .before .before .before .before .before .before .before .before .before .before .before .before))) (a .checkpoint) (incomplete p (path (c .before .before .before .before .before .before .before .before .before .before .before .before .before .before .before)) (rw l)))
 
--- src/lib.rt:103:1
 returns-4 : tie.Need-returns-4
-returns-4 c = 
+returns-4 c =
     let a = c .before .before .before .before .before .before .before .before .before .before .before .before .before .before .before .args in
     let p = problem (c .before .before .before .before .before .before .before .before .before .before) in
     let l = rw (c .before .enum-told3 .given .1) at (seen (c .before .before .before)) in

@@ -1,49 +1,37 @@
-use Rattle.search.specs.Checkpoints.{path-of}
-use Rattle.instance.specs.Meaning.{problem-of}
-use Rattle.model.specs.Search as S
-use Rattle.search.proofs.Outcome.{follows-result, refused-result}
-use Rattle.search.proofs.Checkpoints.{path-length, path-again}
-use borrow.Author.Tests.{not-true, not-false}
-use mathlib.Core.Path.{_≡_, refl, sym, ap, _∙_, subst}
+use mathlib.Core.Path.{refl, sym, _∙_}
 use borrow.Author.Needs.{needs}
+use borrow.Author.Tests.{not-true, not-false}
+use Rattle.model.specs.Search as S
+use Rattle.instance.specs.Meaning.{problem-of}
+use Rattle.search.specs.Checkpoints.{path-of}
+use Rattle.search.proofs.Checkpoints.{path-length, path-again}
+use Rattle.search.proofs.Outcome.{follows-result, refused-result}
 use Rattle.search.proofs.resume.Statement.{statement}
 use Rattle.search.proofs.resume.Tie as tie
-use Rattle.search.proofs.resume.Reads as reads
-use Rattle.search.proofs.resume.Lts as lts
-use Rattle.search.proofs.path.path_branches.Reads as path-branches-reads
-use Rattle.search.proofs.results.refused.Reads as refused-reads
-use Rattle.search.proofs.steps.replay.Reads as replay-reads
-use Rattle.search.proofs.steps.run.Reads as run-reads
 
 abbrev start : tie.Start → S.Checkpoint
 start c = S.open-at (path-of (c .args .checkpoint .length) (c .args .checkpoint .branches))
 
--- src/lib.rt:94:9
 replay-requires : tie.Need-replay-requires
 replay-requires c κs = search needs
 
--- src/lib.rt:96:9
 refused-requires : tie.Need-refused-requires
 refused-requires c κs = search needs
 
--- src/lib.rt:96:9
 returns : tie.Need-returns
-returns c = 
+returns c =
     let a = c .before .before .before .before .before .args in
     c .refused .ensures
     ∙ refused-result (problem-of (a .instance)) (a .budget) (start (c .before .before .before .before .before)) (a .checkpoint) (sym (c .before .before .before .replay .ensures .verdict) ∙ not-true _ (c .before .if1 .taken))
 
--- src/lib.rt:98:9
 path-branches-requires : tie.Need-path-branches-requires
 path-branches-requires c κs = search needs
 
--- src/lib.rt:99:5
 run-requires : tie.Need-run-requires
-run-requires c κs = 
+run-requires c κs =
     let k = c .before .before .before .before .before .args .checkpoint in
     let f = not-false _ (c .before .if1 .left) in
-    let e = path-again (k .length) (k .branches) (c .before .before .before .before .before .pre .1 .within) in
-    (
+    let e = path-again (k .length) (k .branches) (c .before .before .before .before .before .pre .1 .within) in (
       c .before .before .before .before .before .pre .0,
       (
         rw (c .path-branches .ensures, e) (c .before .before .before .replay .ensures .stands f),
@@ -51,9 +39,8 @@ run-requires c κs =
       ),
     )
 
--- src/lib.rt:87:1
 returns-2 : tie.Need-returns-2
-returns-2 c = 
+returns-2 c =
     let a = c .before .before .before .before .before .before .args in
     let k = c .before .before .before .before .before .before .args .checkpoint in
     let f = not-false _ (c .before .before .if1 .left) in

@@ -1,94 +1,71 @@
-use Rattle.search.proofs.Outcome.{comes-infeasible, comes-again}
-use Rattle.search.proofs.Checkpoints.{checkpoint-as, well-formed-bits}
-use Rattle.search.specs.Results.{search-result}
-use Rattle.instance.specs.Meaning.{problem-of}
-use Rattle.model.specs.Search as S
-use borrow.Author.Tests.{not-true, not-false}
-use mathlib.Core.Path.{_≡_, refl, sym, ap, _∙_, subst}
+use mathlib.Core.Path.{sym, _∙_}
 use borrow.Author.Needs.{needs}
+use borrow.Author.Tests.{not-true, not-false}
+use Rattle.model.specs.Search as S
+use Rattle.instance.specs.Meaning.{problem-of}
+use Rattle.search.specs.Results.{search-result}
+use Rattle.search.proofs.Checkpoints.{checkpoint-as, well-formed-bits}
+use Rattle.search.proofs.Outcome.{comes-infeasible, comes-again}
 use Rattle.search.proofs.search.Statement.{statement}
 use Rattle.search.proofs.search.Tie as tie
-use Rattle.search.proofs.search.Reads as reads
-use Rattle.search.proofs.search.Lts as lts
-use Rattle.instance.proofs.Instance.is_valid.Reads as is-valid-reads
-use Rattle.search.proofs.path.is_well_formed.Reads as is-well-formed-reads
-use Rattle.search.proofs.repeat.Reads as repeat-reads
-use Rattle.search.proofs.results.infeasible.Reads as infeasible-reads
-use Rattle.search.proofs.results.refused.Reads as refused-reads
-use Rattle.search.proofs.resume.Reads as resume-reads
 
--- src/lib.rt:72:9
 is-valid-requires : tie.Need-is-valid-requires
 is-valid-requires c κs = search needs
 
--- src/lib.rt:73:9
 refused-requires : tie.Need-refused-requires
 refused-requires c κs = search needs
 
--- src/lib.rt:73:9
 returns : tie.Need-returns
 unfolding search-result
 returns c = rw (← (c .before .before .is-valid .ensures), not-true (c .before .before .is-valid .result) (c .before .if1 .taken)) (c .refused .ensures)
 
--- src/lib.rt:75:9
 is-well-formed-requires : tie.Need-is-well-formed-requires
 is-well-formed-requires c κs = search needs
 
--- src/lib.rt:76:9
 refused-requires-2 : tie.Need-refused-requires-2
 refused-requires-2 c κs = search needs
 
--- src/lib.rt:76:9
 returns-2 : tie.Need-returns-2
 unfolding search-result
-returns-2 c = 
+returns-2 c =
     rw (← (c .before .before .before .before .is-valid .ensures), not-false (c .before .before .before .before .is-valid .result) (c .before .before .before .if1 .left), ← (c .before .before .is-well-formed .ensures), not-true (c .before .before .is-well-formed .result) (c .before .if2 .taken))
     (c .refused2 .ensures)
 
--- src/lib.rt:80:25
 enum-told : tie.Need-enum-told
 enum-told c = search needs
 
--- src/lib.rt:80:25
 resume-requires : tie.Need-resume-requires
-resume-requires c κs = 
+resume-requires c κs =
     (sym (c .before .before .before .before .before .is-valid .ensures) ∙ not-false _ (c .before .before .before .before .if1 .left), well-formed-bits _ (sym (c .before .before .before .is-well-formed .ensures) ∙ not-false _ (c .before .before .if2 .left)))
 
--- src/lib.rt:81:31
 enum-told-2 : tie.Need-enum-told-2
 enum-told-2 c = search needs
 
--- src/lib.rt:81:31
 infeasible-requires : tie.Need-infeasible-requires
 infeasible-requires c κs = search needs
 
--- src/lib.rt:82:27
 enum-told-3 : tie.Need-enum-told-3
 enum-told-3 c = search needs
 
--- src/lib.rt:82:27
 repeat-requires : tie.Need-repeat-requires
-repeat-requires c κs = 
+repeat-requires c κs =
     (sym (c .before .before .before .before .before .is-valid .ensures) ∙ not-false _ (c .before .before .before .before .if1 .left), well-formed-bits _ (sym (c .before .before .before .is-well-formed .ensures) ∙ not-false _ (c .before .before .if2 .left)))
 
--- src/lib.rt:69:1
 returns-3 : tie.Need-returns-3
 unfolding search-result
-returns-3 c = 
+returns-3 c =
     rw (← (c .before .before .before .before .before .before .is-valid .ensures), not-false (c .before .before .before .before .before .before .is-valid .result) (c .before .before .before .before .before .if1 .left), ← (c .before .before .before .before .is-well-formed .ensures), not-false (c .before .before .before .before .is-well-formed .result) (c .before .before .before .if2 .left), checkpoint-as (c .before .before .before .before .before .before .before .args .checkpoint) (c .before .enum-told .given .1))
     (c .resume .ensures)
 
--- src/lib.rt:69:1
 returns-4 : tie.Need-returns-4
 unfolding search-result
-returns-4 c = 
+returns-4 c =
     rw (← (c .before .before .before .before .before .before .is-valid .ensures), not-false (c .before .before .before .before .before .before .is-valid .result) (c .before .before .before .before .before .if1 .left), ← (c .before .before .before .before .is-well-formed .ensures), not-false (c .before .before .before .before .is-well-formed .result) (c .before .before .before .if2 .left), checkpoint-as (c .before .before .before .before .before .before .before .args .checkpoint) (c .before .enum-told2 .given .1))
     (c .infeasible .ensures ∙ comes-infeasible (problem-of (c .before .before .before .before .before .before .before .args .instance)) (c .before .before .before .before .before .before .before .args .budget) S.infeasible (comes-again (problem-of (c .before .before .before .before .before .before .before .args .instance)) (c .before .before .before .before .before .before .before .args .budget) S.infeasible tt))
 
--- src/lib.rt:69:1
 returns-5 : tie.Need-returns-5
 unfolding search-result
-returns-5 c = 
+returns-5 c =
     rw (← (c .before .before .before .before .before .before .is-valid .ensures), not-false (c .before .before .before .before .before .before .is-valid .result) (c .before .before .before .before .before .if1 .left), ← (c .before .before .before .before .is-well-formed .ensures), not-false (c .before .before .before .before .is-well-formed .result) (c .before .before .before .if2 .left), checkpoint-as (c .before .before .before .before .before .before .before .args .checkpoint) (c .before .enum-told3 .given .1))
     (c .repeat .ensures)
 

@@ -1,13 +1,10 @@
-use mathlib.Core.Bool.{true, false}
-use mathlib.Core.Path.{_≡_, refl, sym, ap, _∙_}
-use Prim.Native.Nat.{ℕ, suc, _+_, _-_, _≤_, _<_}
+use mathlib.Core.Path.{_≡_, refl, sym, _∙_}
+use Prim.Native.Nat.{_≤_}
 use native.Mathlib.Omega.{arith}
 use Rattle.search.specs.Checkpoints.{all-branches}
 use Rattle.search.proofs.Checkpoints.{branches-fail, branches-pass}
 use Rattle.search.proofs.path.all_branches.Statement.{statement}
 use Rattle.search.proofs.path.all_branches.Tie as tie
-use Rattle.search.proofs.path.all_branches.Reads as reads
-use Rattle.search.proofs.path.all_branches.Lts as lts
 
 abbrev Inv-loop : tie.InvT-loop
 Inv-loop n branches i₀ i = (i ≤ n) × (all-branches n branches ≡ all-branches i branches)
@@ -15,35 +12,27 @@ Inv-loop n branches i₀ i = (i ≤ n) × (all-branches n branches ≡ all-branc
 abbrev μ-loop : tie.MeasureT-loop
 μ-loop n branches i₀ i = i
 
--- src/path.rt:46:5
 loop-holds : tie.Need-loop-holds Inv-loop μ-loop
 loop-holds c = (omega arith, refl)
 
--- src/path.rt:47:25
 sub-if1 : tie.Need-sub-if1 Inv-loop μ-loop
 sub-if1 c = omega arith
 
--- src/path.rt:47:16
 array-read-if1 : tie.Need-array-read-if1 Inv-loop μ-loop
 array-read-if1 c = omega arith
 
--- src/path.rt:48:13
 returns : tie.Need-returns Inv-loop μ-loop
 returns c = sym (c .before .before .loop .inv .1 ∙ branches-fail (c .before .before .loop .i) (c .before .before .before .args .t1) (omega arith) (c .if1 .taken))
 
--- src/path.rt:50:13
 sub-i : tie.Need-sub-i Inv-loop μ-loop
 sub-i c = omega arith
 
--- src/path.rt:46:5
 loop-less : tie.Need-loop-less Inv-loop μ-loop
 loop-less c = omega arith
 
--- src/path.rt:46:5
 loop-again : tie.Need-loop-again Inv-loop μ-loop
 loop-again c = (omega arith, c .before .before .loop .inv .1 ∙ branches-pass (c .before .before .loop .i) (c .before .before .before .args .t1) (omega arith) (c .if1 .left))
 
--- src/path.rt:41:1
 returns-2 : tie.Need-returns-2 Inv-loop μ-loop
 unfolding all-branches
 returns-2 c = let e : c .before .loop .i ≡ 0 = omega arith in sym (c .before .loop .inv .1 ∙ rw e)

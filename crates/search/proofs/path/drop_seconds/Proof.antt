@@ -1,19 +1,17 @@
-use mathlib.Core.List.{List, [], _∷_}
-use mathlib.Core.Path.{_≡_, refl, sym, ap, _∙_}
-use Prim.Native.Nat.{ℕ, suc, _+_, _-_, _≤_, _<_}
+use mathlib.Core.List.{List}
+use mathlib.Core.Path.{_≡_, refl, _∙_}
+use Prim.Native.Nat.{_≤_}
 use native.Mathlib.Omega.{arith}
-use lib.ListN as L
 use lib.ListN.{length-set}
+use lib.ListN as L
 use Rattle.model.specs.Branching.{Branch}
 use Rattle.search.specs.Standing.{Holds, without-seconds}
 use Rattle.search.proofs.Checkpoints.{first-stays, second-dropped, holds-none}
 use Rattle.search.proofs.path.drop_seconds.Statement.{statement}
 use Rattle.search.proofs.path.drop_seconds.Tie as tie
-use Rattle.search.proofs.path.drop_seconds.Reads as reads
-use Rattle.search.proofs.path.drop_seconds.Lts as lts
 
 abbrev Inv-loop : tie.InvT-loop
-Inv-loop branches₀ length left₀ branches left = 
+Inv-loop branches₀ length left₀ branches left =
     (left ≤ length)
     × (L.length branches ≡ 270)
     × ((start : List Branch) → Holds start branches₀ length
@@ -22,19 +20,15 @@ Inv-loop branches₀ length left₀ branches left =
 abbrev μ-loop : tie.MeasureT-loop
 μ-loop branches₀ length left₀ branches left = left
 
--- src/path.rt:75:5
 loop-holds : tie.Need-loop-holds Inv-loop μ-loop
 loop-holds c = (omega arith, c .pre .0, (λ start h. (start, h, refl)))
 
--- src/path.rt:76:21
 sub-if1 : tie.Need-sub-if1 Inv-loop μ-loop
 sub-if1 c = omega arith
 
--- src/path.rt:76:12
 element-copy-out-if1 : tie.Need-element-copy-out-if1 Inv-loop μ-loop
 element-copy-out-if1 c = omega arith
 
--- src/path.rt:77:13
 returns : tie.Need-returns Inv-loop μ-loop
 returns c = λ start h.
     let l = c .before .before .before .loop in
@@ -42,35 +36,29 @@ returns c = λ start h.
     let s = first-stays path g (omega arith) (omega (arith, c .before .before .before .before .pre .1)) (c .if1 .taken) in
     rw (e, s) g
 
--- src/path.rt:79:18
 sub-branches : tie.Need-sub-branches Inv-loop μ-loop
 sub-branches c = omega arith
 
--- src/path.rt:79:9
 element-write-branches : tie.Need-element-write-branches Inv-loop μ-loop
 element-write-branches c = omega arith
 
--- src/path.rt:80:16
 sub-left : tie.Need-sub-left Inv-loop μ-loop
 sub-left c = omega arith
 
--- src/path.rt:75:5
 loop-less : tie.Need-loop-less Inv-loop μ-loop
 loop-less c = omega arith
 
--- src/path.rt:75:5
 loop-again : tie.Need-loop-again Inv-loop μ-loop
 loop-again c = (
-    omega arith,
-    simp length-set (c .before .before .before .loop .inv .1),
-    λ start h.
-    let l = c .before .before .before .loop in
-    let (path, g, e) = l .inv .2 start h in
-    let (rest, f, d) = second-dropped path g (omega arith) (omega (arith, c .before .before .before .before .pre .1)) (c .if1 .left) in
-    (rest, f, e ∙ d)
-  )
+  omega arith,
+  simp length-set (c .before .before .before .loop .inv .1),
+  λ start h.
+      let l = c .before .before .before .loop in
+      let (path, g, e) = l .inv .2 start h in
+      let (rest, f, d) = second-dropped path g (omega arith) (omega (arith, c .before .before .before .before .pre .1)) (c .if1 .left) in
+      (rest, f, e ∙ d),
+)
 
--- src/path.rt:70:1
 returns-2 : tie.Need-returns-2 Inv-loop μ-loop
 returns-2 c = λ start h.
     let l = c .before .loop in

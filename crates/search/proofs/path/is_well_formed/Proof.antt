@@ -1,32 +1,23 @@
-use Rattle.search.specs.Checkpoints.{well-formed}
-use borrow.Author.Tests.{le-leb, lt-leb, not-true, not-false}
 use borrow.Author.Needs.{needs}
+use borrow.Author.Tests.{le-leb, lt-leb, not-true, not-false}
+use Rattle.search.specs.Checkpoints.{well-formed}
 use Rattle.search.proofs.path.is_well_formed.Statement.{statement}
 use Rattle.search.proofs.path.is_well_formed.Tie as tie
-use Rattle.search.proofs.path.is_well_formed.Reads as reads
-use Rattle.search.proofs.path.is_well_formed.Lts as lts
-use Rattle.search.proofs.path.all_branches.Reads as all-branches-reads
-use Rattle.search.proofs.path.length_allowed.Reads as length-allowed-reads
 
--- src/path.rt:31:9
 returns : tie.Need-returns
 unfolding well-formed
 returns c = simp (lt-leb _ _ (c .if1 .taken))
 
--- src/path.rt:33:9
 length-allowed-requires : tie.Need-length-allowed-requires
 length-allowed-requires c κs = search needs
 
--- src/path.rt:34:9
 returns-2 : tie.Need-returns-2
 unfolding well-formed
 returns-2 c = simp (le-leb _ _ (c .before .before .if1 .left), ← (c .before .length-allowed .ensures), not-true (c .before .length-allowed .result) (c .if2 .taken))
 
--- src/path.rt:37:5
 all-branches-requires : tie.Need-all-branches-requires
 all-branches-requires c κs = search needs
 
--- src/path.rt:25:1
 returns-3 : tie.Need-returns-3
 unfolding well-formed
 returns-3 c = simp (le-leb _ _ (c .before .before .before .before .if1 .left), ← (c .before .before .before .length-allowed .ensures), not-false (c .before .before .before .length-allowed .result) (c .before .before .if2 .left)) (c .all-branches .ensures)

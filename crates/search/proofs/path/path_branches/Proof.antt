@@ -1,14 +1,12 @@
-use lib.ListN.{getD}
-use mathlib.Core.Path.{_≡_, refl, sym, ap, _∙_}
-use Prim.Native.Nat.{ℕ, suc, _+_, _-_, _≤_, _<_}
+use mathlib.Core.Path.{_≡_}
+use Prim.Native.Nat.{_-_, _≤_}
 use native.Mathlib.Omega.{arith}
+use lib.ListN.{getD}
 use Rattle.search.specs.Checkpoints.{branch-of, path-of, branches-of}
 use Rattle.search.specs.Standing.{Holds}
 use Rattle.search.proofs.Checkpoints.{holds-root, holds-next, bits-next, path-next}
 use Rattle.search.proofs.path.path_branches.Statement.{statement}
 use Rattle.search.proofs.path.path_branches.Tie as tie
-use Rattle.search.proofs.path.path_branches.Reads as reads
-use Rattle.search.proofs.path.path_branches.Lts as lts
 
 abbrev Inv-loop : tie.InvT-loop
 Inv-loop length given branches₀ i₀ branches i = (i ≤ length) × Holds (path-of i given) branches i
@@ -16,36 +14,29 @@ Inv-loop length given branches₀ i₀ branches i = (i ≤ length) × Holds (pat
 abbrev μ-loop : tie.MeasureT-loop
 μ-loop length given branches₀ i₀ branches i = length - i
 
--- src/path.rt:62:5
 loop-holds : tie.Need-loop-holds Inv-loop μ-loop
 unfolding branches-of
 loop-holds c = (omega arith, holds-root)
 
--- src/path.rt:63:23
 array-read-branches : tie.Need-array-read-branches Inv-loop μ-loop
 array-read-branches c = omega arith
 
--- src/path.rt:63:9
 array-write-branches : tie.Need-array-write-branches Inv-loop μ-loop
 array-write-branches c = omega (arith, c .before .before .pre .within)
 
--- src/path.rt:64:13
 add-i : tie.Need-add-i Inv-loop μ-loop
 add-i c = omega arith
 
--- src/path.rt:62:5
 loop-less : tie.Need-loop-less Inv-loop μ-loop
 loop-less c = omega arith
 
--- src/path.rt:62:5
 loop-again : tie.Need-loop-again Inv-loop μ-loop
-loop-again c = 
+loop-again c =
     let l = c .before .loop in
     let bs = c .before .before .args .t1 in
     let h = holds-next (branch-of (getD bs (l .i) 0)) (l .inv .1) in
     (omega arith, rw path-next (rw (bits-next (l .i) (c .before .before .pre) (omega arith)) at h))
 
--- src/path.rt:56:1
 returns : tie.Need-returns Inv-loop μ-loop
 returns c = let e : c .before .loop .i ≡ c .before .before .args .length = omega arith in rw (← e) (c .before .loop .inv .1 .values)
 

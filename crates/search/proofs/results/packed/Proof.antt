@@ -2,10 +2,7 @@ use mathlib.Core.Path.{refl}
 use Rattle.search.specs.Results.{packed-after}
 use Rattle.search.proofs.results.packed.Statement.{statement}
 use Rattle.search.proofs.results.packed.Tie as tie
-use Rattle.search.proofs.results.packed.Reads as reads
-use Rattle.search.proofs.results.packed.Lts as lts
 
--- src/results.rt:63:1
 returns : tie.Need-returns
 unfolding packed-after
 returns c = refl

@@ -1,39 +1,28 @@
-use Rattle.search.proofs.Seeing.{seen-well-formed, seen-conflict, seen-complete, seen-fork}
 use borrow.Author.Needs.{needs}
+use Rattle.search.proofs.Seeing.{seen-well-formed, seen-conflict, seen-complete, seen-fork}
 use Rattle.search.proofs.steps.look.Statement.{statement}
 use Rattle.search.proofs.steps.look.Tie as tie
-use Rattle.search.proofs.steps.look.Reads as reads
-use Rattle.search.proofs.steps.look.Lts as lts
-use Rattle.domains.proofs.branch.branching.Reads as branching-reads
-use Rattle.domains.proofs.propagation.propagate.Reads as propagate-reads
 
--- src/steps.rt:30:8
 propagate-requires : tie.Need-propagate-requires
 propagate-requires c κs = search needs
 
--- src/steps.rt:31:9
 returns : tie.Need-returns
 returns c = seen-conflict _ _ _ (c .before .propagate .ensures) (c .if1 .taken)
 
--- src/steps.rt:33:11
 branching-requires : tie.Need-branching-requires
-branching-requires c κs = 
+branching-requires c κs =
     let a = c .before .before .before .before .args in
     (seen-well-formed (a .n) (a .sizes .now) (a .capacity .now) (c .before .before .propagate .ensures), c .before .before .before .before .pre .limited)
 
--- src/steps.rt:34:30
 enum-told : tie.Need-enum-told
 enum-told c = search needs
 
--- src/steps.rt:35:23
 enum-known-place : tie.Need-enum-known-place
 enum-known-place c = search needs
 
--- src/steps.rt:26:1
 returns-2 : tie.Need-returns-2
 returns-2 c = seen-complete _ _ _ (c .before .before .before .before .before .propagate .ensures) (c .before .before .before .before .if1 .left) (rw (c .enum-told .given .1) at (c .before .before .branching .ensures))
 
--- src/steps.rt:26:1
 returns-3 : tie.Need-returns-3
 returns-3 c = seen-fork _ _ _ (c .before .before .before .before .before .before .propagate .ensures) (c .before .before .before .before .before .if1 .left) (rw (c .before .place .given .1) at (c .before .before .before .branching .ensures))
 

@@ -1,41 +1,28 @@
-use Rattle.search.proofs.Standing.{replayed-of, side-of}
-use Rattle.search.proofs.Checkpoints.{path-length, path-next}
-use lib.ListN.{getD}
-use Rattle.search.proofs.Standing.{fork-rising, replayed, replayed-not}
-use Rattle.search.proofs.Sound.{laid-sound}
-use Rattle.instance.specs.Valid.{precedences-of}
-use Rattle.instance.specs.Meaning.{precedence-of, problem-of}
-use Rattle.search.specs.Standing.{Looked, Replayed}
-use Rattle.search.specs.declared.Outlook.the-variants.{Conflict, Complete, Fork}
-use Rattle.search.proofs.Sound.{length-mapped}
-use Rattle.search.proofs.Standing.{stand-root, stand-next}
-use Rattle.search.specs.Standing.{Standing}
-use Rattle.search.specs.Checkpoints.{path-of}
-use Rattle.model.specs.Domains.{Domains}
-use Rattle.domains.specs.Shape.{shape-problem, Given}
-use Rattle.model.specs.Admits.{Sound}
-use Rattle.model.specs.Order.{WellFormed}
-use Rattle.model.specs.Branching.{Branch, opening-domains}
-use Rattle.model.specs.Problem.{Problem, Precedence}
-use lib.ListN as L
+use mathlib.Core.List.{List, map}
+use mathlib.Core.Path.{_≡_, sym, ap, _∙_}
+use Prim.Native.Nat.{_-_, _≤_}
 use native.Mathlib.Omega.{arith}
-use Prim.Native.Nat.{ℕ, suc, _+_, _-_, _≤_, _<_}
-use mathlib.Core.Path.{_≡_, refl, sym, ap, _∙_, subst}
-use mathlib.Core.List.{List, [], _∷_, map}
-use mathlib.Core.Bool.{Bool, true, false}
+use lib.ListN.{getD}
+use lib.ListN as L
 use borrow.Author.Needs.{needs}
+use Rattle.model.specs.Admits.{Sound}
+use Rattle.model.specs.Branching.{opening-domains}
+use Rattle.model.specs.Domains.{Domains}
+use Rattle.model.specs.Order.{WellFormed}
+use Rattle.model.specs.Problem.{Problem, Precedence}
+use Rattle.instance.specs.Meaning.{precedence-of}
+use Rattle.instance.specs.Valid.{precedences-of}
+use Rattle.domains.specs.Shape.{shape-problem, Given}
+use Rattle.search.specs.Checkpoints.{path-of}
+use Rattle.search.specs.Standing.{Looked, Standing}
+use Rattle.search.proofs.Checkpoints.{path-length, path-next}
+use Rattle.search.proofs.Sound.{laid-sound, length-mapped}
+use Rattle.search.proofs.Standing.{replayed-of, side-of, fork-rising, replayed, replayed-not, stand-root, stand-next}
 use Rattle.search.proofs.steps.replay.Statement.{statement}
 use Rattle.search.proofs.steps.replay.Tie as tie
-use Rattle.search.proofs.steps.replay.Reads as reads
-use Rattle.search.proofs.steps.replay.Lts as lts
-use Rattle.domains.proofs.branch.apply_branch.Reads as apply-branch-reads
-use Rattle.domains.proofs.layout.shape_of.Reads as shape-of-reads
-use Rattle.domains.proofs.opening.opening_domains.Reads as opening-domains-reads
-use Rattle.search.proofs.steps.look.Reads as look-reads
-use Rattle.search.proofs.steps.no_levels.Reads as no-levels-reads
 
 abbrev Inv-loop : tie.InvT-loop
-Inv-loop length branches n sizes capacity levels₀ k₀ i₀ levels k i = 
+Inv-loop length branches n sizes capacity levels₀ k₀ i₀ levels k i =
     (i ≤ length)
     × ((os : List Precedence) → k₀ ≡ opening-domains (shape-problem n sizes capacity os) → Standing (shape-problem n sizes capacity os) levels k (path-of i branches))
 
@@ -69,94 +56,76 @@ seen : (c : tie.After-look Inv-loop μ-loop)
     (c .look .last .0) (c .look .result)
 seen c = c .look .ensures .looked _ _ (here (c .before .before .before .before .before) .ready)
 
--- src/steps.rt:57:9
 shape-of-requires : tie.Need-shape-of-requires Inv-loop μ-loop
 shape-of-requires c κs = search needs
 
--- src/steps.rt:61:22
 no-levels-requires : tie.Need-no-levels-requires Inv-loop μ-loop
 no-levels-requires c κs = search needs
 
--- src/steps.rt:62:17
 opening-domains-requires : tie.Need-opening-domains-requires Inv-loop μ-loop
 opening-domains-requires c κs = c .before .before .before .before .pre .0
 
--- src/steps.rt:64:5
 loop-holds : tie.Need-loop-holds Inv-loop μ-loop
 loop-holds c = (omega arith, λ os e. stand-root (shape-problem _ _ _ os) (c .before .no-levels .ensures) e)
 
--- src/steps.rt:65:15
 look-requires : tie.Need-look-requires Inv-loop μ-loop
 look-requires c κs = arrays (c .before .before .before .before .before .before .before .before .before) (here (c .before .before .before .before) .ready .well-formed)
 
--- src/steps.rt:66:27
 enum-known-place : tie.Need-enum-known-place Inv-loop μ-loop
 enum-known-place c = search needs
 
--- src/steps.rt:67:17
 mul-levels : tie.Need-mul-levels Inv-loop μ-loop
 mul-levels c = search needs
 
--- src/steps.rt:67:17
 array-set-from-levels : tie.Need-array-set-from-levels Inv-loop μ-loop
 array-set-from-levels c = omega (arith, c .before .before .before .before .before .before .before .before .before .before .before .before .before .before .pre .1)
 
--- src/steps.rt:68:53
 array-read-apply-branch : tie.Need-array-read-apply-branch Inv-loop μ-loop
 array-read-apply-branch c = omega (arith, c .before .before .before .before .before .before .before .before .before .before .before .before .before .before .before .pre .1)
 
--- src/steps.rt:68:17
 apply-branch-requires : tie.Need-apply-branch-requires Inv-loop μ-loop
-apply-branch-requires c κs = 
+apply-branch-requires c κs =
     let s = rw (c .before .before .place .given .1) at (seen (c .before .before .before .before)) in
     (c .before .before .before .before .look .ensures .well-formed, fork-rising (problem (c .before .before .before .before .before .before .before .before .before .before .before .before .before .before)) _ (sound (c .before .before .before .before .before .before .before .before .before .before .before .before .before .before)) (s .0) (s .2))
 
--- src/steps.rt:69:21
 add-i : tie.Need-add-i Inv-loop μ-loop
 add-i c = omega arith
 
--- src/steps.rt:64:5
 loop-less : tie.Need-loop-less Inv-loop μ-loop
 loop-less c = omega arith
 
--- src/steps.rt:64:5
 loop-again : tie.Need-loop-again Inv-loop μ-loop
 loop-again c = (
-    omega arith,
-    λ os e.
-    let l = c .before .before .before .before .before .before .before .before .before .before .loop in
-    let bs = c .before .before .before .before .before .before .before .before .before .before .before .before .before .before .before .before .args .t2 in
-    let σ = l .inv .1 os e in
-    let s = rw (c .before .before .before .place .given .1) at (c .before .before .before .before .before .look .ensures .looked os (path-of (l .i) bs) (σ .ready)) in
-    rw (path-next, ← side-of (getD bs (l .i) 0))
-    (stand-next (shape-problem _ _ _ os) σ s (sym (path-length (l .i) bs)) (omega (arith, c .before .before .before .before .before .before .before .before .before .before .before .before .before .before .before .before .pre .1)) (c .apply-branch .ensures))
-  )
+  omega arith,
+  λ os e.
+      let l = c .before .before .before .before .before .before .before .before .before .before .loop in
+      let bs = c .before .before .before .before .before .before .before .before .before .before .before .before .before .before .before .before .args .t2 in
+      let σ = l .inv .1 os e in
+      let s = rw (c .before .before .before .place .given .1) at (c .before .before .before .before .before .look .ensures .looked os (path-of (l .i) bs) (σ .ready)) in
+      rw (path-next, ← side-of (getD bs (l .i) 0))
+      (stand-next (shape-problem _ _ _ os) σ s (sym (path-length (l .i) bs)) (omega (arith, c .before .before .before .before .before .before .before .before .before .before .before .before .before .before .before .before .pre .1)) (c .apply-branch .ensures)),
+)
 
--- src/steps.rt:71:66
 enum-told : tie.Need-enum-told Inv-loop μ-loop
 enum-told c = search needs
 
--- src/steps.rt:71:34
 returns : tie.Need-returns Inv-loop μ-loop
-returns c = 
+returns c =
     let s = rw (c .enum-told .given .1) at (seen (c .before .before)) in
     replayed-of (c .before .before .before .before .before .before .before .before .before .before .before .before .shape-of .ensures .means)
     (replayed-not (problem (c .before .before .before .before .before .before .before .before .before .before .before .before)) (c .before .before .before .before .before .before .before .before .before .before .before .before .before .args .t2) (c .before .before .before .before .before .before .before .loop .i) (c .before .before .before .before .before .before .before .before .before .before .before .before .before .args .length) _ _ (omega arith) (rw s))
 
--- src/steps.rt:72:66
 enum-told-2 : tie.Need-enum-told-2 Inv-loop μ-loop
 enum-told-2 c = search needs
 
--- src/steps.rt:72:34
 returns-2 : tie.Need-returns-2 Inv-loop μ-loop
-returns-2 c = 
+returns-2 c =
     let s = rw (c .enum-told2 .given .1) at (seen (c .before .before)) in
     replayed-of (c .before .before .before .before .before .before .before .before .before .before .before .before .shape-of .ensures .means)
     (replayed-not (problem (c .before .before .before .before .before .before .before .before .before .before .before .before)) (c .before .before .before .before .before .before .before .before .before .before .before .before .before .args .t2) (c .before .before .before .before .before .before .before .loop .i) (c .before .before .before .before .before .before .before .before .before .before .before .before .before .args .length) _ _ (omega arith) (rw (s .0)))
 
--- src/steps.rt:53:1
 returns-3 : tie.Need-returns-3 Inv-loop μ-loop
-returns-3 c = 
+returns-3 c =
     let e : c .before .loop .i ≡ c .before .before .before .before .before .before .before .args .length = omega arith in
     replayed-of (c .before .before .before .before .before .before .shape-of .ensures .means)
     (rw (← e) (replayed (problem (c .before .before .before .before .before .before)) _ _ _ (here (c .before))))

@@ -1,51 +1,34 @@
-use Rattle.search.proofs.Going.{going-start, going-depth, complete-comes, fork-depth, fork-goes, conflict-comes, there, turn-depth, turn-rising, turn-well-formed, turn-goes}
-use Rattle.search.proofs.Outcome.{comes-infeasible, comes-spent, comes-packed}
-use Rattle.search.proofs.Seeing.{startable, started-plan}
-use Rattle.search.proofs.Standing.{Turn, fork-rising}
-use Rattle.search.proofs.Checkpoints.{branches-length}
-use Rattle.search.proofs.Budget.{rest-spent}
-use Rattle.search.specs.Standing.{without-seconds}
-use Rattle.search.specs.declared.Snapshot.{Snapshot}
-use lib.ListN.{length-set}
-use Rattle.search.proofs.Going.{Going}
-use Rattle.search.proofs.Sound.{length-mapped, laid-sound}
-use Rattle.search.specs.Standing.{Standing, Holds, Looked}
-use Rattle.search.specs.Checkpoints.{path-of}
-use Rattle.search.specs.declared.Outlook.the-variants.{Conflict, Complete, Fork}
+use mathlib.Core.List.{List, [], map}
+use mathlib.Core.Path.{_≡_, ap, _∙_}
+use Prim.Native.Nat.{_-_}
+use native.Mathlib.Omega.{arith}
+use lib.ListN as L
+use borrow.Author.Needs.{needs}
+use Rattle.model.specs.Admits.{Sound}
+use Rattle.model.specs.Branching.{Branch}
 use Rattle.model.specs.Domains.{Domains}
 use Rattle.model.specs.Order.{WellFormed}
-use Rattle.domains.specs.Shape.{shape-problem, Given}
-use Rattle.instance.specs.Valid.{precedences-of}
-use Rattle.instance.specs.Meaning.{precedence-of, problem-of}
-use Rattle.model.specs.Admits.{Sound}
+use Rattle.model.specs.Problem.{Problem, Precedence}
 use Rattle.model.specs.Run.{look}
 use Rattle.model.specs.Search as S
-use Rattle.model.specs.Branching.{Branch}
-use Rattle.model.specs.Problem.{Problem, Precedence}
-use lib.ListN.{getD}
-use lib.ListN as L
-use native.Mathlib.Omega.{arith}
-use Prim.Native.Nat.{ℕ, suc, _+_, _-_, _≤_, _<_}
-use mathlib.Core.Path.{_≡_, refl, sym, ap, _∙_, subst}
-use mathlib.Core.Logic.{_⊎_, inl, inr}
-use mathlib.Core.List.{List, [], _∷_, map}
-use mathlib.Core.Bool.{Bool, true, false}
-use borrow.Author.Needs.{needs}
+use Rattle.instance.specs.Meaning.{precedence-of}
+use Rattle.instance.specs.Valid.{precedences-of}
+use Rattle.domains.specs.Shape.{shape-problem, Given}
+use Rattle.search.specs.Checkpoints.{path-of}
+use Rattle.search.specs.Standing.{without-seconds, Standing, Holds, Looked}
+use Rattle.search.specs.declared.Snapshot.{Snapshot}
+use Rattle.search.proofs.Budget.{rest-spent}
+use Rattle.search.proofs.Checkpoints.{branches-length}
+use Rattle.search.proofs.Going.{going-start, going-depth, complete-comes, fork-depth, fork-goes, conflict-comes, there, turn-depth, turn-rising, turn-well-formed, turn-goes, Going}
+use Rattle.search.proofs.Outcome.{comes-infeasible, comes-spent, comes-packed}
+use Rattle.search.proofs.Seeing.{startable, started-plan}
+use Rattle.search.proofs.Sound.{length-mapped, laid-sound}
+use Rattle.search.proofs.Standing.{Turn, fork-rising}
 use Rattle.search.proofs.steps.run.Statement.{statement}
 use Rattle.search.proofs.steps.run.Tie as tie
-use Rattle.search.proofs.steps.run.Reads as reads
-use Rattle.search.proofs.steps.run.Lts as lts
-use Rattle.domains.proofs.branch.apply_branch.Reads as apply-branch-reads
-use Rattle.domains.proofs.layout.shape_of.Reads as shape-of-reads
-use Rattle.domains.proofs.starts.starts_of.Reads as starts-of-reads
-use Rattle.search.proofs.path.drop_seconds.Reads as drop-seconds-reads
-use Rattle.search.proofs.results.infeasible.Reads as infeasible-reads
-use Rattle.search.proofs.results.packed.Reads as packed-reads
-use Rattle.search.proofs.results.spent.Reads as spent-reads
-use Rattle.search.proofs.steps.look.Reads as look-reads
 
 abbrev Inv-loop : tie.InvT-loop
-Inv-loop at budget n sizes capacity levels₀ k₀ branches₀ depth₀ taken₀ levels k branches depth taken = 
+Inv-loop at budget n sizes capacity levels₀ k₀ branches₀ depth₀ taken₀ levels k branches depth taken =
     (os : List Precedence) → Sound (shape-problem n sizes capacity os) → Standing (shape-problem n sizes capacity os) levels₀ k₀ (path-of depth₀ branches₀)
     → Holds (path-of depth₀ branches₀) branches₀ depth₀ → Going (shape-problem n sizes capacity os) budget (path-of depth₀ branches₀) levels k branches depth taken
 
@@ -90,76 +73,60 @@ back c = there (going (c .before .before .before .before .before .before .before
 blank : Snapshot
 blank = record { domains = []; place = record { axis = 0; u = 0; v = 0 } }
 
--- src/steps.rt:84:9
 shape-of-requires : tie.Need-shape-of-requires Inv-loop μ-loop
 shape-of-requires c κs = search needs
 
--- src/steps.rt:93:5
 loop-holds : tie.Need-loop-holds Inv-loop μ-loop
 loop-holds c = λ os σ s h. going-start s h
 
--- src/steps.rt:94:17
 add-taken : tie.Need-add-taken Inv-loop μ-loop
 add-taken c = search needs
 
--- src/steps.rt:95:15
 look-requires : tie.Need-look-requires Inv-loop μ-loop
 look-requires c κs = arrays (c .before .before .before .before .before .before .before .before .before) (going (c .before .before .before .before) .stands .ready .well-formed)
 
--- src/steps.rt:97:44
 enum-told : tie.Need-enum-told Inv-loop μ-loop
 enum-told c = search needs
 
--- src/steps.rt:97:17
 drop-seconds-requires : tie.Need-drop-seconds-requires Inv-loop μ-loop
-drop-seconds-requires c κs = 
+drop-seconds-requires c κs =
     let γ = going (c .before .before .before .before .before .before .before .before) in
     (ap L.length (γ .holds .values) ∙ branches-length (γ .path), going-depth γ (sound (c .before .before .before .before .before .before .before .before .before .before .before .before .before)))
 
--- src/steps.rt:99:21
 infeasible-requires : tie.Need-infeasible-requires Inv-loop μ-loop
 infeasible-requires c κs = search needs
 
--- src/steps.rt:99:21
 returns : tie.Need-returns Inv-loop μ-loop
-returns c = 
+returns c =
     let γ = going (c .before .before .before .before .before .before .before .before .before .before .before) in
     let l = rw (c .before .before .before .before .enum-told .given .1) at (seen (c .before .before .before .before .before .before)) in
     rw (c .before .before .before .before .before .before .before .before .before .before .before .before .before .before .before .before .shape-of .ensures .means)
     (c .infeasible .ensures ∙ comes-infeasible (problem (c .before .before .before .before .before .before .before .before .before .before .before .before .before .before .before .before)) (c .before .before .before .before .before .before .before .before .before .before .before .before .before .before .before .before .before .args .budget) (S.open-at (start (c .before .before .before .before .before .before .before .before .before .before .before .before .before .before .before .before .before))) (conflict-comes γ (kept (c .before .before)) (c .before .if1 .taken) (c .before .before .before .before .before .before .before .before .before .before .loop-test .taken) l))
 
--- src/steps.rt:101:26
 sub-branches : tie.Need-sub-branches Inv-loop μ-loop
 sub-branches c = omega arith
 
--- src/steps.rt:101:17
 array-write-branches : tie.Need-array-write-branches Inv-loop μ-loop
 array-write-branches c = omega (arith, turn-depth (going (c .before .before .before .before .before .before .before .before .before .before)) (kept (c .before)) (back c) (sound (c .before .before .before .before .before .before .before .before .before .before .before .before .before .before .before)))
 
--- src/steps.rt:102:35
 sub-last : tie.Need-sub-last Inv-loop μ-loop
 sub-last c = omega arith
 
--- src/steps.rt:102:28
 mul-last : tie.Need-mul-last Inv-loop μ-loop
 mul-last c = omega (arith, turn-depth (going (c .before .before .before .before .before .before .before .before .before .before)) (kept (c .before)) (back c) (sound (c .before .before .before .before .before .before .before .before .before .before .before .before .before .before .before)))
 
--- src/steps.rt:102:28
 array-copy-out-last : tie.Need-array-copy-out-last Inv-loop μ-loop
 array-copy-out-last c = omega (arith, turn-depth (going (c .before .before .before .before .before .before .before .before .before .before)) (kept (c .before)) (back c) (sound (c .before .before .before .before .before .before .before .before .before .before .before .before .before .before .before)))
 
--- src/steps.rt:105:17
 apply-branch-requires : tie.Need-apply-branch-requires Inv-loop μ-loop
 unfolding blank
-apply-branch-requires c κs = 
+apply-branch-requires c κs =
     let τ = back (c .before .before .before) in
     (turn-well-formed (going (c .before .before .before .before .before .before .before .before .before .before .before .before .before)) (kept (c .before .before .before .before)) τ blank, turn-rising (going (c .before .before .before .before .before .before .before .before .before .before .before .before .before)) (kept (c .before .before .before .before)) τ (sound (c .before .before .before .before .before .before .before .before .before .before .before .before .before .before .before .before .before .before)) blank)
 
--- src/steps.rt:93:5
 loop-less : tie.Need-loop-less Inv-loop μ-loop
 loop-less c = omega arith
 
--- src/steps.rt:93:5
 loop-again : tie.Need-loop-again Inv-loop μ-loop
 unfolding blank
 loop-again c = λ os σ s h.
@@ -168,73 +135,59 @@ loop-again c = λ os σ s h.
     let δ = c .before .before .before .before .before .drop-seconds .ensures (γ .path) (γ .holds) in
     turn-goes γ δ (there γ δ (c .before .before .before .before .if1 .left)) blank (c .before .before .before .before .before .before .before .before .before .before .before .before .before .loop-test .taken) l (c .apply-branch .ensures)
 
--- src/steps.rt:108:58
 enum-told-2 : tie.Need-enum-told-2 Inv-loop μ-loop
 enum-told-2 c = search needs
 
--- src/steps.rt:108:21
 starts-of-requires : tie.Need-starts-of-requires Inv-loop μ-loop
-starts-of-requires c κs = 
+starts-of-requires c κs =
     let l = rw (c .before .before .before .enum-told2 .given .1) at (seen (c .before .before .before .before .before)) in
     startable _ _ _ _ (going (c .before .before .before .before .before .before .before .before .before .before) .path) (sound (c .before .before .before .before .before .before .before .before .before .before .before .before .before .before .before)) (arrays (c .before .before .before .before .before .before .before .before .before .before .before .before .before .before .before) (c .before .before .before .before .before .look .ensures .well-formed)) l
 
--- src/steps.rt:109:17
 packed-requires : tie.Need-packed-requires Inv-loop μ-loop
 packed-requires c κs = search needs
 
--- src/steps.rt:109:17
 returns-2 : tie.Need-returns-2 Inv-loop μ-loop
-returns-2 c = 
+returns-2 c =
     let γ = going (c .before .before .before .before .before .before .before .before .before .before .before .before) in
     let l = rw (c .before .before .before .before .before .enum-told2 .given .1) at (seen (c .before .before .before .before .before .before .before)) in
     let q : L.length (c .before .starts-of .result .positions) ≡ 10 = search length-mapped in
     rw (c .before .before .before .before .before .before .before .before .before .before .before .before .before .before .before .before .before .shape-of .ensures .means)
     (c .packed .ensures ∙ comes-packed (problem (c .before .before .before .before .before .before .before .before .before .before .before .before .before .before .before .before .before)) (c .before .before .before .before .before .before .before .before .before .before .before .before .before .before .before .before .before .before .args .budget) (S.open-at (start (c .before .before .before .before .before .before .before .before .before .before .before .before .before .before .before .before .before .before))) (γ .holds) (started-plan _ _ _ _ (γ .path) l (c .before .starts-of .ensures) q) (complete-comes γ (c .before .before .before .before .before .before .before .before .before .before .before .loop-test .taken) l))
 
--- src/steps.rt:111:27
 enum-known-place : tie.Need-enum-known-place Inv-loop μ-loop
 enum-known-place c = search needs
 
--- src/steps.rt:112:17
 mul-levels : tie.Need-mul-levels Inv-loop μ-loop
 mul-levels c = omega (arith, fork-depth (going (c .before .before .before .before .before .before .before .before)) (sound (c .before .before .before .before .before .before .before .before .before .before .before .before .before)) (rw (c .before .place .given .1) at (seen (c .before .before .before))))
 
--- src/steps.rt:112:17
 array-set-from-levels : tie.Need-array-set-from-levels Inv-loop μ-loop
 array-set-from-levels c = fork-depth (going (c .before .before .before .before .before .before .before .before)) (sound (c .before .before .before .before .before .before .before .before .before .before .before .before .before)) (rw (c .before .place .given .1) at (seen (c .before .before .before)))
 
--- src/steps.rt:113:17
 array-write-branches-2 : tie.Need-array-write-branches-2 Inv-loop μ-loop
 array-write-branches-2 c = fork-depth (going (c .before .before .before .before .before .before .before .before)) (sound (c .before .before .before .before .before .before .before .before .before .before .before .before .before)) (rw (c .before .place .given .1) at (seen (c .before .before .before)))
 
--- src/steps.rt:114:25
 add-depth : tie.Need-add-depth Inv-loop μ-loop
 add-depth c = omega (arith, fork-depth (going (c .before .before .before .before .before .before .before .before)) (sound (c .before .before .before .before .before .before .before .before .before .before .before .before .before)) (rw (c .before .place .given .1) at (seen (c .before .before .before))))
 
--- src/steps.rt:115:17
 apply-branch-requires-2 : tie.Need-apply-branch-requires-2 Inv-loop μ-loop
-apply-branch-requires-2 c κs = 
+apply-branch-requires-2 c κs =
     let l = rw (c .before .before .place .given .1) at (seen (c .before .before .before .before)) in
     (c .before .before .before .before .look .ensures .well-formed, fork-rising (problem (c .before .before .before .before .before .before .before .before .before .before .before .before .before .before)) _ (sound (c .before .before .before .before .before .before .before .before .before .before .before .before .before .before)) (l .0) (l .2))
 
--- src/steps.rt:93:5
 loop-less-2 : tie.Need-loop-less-2 Inv-loop μ-loop
 loop-less-2 c = omega arith
 
--- src/steps.rt:93:5
 loop-again-2 : tie.Need-loop-again-2 Inv-loop μ-loop
 loop-again-2 c = λ os σ s h.
     let γ = c .before .before .before .before .before .before .before .before .before .before .loop .inv os σ s h in
     let l = rw (c .before .before .before .place .given .1) at (c .before .before .before .before .before .look .ensures .looked os (γ .path) (γ .stands .ready)) in
     fork-goes γ (fork-depth γ σ l) (c .before .before .before .before .before .before .before .before .before .loop-test .taken) l (c .apply-branch2 .ensures)
 
--- src/steps.rt:119:5
 spent-requires : tie.Need-spent-requires Inv-loop μ-loop
 spent-requires c κs = search needs
 
--- src/steps.rt:79:1
 returns-3 : tie.Need-returns-3 Inv-loop μ-loop
-returns-3 c = 
+returns-3 c =
     let γ = going (c .before .before) in
     rw (c .before .before .before .before .before .before .before .shape-of .ensures .means)
     (c .spent .ensures ∙ comes-spent (problem (c .before .before .before .before .before .before .before)) (c .before .before .before .before .before .before .before .before .args .budget) (S.open-at (start (c .before .before .before .before .before .before .before .before))) (γ .holds) (rest-spent _ _ _ (γ .rest) (c .before .loop-test .left)))
