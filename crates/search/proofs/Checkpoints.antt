@@ -16,20 +16,20 @@ use Rattle.model.specs.Branching.{Branch, first, second}
 use Rattle.model.specs.Search as S
 use Rattle.instance.specs.declared.Checkpoint.{Checkpoint}
 use Rattle.instance.specs.declared.Status.{Status}
-use Rattle.search.specs.Checkpoints.{branch-of, number-of, path-of, with-status, checkpoint-of, length-allowed, all-branches, well-formed, Bits, branches-of, value-of}
+use Rattle.search.specs.Checkpoints.{branch-of, branch-number, path-of, with-status, checkpoint-of, length-allowed, all-branches, well-formed, Bits, branches-of, value-of}
 use Rattle.search.specs.Standing.{without-seconds, Holds}
 
 -- a branch and its number
-pub branch-back : (b : Branch) → branch-of (number-of b) ≡ b
+pub branch-back : (b : Branch) → branch-of (branch-number b) ≡ b
 branch-back first = refl
 branch-back second = refl
 
-pub number-back : (m : ℕ) → m < 2 → number-of (branch-of m) ≡ m
+pub number-back : (m : ℕ) → m < 2 → branch-number (branch-of m) ≡ m
 number-back zero h = refl
 number-back (suc zero) h = refl
 number-back (suc (suc m)) h = absurd (omega arith)
 
-number-small : (b : Branch) → number-of b < 2
+number-small : (b : Branch) → branch-number b < 2
 number-small first = omega arith
 number-small second = omega arith
 
@@ -47,7 +47,7 @@ path-set (suc n) bs i m h =
 pub branches-length : (path : List Branch) → length (branches-of path) ≡ 270
 unfolding branches-of
 branches-length [] = length-replicate {A = ℕ} 270 0
-branches-length (b ∷ path) = length-set (branches-of path) (length path) (number-of b) ∙ branches-length path
+branches-length (b ∷ path) = length-set (branches-of path) (length path) (branch-number b) ∙ branches-length path
 
 blank : (n i : ℕ) → getD (replicate n zero) i 0 ≡ 0
 blank zero i = refl
@@ -60,7 +60,7 @@ unfolding branches-of
 branches-past [] i h = blank 270 i
 branches-past (b ∷ path) i h =
     let d : i ≡ length path → ⊥ = λ e. omega arith in
-    getD-set-other (branches-of path) (length path) i (number-of b) 0 d ∙ branches-past path i (omega arith)
+    getD-set-other (branches-of path) (length path) i (branch-number b) 0 d ∙ branches-past path i (omega arith)
 
 -- the path comes back from its array
 pub path-back : (path : List Branch) → length path ≤ 270 → path-of (length path) (branches-of path) ≡ path
@@ -68,20 +68,20 @@ unfolding branches-of
 path-back [] h = refl
 path-back (b ∷ path) h =
     let l : length path < length (branches-of path) = omega (arith, branches-length path) in
-    rw (getD-set-same (branches-of path) (length path) (number-of b) 0 l, branch-back, path-set (length path) (branches-of path) (length path) (number-of b) (omega arith), path-back path (omega arith))
+    rw (getD-set-same (branches-of path) (length path) (branch-number b) 0 l, branch-back, path-set (length path) (branches-of path) (length path) (branch-number b) (omega arith), path-back path (omega arith))
 
 branches-small : (path : List Branch) (i : ℕ) → getD (branches-of path) i 0 < 2
 unfolding branches-of
 branches-small [] i = omega (arith, blank 270 i)
 branches-small (b ∷ path) i = go (ℕ-discrete i (length path)) (branches-small path i)
   where
-    inside : i ≡ length path → Dec (i < length (branches-of path)) → getD (branches-of path) i 0 < 2 → getD (set (branches-of path) (length path) (number-of b)) i 0 < 2
-    inside e (yes h) g = rw (← e, getD-set-same (branches-of path) i (number-of b) 0 h) (number-small b)
-    inside e (no h) g = rw (← e, set-out (branches-of path) i (number-of b) (omega arith)) g
+    inside : i ≡ length path → Dec (i < length (branches-of path)) → getD (branches-of path) i 0 < 2 → getD (set (branches-of path) (length path) (branch-number b)) i 0 < 2
+    inside e (yes h) g = rw (← e, getD-set-same (branches-of path) i (branch-number b) 0 h) (number-small b)
+    inside e (no h) g = rw (← e, set-out (branches-of path) i (branch-number b) (omega arith)) g
 
-    go : Dec (i ≡ length path) → getD (branches-of path) i 0 < 2 → getD (set (branches-of path) (length path) (number-of b)) i 0 < 2
+    go : Dec (i ≡ length path) → getD (branches-of path) i 0 < 2 → getD (set (branches-of path) (length path) (branch-number b)) i 0 < 2
     go (yes e) g = inside e (decLt i (length (branches-of path))) g
-    go (no d) g = rw (getD-set-other (branches-of path) (length path) i (number-of b) 0 d) g
+    go (no d) g = rw (getD-set-other (branches-of path) (length path) i (branch-number b) 0 d) g
 
 branches-bits : (path : List Branch) (n : ℕ) → all-branches n (branches-of path) ≡ true
 unfolding all-branches
@@ -129,7 +129,7 @@ path-again n bs h =
 pub holds-root : Holds [] (branches-of []) 0
 holds-root = record { many = refl; values = refl }
 
-pub holds-next : {path : List Branch} {bs : List ℕ} {n : ℕ} (b : Branch) → Holds path bs n → Holds (b ∷ path) (set bs n (number-of b)) (n + 1)
+pub holds-next : {path : List Branch} {bs : List ℕ} {n : ℕ} (b : Branch) → Holds path bs n → Holds (b ∷ path) (set bs n (branch-number b)) (n + 1)
 unfolding branches-of
 holds-next b h = record { many = omega (arith, h .many); values = rw (h .many, h .values) }
 
@@ -138,24 +138,24 @@ pub path-next : (n : ℕ) (bs : List ℕ) → path-of (n + 1) bs ≡ branch-of (
 path-next n bs = rw add-one
 
 -- one branch more of an array of branches
-pub bits-next : {n : ℕ} {bs : List ℕ} (i : ℕ) → Bits n bs → i < n → number-of (branch-of (getD bs i 0)) ≡ getD bs i 0
+pub bits-next : {n : ℕ} {bs : List ℕ} (i : ℕ) → Bits n bs → i < n → branch-number (branch-of (getD bs i 0)) ≡ getD bs i 0
 unfolding all-branches
 bits-next {n} {bs} i β h = number-back (getD bs i 0) (ltb-true _ _ (all-at n _ (β .bits) i h))
 
 -- the last branch of a path, turned or dropped
 module _ {bs : List ℕ} {n : ℕ} where
-  last-number : (b : Branch) (path : List Branch) → Holds (b ∷ path) bs n → n ≤ 270 → getD bs (n - 1) 0 ≡ number-of b
+  last-number : (b : Branch) (path : List Branch) → Holds (b ∷ path) bs n → n ≤ 270 → getD bs (n - 1) 0 ≡ branch-number b
   unfolding branches-of
   last-number b path h l =
       let e : n - 1 ≡ length path = omega (arith, h .many) in
       let r : length path < length (branches-of path) = omega (arith, h .many, branches-length path) in
-      rw (e, h .values) (getD-set-same (branches-of path) (length path) (number-of b) 0 r)
+      rw (e, h .values) (getD-set-same (branches-of path) (length path) (branch-number b) 0 r)
 
-  pub turned : {b : Branch} {path : List Branch} (c : Branch) → Holds (b ∷ path) bs n → Holds (c ∷ path) (set bs (n - 1) (number-of c)) n
+  pub turned : {b : Branch} {path : List Branch} (c : Branch) → Holds (b ∷ path) bs n → Holds (c ∷ path) (set bs (n - 1) (branch-number c)) n
   unfolding branches-of
   turned {b} {path} c h =
       let e : n - 1 ≡ length path = omega (arith, h .many) in
-      record { many = h .many; values = rw (e, h .values) (set-set (branches-of path) (length path) (number-of b) (number-of c)) }
+      record { many = h .many; values = rw (e, h .values) (set-set (branches-of path) (length path) (branch-number b) (branch-number c)) }
 
   pub dropped : {b : Branch} {path : List Branch} → Holds (b ∷ path) bs n → Holds path (set bs (n - 1) 0) (n - 1)
   unfolding branches-of
@@ -163,7 +163,7 @@ module _ {bs : List ℕ} {n : ℕ} where
       let e : n - 1 ≡ length path = omega (arith, h .many) in
       record {
         many = e;
-        values = rw (e, h .values) (set-set (branches-of path) (length path) (number-of b) 0 ∙ ap (set (branches-of path) (length path)) (sym (branches-past path (length path) (omega arith))) ∙ set-getD (branches-of path) (length path) 0);
+        values = rw (e, h .values) (set-set (branches-of path) (length path) (branch-number b) 0 ∙ ap (set (branches-of path) (length path)) (sym (branches-past path (length path) (omega arith))) ∙ set-getD (branches-of path) (length path) 0);
       }
 
   -- a last branch 0 is a first one; any other is dropped

@@ -2,7 +2,7 @@
 -- An instance's array of items holds ten, as every value of the type does.
 use mathlib.Core.Bool.{Bool, true, false}
 use mathlib.Core.List.{List}
-use mathlib.Core.Logic.{_↔_}
+use mathlib.Core.Logic.{_↔_, _⊎_, inl, inr}
 use mathlib.Core.Option.{some}
 use mathlib.Core.Path.{_≡_, refl, sym, ap, _∙_, subst}
 use Prim.Native.Nat.{ℕ, _≤_, _<_}
@@ -17,7 +17,7 @@ use Rattle.model.specs.Problem.{Problem, Positions, Feasible}
 use Rattle.model.specs.Run.{look, search, step-count}
 use Rattle.model.specs.Search as S
 use Rattle.refusal.specs.declared.Refusal.{Refusal}
-use Rattle.refusal.specs.declared.Refusal.the-variants.{InvalidInstance}
+use Rattle.refusal.specs.declared.Refusal.the-variants.{InvalidInstance, NotFollowing}
 use Rattle.instance.specs.Meaning.{problem-of, positions-of}
 use Rattle.instance.specs.Valid.{valid}
 use Rattle.instance.specs.Values.{opening-checkpoint}
@@ -27,7 +27,7 @@ use Rattle.instance.specs.declared.Packing.{Packing}
 use Rattle.search.specs.Calls.{reply-of, exec, plan-of}
 use Rattle.search.specs.Checkpoints.{checkpoint-of, well-formed, branches-of, value-of}
 use Rattle.search.specs.Results.{answer-of, packing-with, result-of, refused, result-if, search-result}
-use Rattle.search.specs.declared.Answer.the-variants.{Packed, Infeasible}
+use Rattle.search.specs.declared.Answer.the-variants.{Packed, Infeasible, BudgetSpent}
 use Rattle.search.specs.declared.SearchResult.{SearchResult}
 use Rattle.search.proofs.Checkpoints.{Short, checkpoint-back, value-well-formed}
 use Rattle.search.proofs.Packing.{packing-back, feasible-same}
@@ -87,30 +87,63 @@ module _ (i : Instance) (v : valid i ≡ true) (long : length (i .items) ≡ 10)
       → C.Claim (look (problem-of i)) (plan-of (problem-of i)) value-of some (exec i) (step-count (problem-of i)) budgets
   every-list budgets = T.every-list (problem-of i) sound (plan-of (problem-of i)) value-of some (exec i) search-serves budgets
 
-  -- placed comes with a packing that fits, whatever checkpoint was handed in
-  packed-fits : (budget : ℕ) (κ : S.Checkpoint) → S.Follows (look (problem-of i)) κ → result-of (problem-of i) (search (problem-of i) budget κ) .answer ≡ Packed
-      → Feasible (problem-of i) (positions-of (result-of (problem-of i) (search (problem-of i) budget κ) .packing))
-  unfolding result-of
-  packed-fits budget κ f e = go (S.steps (look (problem-of i)) budget κ) (T.reached-follows (problem-of i) budget κ f) e
+  -- "A call that meets no condition of the table is not refused": a call is refused with 10, or its checkpoint follows and it is the model's
+  pub refused-or-served : (c : Checkpoint) (budget : ℕ)
+      → (search-result i c budget ≡ refused NotFollowing c)
+      ⊎ (S.Follows (look (problem-of i)) (checkpoint-of c)
+      × (search-result i c budget ≡ result-of (problem-of i) (search (problem-of i) budget (checkpoint-of c))))
+  unfolding search-result
+  refused-or-served c budget = rw v (go (well-formed c) (S.follows (look (problem-of i)) (checkpoint-of c)) refl)
     where
-      go : (μ : S.Checkpoint) → S.Follows (look (problem-of i)) μ → answer-of (C.answer (plan (problem-of i)) μ) ≡ Packed
+      go : (w b : Bool) → S.follows (look (problem-of i)) (checkpoint-of c) ≡ b
+          → (result-if true w i c budget ≡ refused NotFollowing c)
+          ⊎ (S.Follows (look (problem-of i)) (checkpoint-of c)
+          × (result-if true w i c budget ≡ result-of (problem-of i) (search (problem-of i) budget (checkpoint-of c))))
+      go false b d = inl refl
+      go true false d = inl (rw d)
+      go true true d = inr (T.follows-exactly (problem-of i) (checkpoint-of c) .0 d, (rw d))
+
+  -- placed comes with a packing that fits, whatever checkpoint was handed in
+  pub packed-feasible : (c : Checkpoint) (budget : ℕ) → search-result i c budget .answer ≡ Packed
+      → Feasible (problem-of i) (positions-of (search-result i c budget .packing))
+  unfolding refused result-of
+  packed-feasible c budget e = go (refused-or-served c budget)
+    where
+      fits : (μ : S.Checkpoint) → S.Follows (look (problem-of i)) μ → answer-of (C.answer (plan (problem-of i)) μ) ≡ Packed
           → Feasible (problem-of i) (positions-of (packing-with (problem-of i) (C.answer (plan (problem-of i)) μ)))
-      go (S.open-at path) f e = let z : _≡_ {A = ℕ} 0 1 = cc in absurd (omega arith)
-      go S.infeasible f e = let z : _≡_ {A = ℕ} 0 1 = cc in absurd (omega arith)
-      go (S.packed-at path) f e =
+      fits (S.open-at path) f e = let z : _≡_ {A = ℕ} 0 1 = cc in absurd (omega arith)
+      fits S.infeasible f e = let z : _≡_ {A = ℕ} 0 1 = cc in absurd (omega arith)
+      fits (S.packed-at path) f e =
           feasible-same (problem-of i) sound (plan (problem-of i) path) _
           (packing-back (problem-of i) (sound .limited) (plan (problem-of i) path)) (T.packed-feasible (problem-of i) sound path f)
 
-  pub packed-feasible : (c : Checkpoint) (budget : ℕ) → search-result i c budget .answer ≡ Packed
-      → Feasible (problem-of i) (positions-of (search-result i c budget .packing))
-  unfolding search-result refused
-  packed-feasible c budget = rw v (go (well-formed c) (S.follows (look (problem-of i)) (checkpoint-of c)) refl)
+      go : (search-result i c budget ≡ refused NotFollowing c)
+          ⊎ (S.Follows (look (problem-of i)) (checkpoint-of c)
+          × (search-result i c budget ≡ result-of (problem-of i) (search (problem-of i) budget (checkpoint-of c))))
+          → Feasible (problem-of i) (positions-of (search-result i c budget .packing))
+      go (inl r) = let z : _≡_ {A = ℕ} 0 1 = cc (ap (λ (x : SearchResult). x .answer) r) in absurd (omega arith)
+      go (inr (f, r)) =
+          subst (λ (x : SearchResult). Feasible (problem-of i) (positions-of (x .packing))) (sym r)
+          (fits (S.steps (look (problem-of i)) budget (checkpoint-of c)) (T.reached-follows (problem-of i) budget (checkpoint-of c) f) (sym (ap (λ (x : SearchResult). x .answer) r) ∙ e))
+
+  -- "spent has taken exactly the allowance"
+  pub spent-exactly : (c : Checkpoint) (budget : ℕ) → search-result i c budget .answer ≡ BudgetSpent → search-result i c budget .steps ≡ budget
+  unfolding refused result-of
+  spent-exactly c budget e = go (refused-or-served c budget)
     where
-      go : (w b : Bool) → S.follows (look (problem-of i)) (checkpoint-of c) ≡ b → result-if true w i c budget .answer ≡ Packed
-          → Feasible (problem-of i) (positions-of (result-if true w i c budget .packing))
-      go false b d = λ e. let z : _≡_ {A = ℕ} 0 1 = cc in absurd (omega arith)
-      go true false d = rw d (λ e. let z : _≡_ {A = ℕ} 0 1 = cc in absurd (omega arith))
-      go true true d = rw d (packed-fits budget (checkpoint-of c) (T.follows-exactly (problem-of i) (checkpoint-of c) .0 d))
+      is-spent : (a : C.Answer Positions) → answer-of a ≡ BudgetSpent → a ≡ C.budget-spent
+      is-spent C.budget-spent e = refl
+      is-spent C.no-packing e = let z : _≡_ {A = ℕ} 0 1 = cc in absurd (omega arith)
+      is-spent (C.packing q) e = let z : _≡_ {A = ℕ} 0 1 = cc in absurd (omega arith)
+
+      go : (search-result i c budget ≡ refused NotFollowing c)
+          ⊎ (S.Follows (look (problem-of i)) (checkpoint-of c)
+          × (search-result i c budget ≡ result-of (problem-of i) (search (problem-of i) budget (checkpoint-of c))))
+          → search-result i c budget .steps ≡ budget
+      go (inl r) = let z : _≡_ {A = ℕ} 0 1 = cc (ap (λ (x : SearchResult). x .answer) r) in absurd (omega arith)
+      go (inr (f, r)) =
+          ap (λ (x : SearchResult). x .steps) r
+          ∙ T.spent-exactly (problem-of i) budget (checkpoint-of c) (is-spent _ (sym (ap (λ (x : SearchResult). x .answer) r) ∙ e))
 
   -- none exactly when nothing fits: from the opening checkpoint on, with a budget that the run does not exceed
   pub infeasible-exactly : (budget : ℕ)

@@ -18,9 +18,9 @@ abbrev pub branch-of : ℕ → Branch
 branch-of zero = first
 branch-of (suc b) = second
 
-abbrev pub number-of : Branch → ℕ
-number-of first = 0
-number-of second = 1
+abbrev pub branch-number : Branch → ℕ
+branch-number first = 0
+branch-number second = 1
 
 -- the path of the first n branches
 abbrev pub path-of : ℕ → List ℕ → List Branch
@@ -58,7 +58,7 @@ pub record Bits (n : ℕ) (bs : List ℕ) : Type 0 where
 -- each branch at its place, "0 past the length"
 unfoldable pub branches-of : List Branch → List ℕ
 branches-of [] = replicate 270 0
-branches-of (b ∷ path) = set (branches-of path) (length path) (number-of b)
+branches-of (b ∷ path) = set (branches-of path) (length path) (branch-number b)
 
 -- the value that holds a checkpoint
 unfoldable pub value-of : S.Checkpoint → Checkpoint

@@ -1,3 +1,4 @@
+-- The test of the first n is the test of the first i, for i from n down.
 use mathlib.Core.Path.{_≡_, refl, sym, _∙_}
 use Prim.Native.Nat.{_≤_}
 use native.Mathlib.Omega.{arith}

@@ -1,3 +1,4 @@
+-- Whatever path the array held, it holds the path with some trailing second branches dropped.
 use mathlib.Core.List.{List}
 use mathlib.Core.Path.{_≡_, refl, _∙_}
 use Prim.Native.Nat.{_≤_}

@@ -1,3 +1,4 @@
+-- The first i branches are written: the array holds the path that they are.
 use mathlib.Core.Path.{_≡_}
 use Prim.Native.Nat.{_-_, _≤_}
 use native.Mathlib.Omega.{arith}

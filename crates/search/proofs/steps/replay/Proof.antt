@@ -1,3 +1,4 @@
+-- After i branches the search stands at the path of the first i, for whatever precedences the opening domains were made of.
 use mathlib.Core.List.{List, map}
 use mathlib.Core.Path.{_≡_, sym, ap, _∙_}
 use Prim.Native.Nat.{_-_, _≤_}

@@ -1,3 +1,4 @@
+-- So many steps lead from the start to where the search stands; what they come to within the rest of the budget is what the whole call comes to.
 use mathlib.Core.List.{List, [], map}
 use mathlib.Core.Path.{_≡_, ap, _∙_}
 use Prim.Native.Nat.{_-_}
