@@ -27,13 +27,27 @@ abbrev pub longer : Bool → ℕ → ℕ → ℕ
 longer beside best x = cond beside (max best x) best
 
 -- the greatest of u alone, and with a chain of the table beside it, of the items below m
-unfoldable pub greatest-total : Domains → List ℕ → List ℕ → Bool → ℕ → ℕ → ℕ → ℕ
-greatest-total k sizes t ending a u zero = size-at sizes a u
-greatest-total k sizes t ending a u (suc m) =
-    longer (linked k a ending u m) (greatest-total k sizes t ending a u m) (getD t (a * 10 + m) 0 + size-at sizes a u)
+module _ (k : Domains) (sizes : List ℕ) (ending : Bool) (a : ℕ) where
+  unfoldable pub extend : (ℕ → ℕ) → ℕ → ℕ → ℕ
+  extend t u zero = size-at sizes a u
+  extend t u (suc m) = longer (linked k a ending u m) (extend t u m) (t m + size-at sizes a u)
+
+  -- the totals after f rounds over n items
+  unfoldable pub totals : ℕ → ℕ → ℕ → ℕ
+  totals n zero u = 0
+  totals n (suc f) u = extend (totals n f) u n
+
+-- a table's numbers on an axis
+abbrev pub on-axis : List ℕ → ℕ → ℕ → ℕ
+on-axis t a v = getD t (a * 10 + v) 0
 
 abbrev pub entry : Domains → ℕ → List ℕ → List ℕ → Bool → ℕ → ℕ
-entry k n sizes t ending i = cond (ltb (i % 10) n) (greatest-total k sizes t ending (i / 10) (i % 10) n) 0
+entry k n sizes t ending i = cond (ltb (i % 10) n) (extend k sizes ending (i / 10) (on-axis t (i / 10)) (i % 10) n) 0
+
+-- one entry of the next table, which is not far above those of the last
+pub record Extended (t : List ℕ) (expected r : ℕ) : Type 0 where
+  pub is : r ≡ expected
+  pub near : (b : ℕ) → ((i : ℕ) → getD t i 0 ≤ b) → r ≤ b + 65535
 
 -- the total of the greatest chain ending in u, or starting in it
 abbrev pub greatest : M.Problem → Domains → Bool → ℕ → ℕ → ℕ

@@ -22,8 +22,14 @@ module _ (k : Domains) (a u v : ℕ) where
   through w = fixed-before k a u w && fixed-before k a w v
 
   -- 3
+  abbrev pub blocked-before : ℕ → Bool
+  blocked-before w = fixed-before k a w u && not (may-before k a w v)
+
+  abbrev pub blocked-after : ℕ → Bool
+  blocked-after w = fixed-before k a v w && not (may-before k a u w)
+
   abbrev pub blocked : ℕ → Bool
-  blocked w = fixed-before k a w u && not (may-before k a w v) || fixed-before k a v w && not (may-before k a u w)
+  blocked w = blocked-before w || blocked-after w
 
   -- 4
   abbrev pub beside : ℕ → Bool

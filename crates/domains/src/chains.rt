@@ -4,7 +4,7 @@ ghost use Prim.Native.Nat.{ℕ, _<_, _≤_, _+_, _*_};
 ghost use lib.ListN.{length, getD};
 ghost use Rattle.domains.specs.Access.{InRange};
 ghost use Rattle.domains.specs.Sweep.{Table};
-ghost use Rattle.domains.specs.Chains.{Known, linked, longer, greatest-total, entry, Exact};
+ghost use Rattle.domains.specs.Chains.{Known, linked, longer, extend, on-axis, entry, Extended, Exact};
 use crate::access::fixed_before;
 use crate::layout::size_of;
 
@@ -51,7 +51,7 @@ fn extended(
     ending: bool,
 ) -> u32
     requires { ⌜ Known (now k) n (now sizes) (now t) × (a < 3) × (u < 10) ⌝ }
-    ensures { λ r. ⌜ r ≡ greatest-total (now (k .entry)) (now (sizes .entry)) (now (t .entry)) ending a u n ⌝ }
+    ensures { λ r. ⌜ Extended (now (t .entry)) (extend (now (k .entry)) (now (sizes .entry)) ending a (on-axis (now (t .entry)) a) u n) r ⌝ }
 {
     let size = widen(size_of(sizes, a, u));
     let mut best = size;
@@ -75,7 +75,7 @@ fn entry_at(
     ending: bool,
 ) -> u32
     requires { ⌜ Known (now k) n (now sizes) (now t) × (i < 30) ⌝ }
-    ensures { λ r. ⌜ r ≡ entry (now (k .entry)) n (now (sizes .entry)) (now (t .entry)) ending i ⌝ }
+    ensures { λ r. ⌜ Extended (now (t .entry)) (entry (now (k .entry)) n (now (sizes .entry)) (now (t .entry)) ending i) r ⌝ }
 {
     let a = i / 10;
     let u = i % 10;
@@ -88,7 +88,7 @@ fn entry_at(
 // One round: every chain of the table one item longer.
 fn round(k: &[u8; 135], n: usize, sizes: &[u16; 30], t: &[u32; 30], ending: bool) -> [u32; 30]
     requires { ⌜ Known (now k) n (now sizes) (now t) ⌝ }
-    ensures { λ r. ⌜ ((i : ℕ) → i < 30 → getD r i 0 ≡ entry (now (k .entry)) n (now (sizes .entry)) (now (t .entry)) ending i) ⌝ }
+    ensures { λ r. ⌜ ((i : ℕ) → i < 30 → Extended (now (t .entry)) (entry (now (k .entry)) n (now (sizes .entry)) (now (t .entry)) ending i) (getD r i 0)) ⌝ }
 {
     let mut next = [0u32; 30];
     let mut i: usize = 0;

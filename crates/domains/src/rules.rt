@@ -4,7 +4,7 @@ ghost use Prim.Native.Nat.{_<_, _≤_};
 ghost use Rattle.model.specs.Problem.{Problem};
 ghost use Rattle.model.specs.Rules as R;
 ghost use Rattle.domains.specs.Access.{InRange};
-ghost use Rattle.domains.specs.Sweep.{other-overlaps, through, blocked, beside, across, around, early-before};
+ghost use Rattle.domains.specs.Sweep.{other-overlaps, through, blocked-before, blocked-after, blocked, beside, across, around, early-before};
 use crate::access::fixed_before;
 use crate::access::fixed_overlap;
 use crate::access::may_before;
@@ -61,20 +61,37 @@ fn rule2(k: &[u8; 135], n: usize, a: usize, u: usize, v: usize) -> bool
     false
 }
 
-// w stands before u and not before v, or after v and not after u.
-fn is_blocked(k: &[u8; 135], a: usize, u: usize, v: usize, w: usize) -> bool
+// w stands before u, and not before v.
+fn blocks_before(k: &[u8; 135], a: usize, u: usize, v: usize, w: usize) -> bool
     requires { ⌜ InRange (now k) a u v × (w < 10) ⌝ }
-    ensures { λ r. ⌜ r ≡ blocked (now (k .entry)) a u v w ⌝ }
+    ensures { λ r. ⌜ r ≡ blocked-before (now (k .entry)) a u v w ⌝ }
 {
-    if fixed_before(k, a, w, u) {
-        if !may_before(k, a, w, v) {
-            return true;
-        }
+    if !fixed_before(k, a, w, u) {
+        return false;
     }
+    !may_before(k, a, w, v)
+}
+
+// w stands after v, and not after u.
+fn blocks_after(k: &[u8; 135], a: usize, u: usize, v: usize, w: usize) -> bool
+    requires { ⌜ InRange (now k) a u v × (w < 10) ⌝ }
+    ensures { λ r. ⌜ r ≡ blocked-after (now (k .entry)) a u v w ⌝ }
+{
     if !fixed_before(k, a, v, w) {
         return false;
     }
     !may_before(k, a, u, w)
+}
+
+// u cannot stand before v because of w.
+fn is_blocked(k: &[u8; 135], a: usize, u: usize, v: usize, w: usize) -> bool
+    requires { ⌜ InRange (now k) a u v × (w < 10) ⌝ }
+    ensures { λ r. ⌜ r ≡ blocked (now (k .entry)) a u v w ⌝ }
+{
+    if blocks_before(k, a, u, v, w) {
+        return true;
+    }
+    blocks_after(k, a, u, v, w)
 }
 
 // Rule 3, for u before v.
