@@ -7,19 +7,20 @@ use Prim.Native.Nat.{ℕ, _+_, _*_, _/_, _%_, _≤_, _<_}
 use native.Mathlib.Nat.{eq-or-lt-of-le}
 use native.Mathlib.Omega.{arith}
 use lib.Dec.{eqb}
-use borrow.Author.Tests.{eqb-true, eqb-false}
+use borrow.Author.Tests.{eqb-false}
 use Rattle.model.specs.Problem.{Problem}
 use Rattle.model.specs.Propagate.{sum}
 use Rattle.model.specs.Domains.{Domains, may-overlap, may-before, remove-overlap, remove-before}
 use Rattle.model.specs.Rules.{rule2, rule3, rule4, rule5, asks-overlap, asks-before}
-use Rattle.model.specs.Order.{Proper, WellFormed, _⊑_, Between}
+use Rattle.model.specs.Order.{Proper, WellFormed, _⊑_}
 use Rattle.model.proofs.Below.{clash, or-left, or-mono}
 use Rattle.model.proofs.Monotone.{asks-before-mono}
 use Rattle.model.proofs.Order.{below-refl, below-trans, below-eq}
 use Rattle.model.proofs.Slots.{proper-wide}
 use Rattle.model.proofs.Domains.{before-removed, overlap-removed}
 use Rattle.model.proofs.Removal.{between-before, between-overlap, remove-before-less, remove-overlap-less, remove-before-well-formed, remove-overlap-well-formed}
-use Rattle.domains.specs.Sweep.{Worked, Anything, Everywhere, AtNumber, Asked, early-before}
+use Rattle.domains.specs.Sweep.{Worked, Anything, Everywhere, AtNumber, Asked}
+use Rattle.relations.specs.Parts.{early-before}
 use Rattle.domains.proofs.Sums.{below-sum, below-same}
 
 abbrev pub Upto : (ℕ → Domains → Type 0) → ℕ → Domains → Type 0

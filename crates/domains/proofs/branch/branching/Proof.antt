@@ -1,24 +1,17 @@
 use borrow.Author.Needs.{needs}
 use native.Mathlib.Omega.{arith}
 use mathlib.Core.Bool.{false}
-use mathlib.Core.Path.{_≡_, refl, sym, _∙_, ap, subst}
-use Prim.Native.Nat.{ℕ, _*_, _-_, _≤_, _<_}
-use lib.ListN.{getD}
-use Rattle.model.specs.Branching.{undecided, choice-axis}
+use mathlib.Core.Path.{_≡_, refl, sym, _∙_}
+use Prim.Native.Nat.{ℕ, _-_, _≤_, _<_}
+use Rattle.model.specs.Branching.{undecided}
 use Rattle.model.proofs.Fork.{choice-axis-is}
 use Rattle.model.proofs.Slots.{pair-of}
-use Rattle.domains.specs.declared.Branching.{Branching}
-use Rattle.domains.specs.declared.Branching.the-variants.{Packed, At}
-use Rattle.domains.specs.Choice.{PairTable, Chosen, open-pair}
-use Rattle.domains.proofs.Tests.{None, none-yet, none-more}
+use Rattle.domains.specs.declared.Branching.the-variants.{Packed}
+use Rattle.domains.specs.Choice.{open-pair}
+use Rattle.relations.proofs.Tests.{none-yet, none-more}
 use Rattle.domains.proofs.Choices.{pair-bounds, packed-of, chosen-at, axis-none}
 use Rattle.domains.proofs.branch.branching.Statement.{statement}
 use Rattle.domains.proofs.branch.branching.Tie as tie
-use Rattle.domains.proofs.branch.branching.Reads as reads
-use Rattle.domains.proofs.branch.branching.Lts as lts
-use Rattle.domains.proofs.branch.is_open.Reads as is-open-reads
-use Rattle.domains.proofs.branch.pair_table.Reads as pair-table-reads
-use Rattle.domains.proofs.branch.undecided.Reads as undecided-reads
 
 abbrev Inv-loop : tie.InvT-loop
 Inv-loop k n number u v a₀ a = (a ≤ 3) × ((b : ℕ) → b < a → undecided k b u v ≡ false)

@@ -6,9 +6,6 @@ use lib.ListN.{length}
 use Rattle.domains.proofs.Totals.{Round, round-start, round-next, round-exact}
 use Rattle.domains.proofs.chains.chains.Statement.{statement}
 use Rattle.domains.proofs.chains.chains.Tie as tie
-use Rattle.domains.proofs.chains.chains.Reads as reads
-use Rattle.domains.proofs.chains.chains.Lts as lts
-use Rattle.domains.proofs.chains.round.Reads as round-reads
 
 abbrev Inv-loop : tie.InvT-loop
 Inv-loop k n sizes ending t₀ rounds₀ t rounds = (rounds ≤ n + 1) × Round k n sizes ending rounds t

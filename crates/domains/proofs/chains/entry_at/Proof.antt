@@ -3,9 +3,6 @@ use native.Mathlib.Omega.{arith}
 use borrow.Author.Needs.{needs}
 use Rattle.domains.proofs.chains.entry_at.Statement.{statement}
 use Rattle.domains.proofs.chains.entry_at.Tie as tie
-use Rattle.domains.proofs.chains.entry_at.Reads as reads
-use Rattle.domains.proofs.chains.entry_at.Lts as lts
-use Rattle.domains.proofs.chains.extended.Reads as extended-reads
 
 -- src/chains.rt:83:9
 returns : tie.Need-returns

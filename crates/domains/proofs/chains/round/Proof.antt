@@ -4,12 +4,9 @@ use mathlib.Core.Path.{_≡_, refl, _∙_}
 use Prim.Native.Nat.{ℕ, _-_, _≤_, _<_}
 use lib.ListN.{getD, length, length-set}
 use Rattle.domains.specs.Chains.{entry, Extended}
-use Rattle.domains.proofs.Tests.{stored-more}
+use Rattle.relations.proofs.Tests.{stored-more}
 use Rattle.domains.proofs.chains.round.Statement.{statement}
 use Rattle.domains.proofs.chains.round.Tie as tie
-use Rattle.domains.proofs.chains.round.Reads as reads
-use Rattle.domains.proofs.chains.round.Lts as lts
-use Rattle.domains.proofs.chains.entry_at.Reads as entry-at-reads
 
 abbrev Inv-loop : tie.InvT-loop
 Inv-loop k n sizes t ending next₀ i₀ next i = (i ≤ 30) × (length next ≡ 30) × ((x : ℕ) → x < i → Extended t (entry k n sizes t ending x) (getD next x 0))

@@ -7,8 +7,6 @@ use Rattle.domains.specs.Shape.{Copied}
 use Rattle.domains.proofs.Layouts.{copied-next}
 use Rattle.domains.proofs.layout.copied.Statement.{statement}
 use Rattle.domains.proofs.layout.copied.Tie as tie
-use Rattle.domains.proofs.layout.copied.Reads as reads
-use Rattle.domains.proofs.layout.copied.Lts as lts
 
 abbrev Inv-loop : tie.InvT-loop
 Inv-loop items sizes₀ i₀ sizes i = (i ≤ 10) × Copied items sizes i

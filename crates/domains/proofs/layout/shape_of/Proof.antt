@@ -3,9 +3,6 @@ use Rattle.domains.proofs.Layouts.{laid-out}
 use borrow.Author.Needs.{needs}
 use Rattle.domains.proofs.layout.shape_of.Statement.{statement}
 use Rattle.domains.proofs.layout.shape_of.Tie as tie
-use Rattle.domains.proofs.layout.shape_of.Reads as reads
-use Rattle.domains.proofs.layout.shape_of.Lts as lts
-use Rattle.domains.proofs.layout.copied.Reads as copied-reads
 
 -- src/layout.rt:37:9
 copied-requires : tie.Need-copied-requires

@@ -11,9 +11,6 @@ use Rattle.domains.proofs.Openings.{stand-proper, fixed-next, fixed-don
 use Rattle.domains.proofs.Bits.{fix-before-long}
 use Rattle.domains.proofs.opening.fixed.Statement.{statement}
 use Rattle.domains.proofs.opening.fixed.Tie as tie
-use Rattle.domains.proofs.opening.fixed.Reads as reads
-use Rattle.domains.proofs.opening.fixed.Lts as lts
-use Rattle.domains.proofs.access.fix_before.Reads as fix-before-reads
 
 abbrev Inv-loop : tie.InvT-loop
 Inv-loop m n precedences k₀ i₀ k i = (i ≤ m) × (length k ≡ 135) × (fix-precedences (map precedence-of (drop i (take m precedences))) k ≡ fix-precedences (map precedence-of (take m precedences)) full-domains)

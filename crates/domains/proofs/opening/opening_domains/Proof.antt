@@ -3,9 +3,6 @@ use Rattle.model.specs.Branching.{opening-domains}
 use Rattle.domains.proofs.Openings.{valid-parts}
 use Rattle.domains.proofs.opening.opening_domains.Statement.{statement}
 use Rattle.domains.proofs.opening.opening_domains.Tie as tie
-use Rattle.domains.proofs.opening.opening_domains.Reads as reads
-use Rattle.domains.proofs.opening.opening_domains.Lts as lts
-use Rattle.domains.proofs.opening.fixed.Reads as fixed-reads
 
 -- src/opening.rt:42:5
 fixed-requires : tie.Need-fixed-requires

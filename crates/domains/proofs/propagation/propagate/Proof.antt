@@ -1,8 +1,8 @@
 use borrow.Author.Tests.{eqb-true, not-false}
-use mathlib.Core.Bool.{true, false, cond, false≢true}
+use mathlib.Core.Bool.{false, cond, false≢true}
 use mathlib.Core.List.{List, []}
 use mathlib.Core.Path.{_≡_, refl, sym, _∙_}
-use Prim.Native.Nat.{ℕ, _+_}
+use Prim.Native.Nat.{_+_}
 use Rattle.model.specs.Problem as M
 use Rattle.model.specs.Propagate.{sum}
 use Rattle.model.specs.Order.{WellFormed}
@@ -12,13 +12,6 @@ use Rattle.domains.proofs.Worked.{worked-none, goes-on, unchanged, turn
 use Rattle.domains.proofs.Settles.{Resting, chains-worked, ends-large, ends-empty, ends-rest}
 use Rattle.domains.proofs.propagation.propagate.Statement.{statement}
 use Rattle.domains.proofs.propagation.propagate.Tie as tie
-use Rattle.domains.proofs.propagation.propagate.Reads as reads
-use Rattle.domains.proofs.propagation.propagate.Lts as lts
-use Rattle.domains.proofs.chains.chains.Reads as chains-reads
-use Rattle.domains.proofs.propagation.any_large.Reads as any-large-reads
-use Rattle.domains.proofs.propagation.settle.Reads as settle-reads
-use Rattle.domains.proofs.propagation.total.Reads as total-reads
-use Rattle.domains.proofs.sweep.sweep_chains.Reads as sweep-chains-reads
 
 abbrev Inv-loop : tie.InvT-loop
 Inv-loop k₀ n sizes capacity changed₀ k changed =

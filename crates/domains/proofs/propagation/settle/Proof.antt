@@ -1,7 +1,7 @@
 use borrow.Author.Tests.{eqb-true, not-false}
-use mathlib.Core.Bool.{true, false, cond, false≢true}
+use mathlib.Core.Bool.{false, cond, false≢true}
 use mathlib.Core.Path.{_≡_, refl, sym, _∙_}
-use Prim.Native.Nat.{ℕ, _+_}
+use Prim.Native.Nat.{_+_}
 use Rattle.model.specs.Problem.{Problem}
 use Rattle.model.specs.Propagate.{sum}
 use Rattle.model.specs.Order.{WellFormed}
@@ -10,11 +10,6 @@ use Rattle.domains.specs.Propagated.{has-empty}
 use Rattle.domains.proofs.Worked.{bare, worked-none, goes-on, unchanged, turn-less}
 use Rattle.domains.proofs.propagation.settle.Statement.{statement}
 use Rattle.domains.proofs.propagation.settle.Tie as tie
-use Rattle.domains.proofs.propagation.settle.Reads as reads
-use Rattle.domains.proofs.propagation.settle.Lts as lts
-use Rattle.domains.proofs.propagation.any_empty.Reads as any-empty-reads
-use Rattle.domains.proofs.propagation.total.Reads as total-reads
-use Rattle.domains.proofs.sweep.sweep_rules.Reads as sweep-rules-reads
 
 abbrev Inv-loop : tie.InvT-loop
 Inv-loop k₀ n changed₀ k changed =

@@ -1,4 +1,3 @@
-use borrow.Author.Needs.{needs}
 use native.Mathlib.Omega.{arith}
 use mathlib.Core.Path.{_≡_, refl, _∙_, ap}
 use Prim.Native.Nat.{ℕ, _-_, _≤_, _<_}
@@ -7,14 +6,10 @@ use lib.Seq.{getD-set-other}
 use Rattle.instance.specs.declared.Position.{Position}
 use Rattle.instance.specs.Meaning.{start, positions-of}
 use Rattle.instance.specs.Values.{origin}
-use Rattle.domains.proofs.Tests.{stored-more}
+use Rattle.relations.proofs.Tests.{stored-more}
 use Rattle.domains.proofs.Packings.{blank-at, position-at, start-of-position, start-is, starts-at}
 use Rattle.domains.proofs.starts.starts_of.Statement.{statement}
 use Rattle.domains.proofs.starts.starts_of.Tie as tie
-use Rattle.domains.proofs.starts.starts_of.Reads as reads
-use Rattle.domains.proofs.starts.starts_of.Lts as lts
-use Rattle.domains.proofs.chains.chains.Reads as chains-reads
-use Rattle.domains.proofs.starts.start_at.Reads as start-at-reads
 
 abbrev Inv-loop : tie.InvT-loop
 Inv-loop k n sizes capacity ends positions₀ u₀ positions u = (u ≤ n) × (length positions ≡ 10) × ((x : ℕ) → x < u → getD positions x origin ≡ position-at ends sizes x) × ((x : ℕ) → u ≤ x → getD positions x origin ≡ origin)

@@ -1,6 +1,6 @@
 use borrow.Author.Tests.{not-true, not-false}
 use native.Mathlib.Omega.{arith}
-use mathlib.Core.Path.{_≡_, sym, _∙_}
+use mathlib.Core.Path.{sym, _∙_}
 use Prim.Native.Nat.{_≤_}
 use Rattle.model.specs.Order.{Proper}
 use Rattle.model.proofs.Below.{clash}
@@ -10,11 +10,6 @@ use Rattle.domains.proofs.Worked.{worked-none, worked-before, early-ask
 use borrow.Author.Needs.{needs}
 use Rattle.domains.proofs.sweep.apply_before.Statement.{statement}
 use Rattle.domains.proofs.sweep.apply_before.Tie as tie
-use Rattle.domains.proofs.sweep.apply_before.Reads as reads
-use Rattle.domains.proofs.sweep.apply_before.Lts as lts
-use Rattle.domains.proofs.access.may_before.Reads as may-before-reads
-use Rattle.domains.proofs.access.remove_before.Reads as remove-before-reads
-use Rattle.domains.proofs.rules.asks_before.Reads as asks-before-reads
 
 -- src/sweep.rt:20:9
 may-before-requires : tie.Need-may-before-requires

@@ -1,6 +1,6 @@
 use borrow.Author.Tests.{not-true, not-false}
 use native.Mathlib.Omega.{arith}
-use mathlib.Core.Path.{_≡_, sym, _∙_}
+use mathlib.Core.Path.{sym, _∙_}
 use Prim.Native.Nat.{_≤_}
 use Rattle.model.specs.Order.{Proper}
 use Rattle.model.proofs.Below.{clash}
@@ -10,11 +10,6 @@ use Rattle.domains.proofs.Worked.{worked-none, worked-overlap}
 use borrow.Author.Needs.{needs}
 use Rattle.domains.proofs.sweep.apply_overlap.Statement.{statement}
 use Rattle.domains.proofs.sweep.apply_overlap.Tie as tie
-use Rattle.domains.proofs.sweep.apply_overlap.Reads as reads
-use Rattle.domains.proofs.sweep.apply_overlap.Lts as lts
-use Rattle.domains.proofs.access.may_overlap.Reads as may-overlap-reads
-use Rattle.domains.proofs.access.remove_overlap.Reads as remove-overlap-reads
-use Rattle.domains.proofs.rules.asks_overlap.Reads as asks-overlap-reads
 
 -- src/sweep.rt:34:9
 may-overlap-requires : tie.Need-may-overlap-requires

@@ -4,10 +4,6 @@ use Rattle.domains.proofs.Worked.{worked-none, worked-then}
 use borrow.Author.Needs.{needs}
 use Rattle.domains.proofs.sweep.apply_rules.Statement.{statement}
 use Rattle.domains.proofs.sweep.apply_rules.Tie as tie
-use Rattle.domains.proofs.sweep.apply_rules.Reads as reads
-use Rattle.domains.proofs.sweep.apply_rules.Lts as lts
-use Rattle.domains.proofs.sweep.apply_before.Reads as apply-before-reads
-use Rattle.domains.proofs.sweep.apply_overlap.Reads as apply-overlap-reads
 
 -- src/sweep.rt:52:9
 returns : tie.Need-returns

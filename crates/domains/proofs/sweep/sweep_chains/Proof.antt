@@ -1,4 +1,3 @@
-use borrow.Author.Needs.{needs}
 use native.Mathlib.Omega.{arith}
 use mathlib.Core.Path.{_≡_}
 use Prim.Native.Nat.{_-_, _≤_}
@@ -8,9 +7,6 @@ use Rattle.domains.specs.Sweep.{Worked, ChainsRest, AtNumber, Asked}
 use Rattle.domains.proofs.Worked.{Upto, worked-start, worked-next, worked-everywhere, asked-less}
 use Rattle.domains.proofs.sweep.sweep_chains.Statement.{statement}
 use Rattle.domains.proofs.sweep.sweep_chains.Tie as tie
-use Rattle.domains.proofs.sweep.sweep_chains.Reads as reads
-use Rattle.domains.proofs.sweep.sweep_chains.Lts as lts
-use Rattle.domains.proofs.sweep.apply_chains.Reads as apply-chains-reads
 
 abbrev Inv-loop : tie.InvT-loop
 Inv-loop k₀ n capacity ends starts i₀ k i = (i ≤ 300) × WellFormed k × ((p : Problem) → p .items ≡ n → Asked p k₀ capacity ends starts → Worked p (Upto (AtNumber n (ChainsRest capacity ends starts)) i) k₀ k)

@@ -1,4 +1,3 @@
-use borrow.Author.Needs.{needs}
 use native.Mathlib.Omega.{arith}
 use mathlib.Core.Path.{_≡_}
 use Prim.Native.Nat.{_-_, _≤_}
@@ -8,9 +7,6 @@ use Rattle.domains.specs.Sweep.{Worked, RulesRest, AtNumber}
 use Rattle.domains.proofs.Worked.{Upto, worked-start, worked-next, worked-everywhere}
 use Rattle.domains.proofs.sweep.sweep_rules.Statement.{statement}
 use Rattle.domains.proofs.sweep.sweep_rules.Tie as tie
-use Rattle.domains.proofs.sweep.sweep_rules.Reads as reads
-use Rattle.domains.proofs.sweep.sweep_rules.Lts as lts
-use Rattle.domains.proofs.sweep.apply_rules.Reads as apply-rules-reads
 
 abbrev Inv-loop : tie.InvT-loop
 Inv-loop k₀ n i₀ k i = (i ≤ 300) × WellFormed k × ((p : Problem) → p .items ≡ n → Worked p (Upto (AtNumber n (RulesRest p)) i) k₀ k)
