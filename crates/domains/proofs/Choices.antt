@@ -5,28 +5,30 @@ use mathlib.Core.Path.{_≡_, refl, sym, _∙_, ap}
 use Prim.Native.Nat.{ℕ, _+_, _*_, _≤_, _<_}
 use native.Mathlib.Omega.{arith}
 use lib.Dec.{eqb, ltb}
-use lib.ListN.{getD, length}
-use borrow.Author.Tests.{eqb-true, lt-ltb, ltb-true, not-true, not-false}
+use lib.ListN.{getD}
+use borrow.Author.Tests.{eqb-true, lt-ltb, ltb-true, not-true}
 use Rattle.model.specs.Below.{all-below}
 use Rattle.model.specs.Problem.{Problem}
 use Rattle.model.specs.Domains.{Domains, Pair, pairs, pair-number}
 use Rattle.model.specs.Branching.{separated, packed, undecided, choice-axis, choice}
-use Rattle.model.specs.Order.{Rising}
 use Rattle.model.proofs.Below.{all-at, all-of, and-both, clash, First}
 use Rattle.model.proofs.Slots.{no-pair, pair-of, pairs-count, pairs-rise, pairs-sorted, pair-number-small, pair-at-number}
-use Rattle.model.proofs.Fork.{unseparated-pair, choice-pair-is, choice-axis-is}
+use Rattle.model.proofs.Fork.{unseparated-pair, choice-pair-is}
 use Rattle.domains.specs.Choice.{PairTable, separated-on, open-pair, Chosen}
 use Rattle.domains.specs.declared.Branching.the-variants.{Packed, At}
-use Rattle.domains.proofs.Tests.{some-axis}
+use Rattle.relations.proofs.Tests.{some-axis}
 
 -- One computed test of a whole table
 abbrev right : List ℕ → ℕ → Bool
 right t j = eqb (getD t (2 * j) 0) (pair-of j .u) && eqb (getD t (2 * j + 1) 0) (pair-of j .v)
 
 pub table-right : (t : List ℕ) → all-below 45 (right t) ≡ true → PairTable t
-table-right t e j h =
-    let q = and-both (eqb (getD t (2 * j) 0) (pair-of j .u)) (eqb (getD t (2 * j + 1) 0) (pair-of j .v)) (all-at 45 (right t) e j h) in
-    (eqb-true _ _ (q .0), eqb-true _ _ (q .1))
+table-right t e = record { at = at }
+  where
+    at : (j : ℕ) → j < 45 → (getD t (2 * j) 0 ≡ pair-of j .u) × (getD t (2 * j + 1) 0 ≡ pair-of j .v)
+    at j h =
+        let q = and-both (eqb (getD t (2 * j) 0) (pair-of j .u)) (eqb (getD t (2 * j + 1) 0) (pair-of j .v)) (all-at 45 (right t) e j h) in
+        (eqb-true _ _ (q .0), eqb-true _ _ (q .1))
 
 last-pair : pair-of 44 .v ≡ 9
 unfolding pairs
@@ -34,7 +36,7 @@ last-pair = refl
 
 pub pair-bounds : (t : List ℕ) → PairTable t → (j : ℕ) → j < 45 → (getD t (2 * j) 0 < 10) × (getD t (2 * j + 1) 0 < 10)
 pair-bounds t h j l =
-    let e = h j l in
+    let e = h .at j l in
     let s = pairs-sorted 44 j (omega arith) (omega arith) in
     (omega (arith, pairs-rise j l, last-pair, s, e .0), omega (arith, last-pair, s, e .1))
 
@@ -49,7 +51,14 @@ or-none false = refl
 -- no axis has more than one relation left
 pub axis-none : (k : Domains) (u v : ℕ) → ((a : ℕ) → a < 3 → undecided k a u v ≡ false) → choice-axis k u v ≡ 0
 unfolding choice-axis
-axis-none k u v h = rw (h 0 (omega arith), h 1 (omega arith), h 2 (omega arith)) refl
+axis-none k u v h = go (undecided k 0 u v) (undecided k 1 u v) (undecided k 2 u v) (h 0 (omega arith)) (h 1 (omega arith)) (h 2 (omega arith))
+  where
+    go : (x y z : Bool) → x ≡ false → y ≡ false → z ≡ false
+        → _≡_ {A = ℕ} (elim x as (λ _. ℕ) [ true ↦ 0 | false ↦ elim y as (λ _. ℕ) [ true ↦ 1 | false ↦ elim z as (λ _. ℕ) [ true ↦ 2 | false ↦ 0 ] ] ]) 0
+    go true y z e f g = absurd (false≢true (sym e))
+    go false true z e f g = absurd (false≢true (sym f))
+    go false false true e f g = absurd (false≢true (sym g))
+    go false false false e f g = refl
 
 module _ (k : Domains) (n : ℕ) (limited : n ≤ 10) where
   abbrev pub open-at : ℕ → Bool

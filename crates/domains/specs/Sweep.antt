@@ -1,49 +1,15 @@
 -- What a sweep over the relations does: it removes only what some rule asks for, and where it changes nothing, nothing is asked for.
-use mathlib.Core.Bool.{Bool, true, false, not, _&&_, _||_}
+use mathlib.Core.Bool.{Bool, true, false}
 use mathlib.Core.List.{List}
 use mathlib.Core.Path.{_≡_}
-use Prim.Native.Nat.{ℕ, _+_, _*_, _/_, _%_, _≤_, _<_}
-use lib.Dec.{eqb, ltb}
+use Prim.Native.Nat.{ℕ, _+_, _*_, _/_, _%_, _≤_}
+use lib.Dec.{ltb}
 use lib.ListN.{getD, length}
-use Rattle.model.specs.Below.{some-below}
 use Rattle.model.specs.Problem.{Problem}
-use Rattle.model.specs.Domains.{Domains, may-overlap, may-before, fixed-before, fixed-overlap}
-use Rattle.model.specs.Rules.{rule2, rule3, rule4, asks-overlap, asks-before}
+use Rattle.model.specs.Domains.{Domains, may-overlap, may-before}
+use Rattle.model.specs.Rules.{asks-overlap, asks-before}
 use Rattle.model.specs.Order.{Proper, WellFormed, _⊑_, Between}
-
--- What each rule asks of one further item
-module _ (k : Domains) (a u v : ℕ) where
-  -- 1, of the axis b
-  abbrev pub other-overlaps : ℕ → Bool
-  other-overlaps b = eqb b a || fixed-overlap k b u v
-
-  -- 2
-  abbrev pub through : ℕ → Bool
-  through w = fixed-before k a u w && fixed-before k a w v
-
-  -- 3
-  abbrev pub blocked-before : ℕ → Bool
-  blocked-before w = fixed-before k a w u && not (may-before k a w v)
-
-  abbrev pub blocked-after : ℕ → Bool
-  blocked-after w = fixed-before k a v w && not (may-before k a u w)
-
-  abbrev pub blocked : ℕ → Bool
-  blocked w = blocked-before w || blocked-after w
-
-  -- 4
-  abbrev pub beside : ℕ → Bool
-  beside x = fixed-overlap k a x u && fixed-overlap k a v x
-
-  abbrev pub across : ℕ → ℕ → Bool
-  across x y = (fixed-overlap k a u y && fixed-overlap k a y v) && not (may-overlap k a x y)
-
-abbrev pub around : Domains → ℕ → ℕ → ℕ → ℕ → ℕ → Bool
-around k n a u v x = beside k a u v x && some-below n (across k a u v x)
-
--- rules 2 to 4 ask to remove "u before v"
-abbrev pub early-before : Problem → Domains → ℕ → ℕ → ℕ → Bool
-early-before p k a u v = rule2 p k a v u || (rule3 p k a u v || rule4 p k a u v)
+use Rattle.relations.specs.Parts.{early-before}
 
 -- the tables say that the greatest chains around "u before v" are together longer than the container
 abbrev pub exceeds : List ℕ → List ℕ → List ℕ → ℕ → ℕ → ℕ → Bool
@@ -55,6 +21,10 @@ pub record Worked (p : Problem) (A : Domains → Type 0) (k j : Domains) : Type 
   pub less : j ⊑ k
   pub kept : (h : Domains) → WellFormed h → Between p h k → Between p h j
   pub still : j ≡ k → A k
+
+-- nothing is said of domains that stay as they are
+abbrev pub Anything : Domains → Type 0
+Anything k = Unit {0}
 
 -- rules 1 to 4 ask for nothing that is left of u and v
 abbrev pub BeforeRests : Problem → ℕ → ℕ → ℕ → Domains → Type 0

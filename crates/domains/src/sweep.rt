@@ -1,16 +1,15 @@
 // Sweeps over all relations: each that a rule asks for is removed.
 ghost use mathlib.Core.Path.{_≡_};
-ghost use Prim.Native.Nat.{_<_, _≤_};
+ghost use Prim.Native.Nat.{_<_};
 ghost use Rattle.model.specs.Problem.{Problem};
 ghost use Rattle.model.specs.Order.{Proper, WellFormed};
-ghost use Rattle.domains.specs.Access.{InRange};
 ghost use Rattle.domains.specs.Sweep.{Items, Worked, RulesRest, BeforeRests, OverlapRests, ChainsRest, Everywhere, AtNumber, Asked, Tables, exceeds};
-use crate::access::may_before;
-use crate::access::may_overlap;
-use crate::access::remove_before;
-use crate::access::remove_overlap;
-use crate::rules::asks_before;
-use crate::rules::asks_overlap;
+use relations::access::may_before;
+use relations::access::may_overlap;
+use relations::access::remove_before;
+use relations::access::remove_overlap;
+use relations::rules::asks_before;
+use relations::rules::asks_overlap;
 
 // "u before v", by rules 2 to 4.
 fn apply_before(k: &mut [u8; 135], n: usize, a: usize, u: usize, v: usize)

@@ -2,12 +2,6 @@ use Rattle.model.proofs.Removal.{fix-overlap-well-formed, remove-overlap-well-f
 use borrow.Author.Needs.{needs}
 use Rattle.domains.proofs.branch.apply_branch.Statement.{statement}
 use Rattle.domains.proofs.branch.apply_branch.Tie as tie
-use Rattle.domains.proofs.branch.apply_branch.Reads as reads
-use Rattle.domains.proofs.branch.apply_branch.Lts as lts
-use Rattle.domains.proofs.access.fix_overlap.Reads as fix-overlap-reads
-use Rattle.domains.proofs.access.may_overlap.Reads as may-overlap-reads
-use Rattle.domains.proofs.access.remove_before.Reads as remove-before-reads
-use Rattle.domains.proofs.access.remove_overlap.Reads as remove-overlap-reads
 
 -- src/branch.rt:203:8
 may-overlap-requires : tie.Need-may-overlap-requires

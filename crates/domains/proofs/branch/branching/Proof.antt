@@ -1,24 +1,17 @@
 use borrow.Author.Needs.{needs}
 use native.Mathlib.Omega.{arith}
 use mathlib.Core.Bool.{false}
-use mathlib.Core.Path.{_≡_, refl, sym, _∙_, ap, subst}
-use Prim.Native.Nat.{ℕ, _*_, _-_, _≤_, _<_}
-use lib.ListN.{getD}
-use Rattle.model.specs.Branching.{undecided, choice-axis}
+use mathlib.Core.Path.{_≡_, refl, sym, _∙_}
+use Prim.Native.Nat.{ℕ, _-_, _≤_, _<_}
+use Rattle.model.specs.Branching.{undecided}
 use Rattle.model.proofs.Fork.{choice-axis-is}
 use Rattle.model.proofs.Slots.{pair-of}
-use Rattle.domains.specs.declared.Branching.{Branching}
-use Rattle.domains.specs.declared.Branching.the-variants.{Packed, At}
-use Rattle.domains.specs.Choice.{PairTable, Chosen, open-pair}
-use Rattle.domains.proofs.Tests.{None, none-yet, none-more}
+use Rattle.domains.specs.declared.Branching.the-variants.{Packed}
+use Rattle.domains.specs.Choice.{open-pair}
+use Rattle.relations.proofs.Tests.{none-yet, none-more}
 use Rattle.domains.proofs.Choices.{pair-bounds, packed-of, chosen-at, axis-none}
 use Rattle.domains.proofs.branch.branching.Statement.{statement}
 use Rattle.domains.proofs.branch.branching.Tie as tie
-use Rattle.domains.proofs.branch.branching.Reads as reads
-use Rattle.domains.proofs.branch.branching.Lts as lts
-use Rattle.domains.proofs.branch.is_open.Reads as is-open-reads
-use Rattle.domains.proofs.branch.pair_table.Reads as pair-table-reads
-use Rattle.domains.proofs.branch.undecided.Reads as undecided-reads
 
 abbrev Inv-loop : tie.InvT-loop
 Inv-loop k n number u v a₀ a = (a ≤ 3) × ((b : ℕ) → b < a → undecided k b u v ≡ false)
@@ -110,12 +103,11 @@ found-less c = search needs
 found-again : tie.Need-found-again Inv-loop μ-loop Inv-found μ-found
 found-again c =
     let a = c .before .before .before .before .before .args in
-    let e = c .before .before .before .before .pair-table .ensures (c .before .before .before .found .number) (c .before .before .found-test .taken) in
-    (
+    let e = c .before .before .before .before .pair-table .ensures .at (c .before .before .before .found .number) (c .before .before .found-test .taken) in (
       omega arith,
       c .before .before .before .found .inv .1,
       none-more (λ j. open-pair (a .k .now) (a .n) (pair-of j .u) (pair-of j .v)) (c .before .before .before .found .number) (c .before .before .before .found .inv .2)
-      (rw (← (e .0), ← (e .1)) (sym (c .before .is-open .ensures) ∙ c .if1 .left)),
+          (rw (← (e .0), ← (e .1)) (sym (c .before .is-open .ensures) ∙ c .if1 .left)),
     )
 
 -- src/branch.rt:172:1
@@ -129,7 +121,7 @@ returns c =
 returns-2 : tie.Need-returns-2 Inv-loop μ-loop Inv-found μ-found
 returns-2 c =
     let a = c .before .before .before .before .before .before .before .before .before .args in
-    let e = c .before .before .before .before .before .before .before .before .pair-table .ensures (c .before .before .before .before .before .before .before .found .number) (c .before .before .before .before .before .before .found-test .taken) in
+    let e = c .before .before .before .before .before .before .before .before .pair-table .ensures .at (c .before .before .before .before .before .before .before .found .number) (c .before .before .before .before .before .before .found-test .taken) in
     chosen-at (a .k .now) (a .n) (c .before .before .before .before .before .before .before .before .before .pre .1) (c .before .before .before .before .before .before .before .found .number) (c .before .before .before .loop .a) _ _ (c .before .before .before .before .before .before .found-test .taken) (e .0) (e .1)
     (sym (c .before .before .before .before .before .is-open .ensures) ∙ c .before .before .before .before .if1 .taken) (c .before .before .before .before .before .before .before .found .inv .2)
     (choice-axis-is (a .k .now) _ _ (c .before .before .before .loop .a) (c .before .before .loop-test .taken) (sym (c .before .undecided .ensures) ∙ c .if2 .taken) (c .before .before .before .loop .inv .1))
@@ -139,7 +131,7 @@ returns-2 c =
 returns-3 : tie.Need-returns-3 Inv-loop μ-loop Inv-found μ-found
 returns-3 c =
     let a = c .before .before .before .before .before .before .before .args in
-    let e = c .before .before .before .before .before .before .pair-table .ensures (c .before .before .before .before .before .found .number) (c .before .before .before .before .found-test .taken) in
+    let e = c .before .before .before .before .before .before .pair-table .ensures .at (c .before .before .before .before .before .found .number) (c .before .before .before .before .found-test .taken) in
     chosen-at (a .k .now) (a .n) (c .before .before .before .before .before .before .before .pre .1) (c .before .before .before .before .before .found .number) 0 _ _ (c .before .before .before .before .found-test .taken) (e .0) (e .1)
     (sym (c .before .before .before .is-open .ensures) ∙ c .before .before .if1 .taken) (c .before .before .before .before .before .found .inv .2)
     (axis-none (a .k .now) _ _ (λ b l. c .before .loop .inv .1 b (omega arith)))

@@ -2,9 +2,6 @@ use borrow.Author.Tests.{le-ltb, lt-ltb}
 use borrow.Author.Needs.{needs}
 use Rattle.domains.proofs.branch.is_open.Statement.{statement}
 use Rattle.domains.proofs.branch.is_open.Tie as tie
-use Rattle.domains.proofs.branch.is_open.Reads as reads
-use Rattle.domains.proofs.branch.is_open.Lts as lts
-use Rattle.domains.proofs.branch.separated.Reads as separated-reads
 
 -- src/branch.rt:149:9
 returns : tie.Need-returns

@@ -2,9 +2,6 @@ use Rattle.domains.proofs.Choices.{separated-is}
 use borrow.Author.Needs.{needs}
 use Rattle.domains.proofs.branch.separated.Statement.{statement}
 use Rattle.domains.proofs.branch.separated.Tie as tie
-use Rattle.domains.proofs.branch.separated.Reads as reads
-use Rattle.domains.proofs.branch.separated.Lts as lts
-use Rattle.domains.proofs.branch.separated_on.Reads as separated-on-reads
 
 -- src/branch.rt:134:8
 separated-on-requires : tie.Need-separated-on-requires

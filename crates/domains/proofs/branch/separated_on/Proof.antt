@@ -1,9 +1,6 @@
 use borrow.Author.Needs.{needs}
 use Rattle.domains.proofs.branch.separated_on.Statement.{statement}
 use Rattle.domains.proofs.branch.separated_on.Tie as tie
-use Rattle.domains.proofs.branch.separated_on.Reads as reads
-use Rattle.domains.proofs.branch.separated_on.Lts as lts
-use Rattle.domains.proofs.access.fixed_before.Reads as fixed-before-reads
 
 -- src/branch.rt:123:8
 fixed-before-requires : tie.Need-fixed-before-requires

@@ -3,10 +3,6 @@ use Rattle.domains.proofs.Choices.{or-none}
 use borrow.Author.Needs.{needs}
 use Rattle.domains.proofs.branch.undecided.Statement.{statement}
 use Rattle.domains.proofs.branch.undecided.Tie as tie
-use Rattle.domains.proofs.branch.undecided.Reads as reads
-use Rattle.domains.proofs.branch.undecided.Lts as lts
-use Rattle.domains.proofs.access.may_before.Reads as may-before-reads
-use Rattle.domains.proofs.access.may_overlap.Reads as may-overlap-reads
 
 -- src/branch.rt:159:8
 may-overlap-requires : tie.Need-may-overlap-requires

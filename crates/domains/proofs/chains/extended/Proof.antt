@@ -1,18 +1,12 @@
 use borrow.Author.Needs.{needs}
 use native.Mathlib.Omega.{arith}
-use mathlib.Core.Path.{_≡_, sym, ap, _∙_}
-use Prim.Native.Nat.{ℕ, _+_, _*_, _-_, _≤_}
+use mathlib.Core.Path.{_≡_, sym, _∙_}
+use Prim.Native.Nat.{_+_, _*_, _-_, _≤_}
 use Rattle.domains.specs.Shape.{size-at}
 use Rattle.domains.specs.Chains.{extend, on-axis}
 use Rattle.domains.proofs.Totals.{extend-none, extend-next, extend-le}
 use Rattle.domains.proofs.chains.extended.Statement.{statement}
 use Rattle.domains.proofs.chains.extended.Tie as tie
-use Rattle.domains.proofs.chains.extended.Reads as reads
-use Rattle.domains.proofs.chains.extended.Lts as lts
-use Rattle.domains.proofs.chains.is_linked.Reads as is-linked-reads
-use Rattle.domains.proofs.chains.widen.Reads as widen-reads
-use Rattle.domains.proofs.chains.with_chain.Reads as with-chain-reads
-use Rattle.domains.proofs.layout.size_of.Reads as size-of-reads
 
 abbrev Inv-loop : tie.InvT-loop
 Inv-loop k n sizes t a u ending size best₀ v₀ best v = (v ≤ n) × (best ≡ extend k sizes ending a (on-axis t a) u v)

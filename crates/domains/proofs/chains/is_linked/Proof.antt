@@ -1,9 +1,6 @@
 use borrow.Author.Needs.{needs}
 use Rattle.domains.proofs.chains.is_linked.Statement.{statement}
 use Rattle.domains.proofs.chains.is_linked.Tie as tie
-use Rattle.domains.proofs.chains.is_linked.Reads as reads
-use Rattle.domains.proofs.chains.is_linked.Lts as lts
-use Rattle.domains.proofs.access.fixed_before.Reads as fixed-before-reads
 
 -- src/chains.rt:23:9
 fixed-before-requires : tie.Need-fixed-before-requires

@@ -3,8 +3,6 @@ use native.Mathlib.Omega.{arith}
 use borrow.Author.Needs.{needs}
 use Rattle.domains.proofs.chains.with_chain.Statement.{statement}
 use Rattle.domains.proofs.chains.with_chain.Tie as tie
-use Rattle.domains.proofs.chains.with_chain.Reads as reads
-use Rattle.domains.proofs.chains.with_chain.Lts as lts
 
 -- src/chains.rt:34:9
 returns : tie.Need-returns

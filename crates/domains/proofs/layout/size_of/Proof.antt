@@ -3,8 +3,6 @@ use Rattle.domains.proofs.Shapes.{size-at-is}
 use borrow.Author.Needs.{needs}
 use Rattle.domains.proofs.layout.size_of.Statement.{statement}
 use Rattle.domains.proofs.layout.size_of.Tie as tie
-use Rattle.domains.proofs.layout.size_of.Reads as reads
-use Rattle.domains.proofs.layout.size_of.Lts as lts
 
 -- src/layout.rt:42:11
 mul-result : tie.Need-mul-result

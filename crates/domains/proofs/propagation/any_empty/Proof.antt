@@ -1,4 +1,3 @@
-use borrow.Author.Needs.{needs}
 use borrow.Author.Tests.{eq-eqb, ne-eqb}
 use native.Mathlib.Omega.{arith}
 use mathlib.Core.Bool.{Bool}
@@ -8,11 +7,9 @@ use lib.Dec.{eqb}
 use lib.ListN.{getD}
 use Rattle.domains.specs.Propagated.{domain-count, has-empty}
 use Rattle.domains.proofs.Bits.{square-bounds, domain-count-small}
-use Rattle.domains.proofs.Tests.{None, none-yet, none-more, found, none-found}
+use Rattle.relations.proofs.Tests.{None, none-yet, none-more, found, none-found}
 use Rattle.domains.proofs.propagation.any_empty.Statement.{statement}
 use Rattle.domains.proofs.propagation.any_empty.Tie as tie
-use Rattle.domains.proofs.propagation.any_empty.Reads as reads
-use Rattle.domains.proofs.propagation.any_empty.Lts as lts
 
 abbrev is-empty : List ℕ → ℕ → Bool
 is-empty k i = eqb (getD k i 0) 0

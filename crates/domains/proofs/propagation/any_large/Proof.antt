@@ -3,12 +3,9 @@ use native.Mathlib.Omega.{arith}
 use mathlib.Core.Path.{sym, _∙_}
 use Prim.Native.Nat.{_-_, _≤_}
 use Rattle.domains.specs.Propagated.{large-at, has-large}
-use Rattle.domains.proofs.Tests.{None, none-yet, none-more, found, none-found}
+use Rattle.relations.proofs.Tests.{None, none-yet, none-more, found, none-found}
 use Rattle.domains.proofs.propagation.any_large.Statement.{statement}
 use Rattle.domains.proofs.propagation.any_large.Tie as tie
-use Rattle.domains.proofs.propagation.any_large.Reads as reads
-use Rattle.domains.proofs.propagation.any_large.Lts as lts
-use Rattle.domains.proofs.propagation.is_large.Reads as is-large-reads
 
 abbrev Inv-loop : tie.InvT-loop
 Inv-loop n sizes capacity i₀ i = (i ≤ 30) × None (large-at n sizes capacity) i

@@ -2,8 +2,6 @@ use borrow.Author.Tests.{le-ltb, lt-ltb}
 use borrow.Author.Needs.{needs}
 use Rattle.domains.proofs.propagation.is_large.Statement.{statement}
 use Rattle.domains.proofs.propagation.is_large.Tie as tie
-use Rattle.domains.proofs.propagation.is_large.Reads as reads
-use Rattle.domains.proofs.propagation.is_large.Lts as lts
 
 -- src/propagation.rt:57:9
 returns : tie.Need-returns

@@ -1,16 +1,13 @@
 use borrow.Author.Needs.{needs}
 use native.Mathlib.Omega.{arith}
-use mathlib.Core.Path.{_≡_, refl, sym, ap, _∙_}
-use Prim.Native.Nat.{ℕ, _+_, _-_, _*_, _≤_}
-use lib.ListN.{take, length}
+use mathlib.Core.Path.{_≡_, refl}
+use Prim.Native.Nat.{_-_, _*_, _≤_}
+use lib.ListN.{take}
 use lib.Seq.{take-all}
 use Rattle.model.specs.Propagate.{sum}
 use Rattle.domains.proofs.Sums.{sum-next}
 use Rattle.domains.proofs.propagation.total.Statement.{statement}
 use Rattle.domains.proofs.propagation.total.Tie as tie
-use Rattle.domains.proofs.propagation.total.Reads as reads
-use Rattle.domains.proofs.propagation.total.Lts as lts
-use Rattle.domains.proofs.propagation.wide.Reads as wide-reads
 
 abbrev Inv-loop : tie.InvT-loop
 Inv-loop k s₀ i₀ s i = (i ≤ 135) × (s ≡ sum (take i k)) × (s ≤ 255 * i)

@@ -3,9 +3,6 @@ use Prim.Native.Nat.{_+_, _*_}
 use borrow.Author.Needs.{needs}
 use Rattle.domains.proofs.sweep.is_too_long.Statement.{statement}
 use Rattle.domains.proofs.sweep.is_too_long.Tie as tie
-use Rattle.domains.proofs.sweep.is_too_long.Reads as reads
-use Rattle.domains.proofs.sweep.is_too_long.Lts as lts
-use Rattle.domains.proofs.sweep.widen.Reads as widen-reads
 
 -- src/sweep.rt:88:19
 mul-widen : tie.Need-mul-widen
