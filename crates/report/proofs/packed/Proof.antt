@@ -31,7 +31,7 @@ same-length c = omega (arith, c .before .before .before .before .before .before 
 
 -- src/lib.rt:16:1
 returns : tie.Need-returns
-returns c = 
+returns c =
     let a = c .before .before .before .before .before .before .before .before .before .before .args in
     let w = c .before .before .before .before .before .before .put-answer .ensures in
     let x = c .before .before .put-items .ensures in

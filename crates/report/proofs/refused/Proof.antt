@@ -59,7 +59,7 @@ same-length c = simp length-set (omega (arith, c .before .before .before .before
 
 -- src/lib.rt:44:1
 returns : tie.Need-returns
-returns c = 
+returns c =
     let a = c .before .before .before .before .before .before .before .before .before .before .before .before .before .before .before .before .args in
     let w = c .before .before .before .before .before .before .before .before .before .before .before .before .put-bytes .ensures in
     let n = c .before .before .before .before .before .before .before .before .number in

@@ -117,7 +117,7 @@ put-decimal-returns-2 : (t : ℕ) → put-decimal-lts.Need-returns-2 (
   put-decimal-below t,
   put-decimal.Post,
 ) (put-decimal-at t) put-decimal.Post
-put-decimal-returns-2 t c = 
+put-decimal-returns-2 t c =
     let e = decimal-more (c .before .before .before .before .before .before .args .n) (c .before .before .before .before .if1 .left) in
     let w = c .before .before .put-decimal in
     let a = c .before .before .before .before .before .before .args in

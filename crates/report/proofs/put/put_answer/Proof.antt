@@ -32,7 +32,7 @@ same-length c = simp length-set (omega (arith, c .before .before .before .before
 
 -- src/put.rt:50:1
 returns : tie.Need-returns
-returns c = 
+returns c =
     let a = c .before .before .before .before .before .before .before .before .before .before .args in
     let w = c .before .before .before .before .before .before .put-bytes .ensures in
     let x = c .before .before .put-field .ensures in

@@ -52,7 +52,7 @@ loop-less c = search needs
 
 -- src/put.rt:84:5
 loop-again : tie.Need-loop-again Inv-loop μ-loop
-loop-again c = 
+loop-again c =
     let l = c .before .before .before .before .before .before .loop in
     let w = c .before .before .put-item in
     let next = items-next (c .before .before .before .before .before .before .before .before .before .args .packing) (l .u) in
@@ -64,7 +64,7 @@ same-length c = c .before .loop .inv .3
 
 -- src/put.rt:76:1
 returns : tie.Need-returns Inv-loop μ-loop
-returns c = 
+returns c =
     let l = c .before .loop in
     let e : l .u ≡ c .before .before .before .before .args .n = omega arith in
     ((rw (← e) (l .inv .1), omega arith), rw (← e) (l .inv .2))
