@@ -1,3 +1,4 @@
+-- `report::packed` meets its contract.
 use borrow.Author.Needs.{needs}
 use native.Mathlib.Omega.{arith}
 use mathlib.Core.Path.{_≡_, _∙_}
@@ -8,28 +9,19 @@ use Rattle.report.specs.Text.{placed, answer-line, item-lines, packed-te
 use Rattle.report.proofs.Puts.{joined}
 use Rattle.report.proofs.packed.Statement.{statement}
 use Rattle.report.proofs.packed.Tie as tie
-use Rattle.report.proofs.packed.Reads as reads
-use Rattle.report.proofs.packed.Lts as lts
-use Rattle.report.proofs.put.put_answer.Reads as put-answer-reads
-use Rattle.report.proofs.put.put_items.Reads as put-items-reads
 
--- src/lib.rt:21:34
 slice-aggregate-put-answer : tie.Need-slice-aggregate-put-answer
 slice-aggregate-put-answer c = search needs
 
--- src/lib.rt:21:9
 put-answer-requires : tie.Need-put-answer-requires
 put-answer-requires c κs = (omega arith, omega arith)
 
--- src/lib.rt:22:5
 put-items-requires : tie.Need-put-items-requires
 put-items-requires c κs = (omega arith, omega (arith, c .before .before .before .put-answer .kept .0))
 
--- src/lib.rt:16:1
 same-length : tie.Need-same-length
 same-length c = omega (arith, c .before .before .before .before .before .before .put-answer .kept .0, c .before .before .put-items .kept .0)
 
--- src/lib.rt:16:1
 returns : tie.Need-returns
 returns c =
     let a = c .before .before .before .before .before .before .before .before .before .before .args in

@@ -1,8 +1,9 @@
+-- `report::refused` meets its contract.
 use Prim.Native.Nat.{_≤_}
 use lib.ListN.{length}
 use borrow.Author.Needs.{needs}
 use native.Mathlib.Omega.{arith}
-use mathlib.Core.Path.{_≡_, _∙_}
+use mathlib.Core.Path.{_∙_}
 use lib.ListN.{length-set}
 use Rattle.records.proofs.Writers.{sets-front}
 use Rattle.report.specs.Text.{refused, refused-text}
@@ -10,54 +11,37 @@ use Rattle.report.proofs.Decimals.{decimal-short}
 use Rattle.report.proofs.Puts.{refused-length, refused-run}
 use Rattle.report.proofs.refused.Statement.{statement}
 use Rattle.report.proofs.refused.Tie as tie
-use Rattle.report.proofs.refused.Reads as reads
-use Rattle.report.proofs.refused.Lts as lts
-use Rattle.refusal.proofs.Refusal.number.Reads as number-reads
-use Rattle.refusal.proofs.Refusal.place.Reads as place-reads
-use Rattle.report.proofs.put.put_bytes.Reads as put-bytes-reads
-use Rattle.report.proofs.put.put_field.Reads as put-field-reads
 
--- src/lib.rt:49:36
 slice-aggregate-put-bytes : tie.Need-slice-aggregate-put-bytes
 slice-aggregate-put-bytes c = search needs
 
--- src/lib.rt:49:9
 put-bytes-requires : tie.Need-put-bytes-requires
 put-bytes-requires c κs = omega arith
 
--- src/lib.rt:50:36
 number-requires : tie.Need-number-requires
 number-requires c κs = search needs
 
--- src/lib.rt:50:36
 cast-put-field : tie.Need-cast-put-field
 cast-put-field c = search needs
 
--- src/lib.rt:50:9
 put-field-requires : tie.Need-put-field-requires
 put-field-requires c κs = omega (arith, decimal-short 2 (c .number .result) (omega arith), c .before .before .before .before .put-bytes .kept .0)
 
--- src/lib.rt:51:36
 place-requires : tie.Need-place-requires
 place-requires c κs = search needs
 
--- src/lib.rt:51:9
 put-field-requires-2 : tie.Need-put-field-requires-2
 put-field-requires-2 c κs = omega (arith, decimal-short 2 (c .before .before .before .before .before .number .result) (omega (arith, c .before .before .before .before .before)), decimal-short 19 (c .place .result) (omega arith), c .before .before .before .before .before .before .before .before .before .put-bytes .kept .0, c .before .before .before .before .put-field .kept .0)
 
--- src/lib.rt:52:5
 slice-write-out : tie.Need-slice-write-out
 slice-write-out c = omega (arith, decimal-short 2 (c .before .before .before .before .before .before .before .before .number .result) (omega (arith, c .before .before .before .before .before .before .before .before)), decimal-short 19 (c .before .before .before .place .result) (omega (arith, c .before .before .before)), c .before .before .before .before .before .before .before .before .before .before .before .before .put-bytes .kept .0, c .before .before .before .before .before .before .before .put-field .kept .0, c .before .before .put-field2 .kept .0)
 
--- src/lib.rt:53:5
 add-result : tie.Need-add-result
 add-result c = omega (arith, decimal-short 2 (c .before .before .before .before .before .before .before .before .number .result) (omega (arith, c .before .before .before .before .before .before .before .before)), decimal-short 19 (c .before .before .before .place .result) (omega (arith, c .before .before .before)))
 
--- src/lib.rt:44:1
 same-length : tie.Need-same-length
 same-length c = simp length-set (omega (arith, c .before .before .before .before .before .before .before .before .before .before .before .before .put-bytes .kept .0, c .before .before .before .before .before .before .before .put-field .kept .0, c .before .before .put-field2 .kept .0))
 
--- src/lib.rt:44:1
 returns : tie.Need-returns
 returns c =
     let a = c .before .before .before .before .before .before .before .before .before .before .before .before .before .before .before .before .args in

@@ -1,3 +1,4 @@
+-- `relations::access::fix_before` meets its contract.
 use mathlib.Core.Path.{_∙_, ap}
 use lib.ListN.{length}
 use Rattle.model.specs.Domains.{Domains, remove-overlap, remove-before, fix-before, fix-overlap}
@@ -6,17 +7,14 @@ use borrow.Author.Needs.{needs}
 use Rattle.relations.proofs.access.fix_before.Statement.{statement}
 use Rattle.relations.proofs.access.fix_before.Tie as tie
 
--- src/access.rt:124:5
 remove-before-requires : tie.Need-remove-before-requires
 remove-before-requires c κs = search needs
 
--- src/access.rt:125:5
 remove-overlap-requires : tie.Need-remove-overlap-requires
 remove-overlap-requires c κs =
     let a = c .before .before .before .args in
     record { long = ap length (c .before .remove-before .ensures) ∙ (remove-before-long (a .k .now) (a .a) (a .v) (a .u) ∙ c .before .before .before .pre .long); proper = c .before .before .before .pre .proper }
 
--- src/access.rt:120:1
 returns : tie.Need-returns
 unfolding fix-before fix-overlap
 returns c =

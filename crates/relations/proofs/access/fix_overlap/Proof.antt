@@ -1,3 +1,4 @@
+-- `relations::access::fix_overlap` meets its contract.
 use mathlib.Core.Path.{_∙_, ap}
 use lib.ListN.{length}
 use Rattle.model.specs.Domains.{Domains, remove-before, fix-before, fix-overlap}
@@ -6,17 +7,14 @@ use borrow.Author.Needs.{needs}
 use Rattle.relations.proofs.access.fix_overlap.Statement.{statement}
 use Rattle.relations.proofs.access.fix_overlap.Tie as tie
 
--- src/access.rt:133:5
 remove-before-requires : tie.Need-remove-before-requires
 remove-before-requires c κs = search needs
 
--- src/access.rt:134:5
 remove-before-requires-2 : tie.Need-remove-before-requires-2
 remove-before-requires-2 c κs =
     let a = c .before .before .before .args in
     record { long = ap length (c .before .remove-before .ensures) ∙ (remove-before-long (a .k .now) (a .a) (a .v) (a .u) ∙ c .before .before .before .pre .long); proper = c .before .before .before .pre .proper }
 
--- src/access.rt:129:1
 returns : tie.Need-returns
 unfolding fix-before fix-overlap
 returns c =

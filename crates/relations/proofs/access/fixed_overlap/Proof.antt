@@ -1,22 +1,19 @@
+-- `relations::access::fixed_overlap` meets its contract.
 use Rattle.model.specs.Domains.{fixed-overlap}
 use borrow.Author.Needs.{needs}
 use Rattle.relations.proofs.access.fixed_overlap.Statement.{statement}
 use Rattle.relations.proofs.access.fixed_overlap.Tie as tie
 
--- src/access.rt:66:8
 may-before-requires : tie.Need-may-before-requires
 may-before-requires c κs = search needs
 
--- src/access.rt:67:9
 returns : tie.Need-returns
 unfolding fixed-overlap
 returns c = rw (← (c .before .may-before .ensures), c .if1 .taken)
 
--- src/access.rt:69:6
 may-before-requires-2 : tie.Need-may-before-requires-2
 may-before-requires-2 c κs = search needs
 
--- src/access.rt:62:1
 returns-2 : tie.Need-returns-2
 unfolding fixed-overlap
 returns-2 c = rw (← (c .before .before .may-before .ensures), c .before .if1 .left, ← (c .may-before2 .ensures))

@@ -1,3 +1,4 @@
+-- `relations::access::may_before` meets its contract.
 use mathlib.Core.Path.{_≡_, sym}
 use native.Mathlib.Omega.{arith}
 use Rattle.model.specs.Domains.{before-bit, after-bit}
@@ -6,33 +7,26 @@ use borrow.Author.Needs.{needs}
 use Rattle.relations.proofs.access.may_before.Statement.{statement}
 use Rattle.relations.proofs.access.may_before.Tie as tie
 
--- src/access.rt:40:13
 index-requires : tie.Need-index-requires
 index-requires c κs = search needs
 
--- src/access.rt:41:16
 element-copy-out-result : tie.Need-element-copy-out-result
 element-copy-out-result c = search needs
 
--- src/access.rt:41:9
 returns : tie.Need-returns
 unfolding before-bit
 returns c = rw (c .before .index .ensures .0) (sym (before-up (c .before .before .before .args .k .now) (c .before .before .before .args .a) (c .before .before .if1 .taken)))
 
--- src/access.rt:44:13
 index-requires-2 : tie.Need-index-requires-2
 index-requires-2 c κs = search needs
 
--- src/access.rt:45:16
 element-copy-out-result-2 : tie.Need-element-copy-out-result-2
 element-copy-out-result-2 c = search needs
 
--- src/access.rt:45:9
 returns-2 : tie.Need-returns-2
 unfolding after-bit
 returns-2 c = rw (c .before .index2 .ensures .0) (sym (before-down (c .before .before .before .before .args .k .now) (c .before .before .before .before .args .a) (c .before .before .if2 .taken)))
 
--- src/access.rt:35:1
 returns-3 : tie.Need-returns-3
 returns-3 c =
     let a = c .before .before .args in

@@ -1,3 +1,4 @@
+-- `relations::access::remove_overlap` meets its contract.
 use mathlib.Core.Path.{sym}
 use Prim.Native.Nat.{_<_}
 use native.Mathlib.Omega.{arith}
@@ -6,43 +7,33 @@ use borrow.Author.Needs.{needs}
 use Rattle.relations.proofs.access.remove_overlap.Statement.{statement}
 use Rattle.relations.proofs.access.remove_overlap.Tie as tie
 
--- src/access.rt:97:13
 index-requires : tie.Need-index-requires
 index-requires c κs = search needs
 
--- src/access.rt:98:32
 element-copy-out-without-overlap : tie.Need-element-copy-out-without-overlap
 element-copy-out-without-overlap c = search needs
 
--- src/access.rt:98:16
 without-overlap-requires : tie.Need-without-overlap-requires
 without-overlap-requires c κs = search needs
 
--- src/access.rt:98:9
 element-write-k : tie.Need-element-write-k
 element-write-k c = search needs
 
--- src/access.rt:99:9
 returns : tie.Need-returns
 returns c = rw (c .without-overlap .ensures, c .before .before .index .ensures .0) (sym (remove-overlap-up (c .before .before .before .before .args .k .now) (c .before .before .before .before .args .a) (c .before .before .before .if1 .taken)))
 
--- src/access.rt:101:9
 index-requires-2 : tie.Need-index-requires-2
 index-requires-2 c κs = search needs
 
--- src/access.rt:102:28
 element-copy-out-without-overlap-2 : tie.Need-element-copy-out-without-overlap-2
 element-copy-out-without-overlap-2 c = search needs
 
--- src/access.rt:102:12
 without-overlap-requires-2 : tie.Need-without-overlap-requires-2
 without-overlap-requires-2 c κs = search needs
 
--- src/access.rt:102:5
 element-write-k-2 : tie.Need-element-write-k-2
 element-write-k-2 c = search needs
 
--- src/access.rt:92:1
 returns-2 : tie.Need-returns-2
 returns-2 c =
     let a = c .before .before .before .before .args in

@@ -1,3 +1,4 @@
+-- `relations::access::without_before` meets its contract.
 use native.Mathlib.Omega.{arith}
 use Prim.Native.Nat.{_/_}
 use Rattle.model.specs.Domains.{domain, overlap-bit, before-bit, after-bit}
@@ -6,15 +7,12 @@ use borrow.Author.Needs.{needs}
 use Rattle.relations.proofs.access.without_before.Statement.{statement}
 use Rattle.relations.proofs.access.without_before.Tie as tie
 
--- src/access.rt:82:13
 mul-result : tie.Need-mul-result
 mul-result c = search needs
 
--- src/access.rt:82:5
 add-result : tie.Need-add-result
 add-result c = search needs
 
--- src/access.rt:79:1
 returns : tie.Need-returns
 unfolding domain overlap-bit before-bit after-bit
 returns c = omega (arith, weigh (c .args .m) 1, weigh (c .args .m / 2) 2, weigh (c .args .m / 4) 4)

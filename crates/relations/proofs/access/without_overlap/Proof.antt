@@ -1,3 +1,4 @@
+-- `relations::access::without_overlap` meets its contract.
 use native.Mathlib.Omega.{arith}
 use Prim.Native.Nat.{_/_}
 use Rattle.model.specs.Domains.{domain, overlap-bit, before-bit, after-bit}
@@ -6,19 +7,15 @@ use borrow.Author.Needs.{needs}
 use Rattle.relations.proofs.access.without_overlap.Statement.{statement}
 use Rattle.relations.proofs.access.without_overlap.Tie as tie
 
--- src/access.rt:76:5
 mul-result : tie.Need-mul-result
 mul-result c = search needs
 
--- src/access.rt:76:21
 mul-result-2 : tie.Need-mul-result-2
 mul-result-2 c = search needs
 
--- src/access.rt:76:5
 add-result : tie.Need-add-result
 add-result c = search needs
 
--- src/access.rt:73:1
 returns : tie.Need-returns
 unfolding domain overlap-bit before-bit after-bit
 returns c = omega (arith, weigh (c .args .m) 1, weigh (c .args .m / 2) 2, weigh (c .args .m / 4) 4)

@@ -1,20 +1,17 @@
+-- `relations::rules::is_blocked` meets its contract.
 use borrow.Author.Needs.{needs}
 use Rattle.relations.proofs.rules.is_blocked.Statement.{statement}
 use Rattle.relations.proofs.rules.is_blocked.Tie as tie
 
--- src/rules.rt:91:8
 blocks-before-requires : tie.Need-blocks-before-requires
 blocks-before-requires c κs = search needs
 
--- src/rules.rt:92:9
 returns : tie.Need-returns
 returns c = rw (← (c .before .blocks-before .ensures), c .if1 .taken)
 
--- src/rules.rt:94:5
 blocks-after-requires : tie.Need-blocks-after-requires
 blocks-after-requires c κs = search needs
 
--- src/rules.rt:87:1
 returns-2 : tie.Need-returns-2
 returns-2 c = rw (← (c .before .before .blocks-before .ensures), c .before .if1 .left) (c .blocks-after .ensures)
 

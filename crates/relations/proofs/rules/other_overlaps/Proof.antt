@@ -1,17 +1,15 @@
+-- `relations::rules::other_overlaps` meets its contract.
 use borrow.Author.Tests.{eq-eqb, ne-eqb}
 use borrow.Author.Needs.{needs}
 use Rattle.relations.proofs.rules.other_overlaps.Statement.{statement}
 use Rattle.relations.proofs.rules.other_overlaps.Tie as tie
 
--- src/rules.rt:19:9
 returns : tie.Need-returns
 returns c = rw (eq-eqb _ _ (c .if1 .taken))
 
--- src/rules.rt:21:5
 fixed-overlap-requires : tie.Need-fixed-overlap-requires
 fixed-overlap-requires c κs = search needs
 
--- src/rules.rt:14:1
 returns-2 : tie.Need-returns-2
 returns-2 c = rw (ne-eqb _ _ (c .before .if1 .left)) (c .fixed-overlap .ensures)
 

@@ -1,3 +1,4 @@
+-- `relations::rules::rule4` meets its contract.
 use borrow.Author.Needs.{needs}
 use native.Mathlib.Omega.{arith}
 use mathlib.Core.Path.{sym, _∙_}
@@ -13,35 +14,28 @@ Inv-loop k n a u v x₀ x = (x ≤ n) × None (around k n a u v) x
 abbrev μ-loop : tie.MeasureT-loop
 μ-loop k n a u v x₀ x = n - x
 
--- src/rules.rt:161:5
 loop-holds : tie.Need-loop-holds Inv-loop μ-loop
 loop-holds c = let a = c .args in (omega arith, none-yet (around (a .k .now) (a .n) (a .a) (a .u) (a .v)))
 
--- src/rules.rt:162:12
 is-around-requires : tie.Need-is-around-requires Inv-loop μ-loop
 is-around-requires c κs = search needs
 
--- src/rules.rt:163:13
 returns : tie.Need-returns Inv-loop μ-loop
 returns c =
     let a = c .before .before .before .before .args in
     λ p e. found (a .n) (around (a .k .now) (a .n) (a .a) (a .u) (a .v)) (c .before .before .before .loop .x) (c .before .before .loop-test .taken) (sym (c .before .is-around .ensures) ∙ c .if1 .taken) ∙ rule4-is p e (a .k .now) (a .a) (a .u) (a .v)
 
--- src/rules.rt:165:13
 add-x : tie.Need-add-x Inv-loop μ-loop
 add-x c = search needs
 
--- src/rules.rt:161:5
 loop-less : tie.Need-loop-less Inv-loop μ-loop
 loop-less c = search needs
 
--- src/rules.rt:161:5
 loop-again : tie.Need-loop-again Inv-loop μ-loop
 loop-again c =
     let a = c .before .before .before .before .args in
     (omega arith, none-more (around (a .k .now) (a .n) (a .a) (a .u) (a .v)) (c .before .before .before .loop .x) (c .before .before .before .loop .inv .1) (sym (c .before .is-around .ensures) ∙ c .if1 .left))
 
--- src/rules.rt:156:1
 returns-2 : tie.Need-returns-2 Inv-loop μ-loop
 returns-2 c =
     let a = c .before .before .args in

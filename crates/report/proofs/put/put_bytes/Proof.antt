@@ -1,14 +1,13 @@
+-- `report::put::put_bytes` meets its contract.
 use borrow.Author.Needs.{needs}
 use native.Mathlib.Omega.{arith}
-use mathlib.Core.Path.{_≡_, refl, sym, ap, _∙_}
+use mathlib.Core.Path.{_≡_, refl, _∙_}
 use Prim.Native.Nat.{_-_, _≤_}
 use lib.ListN.{length, take, length-set}
 use lib.Seq.{sets, take-length}
 use Rattle.report.proofs.Puts.{copy-next}
 use Rattle.report.proofs.put.put_bytes.Statement.{statement}
 use Rattle.report.proofs.put.put_bytes.Tie as tie
-use Rattle.report.proofs.put.put_bytes.Reads as reads
-use Rattle.report.proofs.put.put_bytes.Lts as lts
 
 abbrev Inv-loop : tie.InvT-loop
 Inv-loop out₀ at bytes i₀ out i = (i ≤ length bytes) × (out ≡ sets out₀ at (take i bytes)) × (length out ≡ length out₀)
@@ -16,43 +15,33 @@ Inv-loop out₀ at bytes i₀ out i = (i ≤ length bytes) × (out ≡ sets out�
 abbrev μ-loop : tie.MeasureT-loop
 μ-loop out₀ at bytes i₀ out i = length bytes - i
 
--- src/put.rt:17:5
 loop-holds : tie.Need-loop-holds Inv-loop μ-loop
 loop-holds c = (omega arith, refl, refl)
 
--- src/put.rt:18:23
 shared-slice-read-out : tie.Need-shared-slice-read-out Inv-loop μ-loop
 shared-slice-read-out c = search needs
 
--- src/put.rt:18:13
 add-out : tie.Need-add-out Inv-loop μ-loop
 add-out c = omega arith
 
--- src/put.rt:18:9
 slice-write-out : tie.Need-slice-write-out Inv-loop μ-loop
 slice-write-out c = omega (arith)
 
--- src/put.rt:19:13
 add-i : tie.Need-add-i Inv-loop μ-loop
 add-i c = search needs
 
--- src/put.rt:17:5
 loop-less : tie.Need-loop-less Inv-loop μ-loop
 loop-less c = search needs
 
--- src/put.rt:17:5
 loop-again : tie.Need-loop-again Inv-loop μ-loop
 loop-again c = let l = c .before .before .loop in let a = c .before .before .before .args in (search needs, rw (l .inv .1) (copy-next (a .out .now) (a .bytes .now) (a .at) (l .i) (omega arith)), simp length-set (l .inv .2))
 
--- src/put.rt:21:5
 add-result : tie.Need-add-result Inv-loop μ-loop
 add-result c = omega arith
 
--- src/put.rt:11:1
 same-length : tie.Need-same-length Inv-loop μ-loop
 same-length c = c .before .loop .inv .2
 
--- src/put.rt:11:1
 returns : tie.Need-returns Inv-loop μ-loop
 returns c = let l = c .before .loop in let a = c .before .before .args in let e : l .i ≡ length (a .bytes .now) = omega arith in (rw e, l .inv .1 ∙ rw (e, take-length))
 

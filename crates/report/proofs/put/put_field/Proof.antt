@@ -1,30 +1,22 @@
-use borrow.Author.Needs.{needs}
+-- `report::put::put_field` meets its contract.
 use native.Mathlib.Omega.{arith}
 use native.Mathlib.Numerals.{add-one}
 use lib.ListN.{length-set}
 use Rattle.report.proofs.put.put_field.Statement.{statement}
 use Rattle.report.proofs.put.put_field.Tie as tie
-use Rattle.report.proofs.put.put_field.Reads as reads
-use Rattle.report.proofs.put.put_field.Lts as lts
-use Rattle.report.proofs.put.put_decimal.Reads as put-decimal-reads
 
--- src/put.rt:45:5
 slice-write-out : tie.Need-slice-write-out
 slice-write-out c = omega arith
 
--- src/put.rt:46:22
 add-put-decimal : tie.Need-add-put-decimal
 add-put-decimal c = omega arith
 
--- src/put.rt:46:5
 put-decimal-requires : tie.Need-put-decimal-requires
 put-decimal-requires c κs = simp length-set (omega arith)
 
--- src/put.rt:40:1
 same-length : tie.Need-same-length
 same-length c = simp length-set at (c .before .before .put-decimal .kept .0)
 
--- src/put.rt:40:1
 returns : tie.Need-returns
 returns c = (omega arith, rw (c .before .before .put-decimal .ensures .1, add-one))
 

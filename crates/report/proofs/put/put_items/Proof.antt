@@ -1,7 +1,8 @@
+-- `report::put::put_items` meets its contract.
 use borrow.Author.Needs.{needs}
 use native.Mathlib.Omega.{arith}
 use native.Mathlib.Nat.{add-zero}
-use mathlib.Core.Path.{_≡_, refl, sym, ap, _∙_}
+use mathlib.Core.Path.{_≡_, refl, sym}
 use Prim.Native.Nat.{_+_, _-_, _*_, _≤_}
 use lib.ListN.{length, length-append}
 use lib.Seq.{sets}
@@ -10,9 +11,6 @@ use Rattle.report.specs.Text.{item-lines}
 use Rattle.report.proofs.Puts.{items-none, items-next}
 use Rattle.report.proofs.put.put_items.Statement.{statement}
 use Rattle.report.proofs.put.put_items.Tie as tie
-use Rattle.report.proofs.put.put_items.Reads as reads
-use Rattle.report.proofs.put.put_items.Lts as lts
-use Rattle.report.proofs.put.put_item.Reads as put-item-reads
 
 abbrev Inv-loop : tie.InvT-loop
 Inv-loop out₀ at n positions k₀ u₀ out k u =
@@ -26,31 +24,24 @@ Inv-loop out₀ at n positions k₀ u₀ out k u =
 abbrev μ-loop : tie.MeasureT-loop
 μ-loop out₀ at n positions k₀ u₀ out k u = n - u
 
--- src/put.rt:84:5
 loop-holds : tie.Need-loop-holds Inv-loop μ-loop
 loop-holds c = (omega arith, rw items-none (sym (add-zero _)), rw items-none refl, refl, omega arith)
 
--- src/put.rt:85:33
 mul-put-item : tie.Need-mul-put-item Inv-loop μ-loop
 mul-put-item c = search needs
 
--- src/put.rt:85:33
 array-copy-out-put-item : tie.Need-array-copy-out-put-item Inv-loop μ-loop
 array-copy-out-put-item c = search needs
 
--- src/put.rt:85:9
 put-item-requires : tie.Need-put-item-requires Inv-loop μ-loop
 put-item-requires c κs = (omega arith, omega arith)
 
--- src/put.rt:86:13
 add-u : tie.Need-add-u Inv-loop μ-loop
 add-u c = search needs
 
--- src/put.rt:84:5
 loop-less : tie.Need-loop-less Inv-loop μ-loop
 loop-less c = search needs
 
--- src/put.rt:84:5
 loop-again : tie.Need-loop-again Inv-loop μ-loop
 loop-again c =
     let l = c .before .before .before .before .before .before .loop in
@@ -58,11 +49,9 @@ loop-again c =
     let next = items-next (c .before .before .before .before .before .before .before .before .before .args .packing) (l .u) in
     (search needs, rw (next, length-append) (omega (arith, w .ensures .0 .0)), rw (next, w .ensures .1, l .inv .1, l .inv .2, sets-append), omega (arith, w .kept .0), omega (arith, w .ensures .0 .1))
 
--- src/put.rt:76:1
 same-length : tie.Need-same-length Inv-loop μ-loop
 same-length c = c .before .loop .inv .3
 
--- src/put.rt:76:1
 returns : tie.Need-returns Inv-loop μ-loop
 returns c =
     let l = c .before .loop in
