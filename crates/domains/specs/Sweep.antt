@@ -52,6 +52,14 @@ AtNumber n A i k = Proper n (i / 100) (i / 10 % 10) (i % 10) → A (i / 100) (i 
 abbrev pub Asked : Problem → Domains → List ℕ → List ℕ → List ℕ → Type 0
 Asked p k capacity ends starts = (a u v : ℕ) → Proper (p .items) a u v → exceeds capacity ends starts a u v ≡ true → asks-before p k a u v ≡ true
 
+-- what a sweep by rules 1 to 4 does, for every problem of n items: A where nothing changes
+abbrev pub ByRules : ℕ → (Problem → Domains → Type 0) → Domains → Domains → Type 0
+ByRules n A k j = WellFormed j × ((p : Problem) → p .items ≡ n → Worked p (A p) k j)
+
+-- and a sweep by tables that rule 5 agrees with
+abbrev pub ByTables : ℕ → List ℕ → List ℕ → List ℕ → (Domains → Type 0) → Domains → Domains → Type 0
+ByTables n capacity ends starts A k j = WellFormed j × ((p : Problem) → p .items ≡ n → Asked p k capacity ends starts → Worked p A k j)
+
 -- a table of chains: a number for each axis and item, at axis * 10 + item, far below 2 ^ 32
 pub record Table (t : List ℕ) : Type 0 where
   pub long : length t ≡ 30

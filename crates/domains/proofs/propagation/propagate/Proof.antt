@@ -9,7 +9,7 @@ use Rattle.model.specs.Propagate.{sum}
 use Rattle.model.specs.Order.{WellFormed}
 use Rattle.domains.specs.Shape.{shape-problem}
 use Rattle.domains.specs.Sweep.{Worked, Anything}
-use Rattle.domains.proofs.Worked.{worked-none, goes-on, unchanged, turn-on}
+use Rattle.domains.proofs.Worked.{worked-none, goes-on, unchanged, sweeps-less}
 use Rattle.domains.proofs.Settles.{Resting, chains-worked, ends-large, ends-empty, ends-rest}
 use Rattle.domains.proofs.propagation.propagate.Statement.{statement}
 use Rattle.domains.proofs.propagation.propagate.Tie as tie
@@ -82,7 +82,7 @@ loop-less : tie.Need-loop-less Inv-loop μ-loop
 loop-less c =
     let p = shape-problem (c .before .before .before .before .before .before .before .before .before .before .before .before .before .before .before .before .before .before .before .args .n) (c .before .before .before .before .before .before .before .before .before .before .before .before .before .before .before .before .before .before .before .args .sizes .now) (c .before .before .before .before .before .before .before .before .before .before .before .before .before .before .before .before .before .before .before .args .capacity .now) [] in
     rw (c .total2 .ensures, c .before .before .before .before .before .before .total .ensures)
-    (turn-on (c .before .before .before .before .before .before .before .before .before .before .before .before .before .before .before .before .loop .changed) (c .before .before .before .before .before .before .before .before .before .before .before .before .before .before .before .loop-test .taken) (c .before .before .before .before .before .before .before .before .before .before .before .before .before .before .before .before .loop .inv .0) (c .before .before .before .before .before .before .before .before .before .before .before .before .before .settle .ensures .1 p refl .worked) (swept c []))
+    (sweeps-less (c .before .before .before .before .before .before .before .before .before .before .before .before .before .before .before .before .loop .changed) (c .before .before .before .before .before .before .before .before .before .before .before .before .before .before .before .loop-test .taken) (c .before .before .before .before .before .before .before .before .before .before .before .before .before .before .before .before .loop .inv .0) (c .before .before .before .before .before .before .before .before .before .before .before .before .before .settle .ensures .1 p refl .worked) (swept c []))
 
 loop-again : tie.Need-loop-again Inv-loop μ-loop
 loop-again c =

@@ -8,7 +8,7 @@ use Rattle.model.specs.Propagate.{sum}
 use Rattle.model.specs.Order.{WellFormed}
 use Rattle.domains.specs.Sweep.{Worked, Anything, RulesRest, Everywhere}
 use Rattle.domains.specs.Propagated.{has-empty}
-use Rattle.domains.proofs.Worked.{bare, worked-none, goes-on, unchanged, turn-less}
+use Rattle.domains.proofs.Worked.{bare, worked-none, goes-on, unchanged, sweep-less}
 use Rattle.domains.proofs.propagation.settle.Statement.{statement}
 use Rattle.domains.proofs.propagation.settle.Tie as tie
 
@@ -48,7 +48,7 @@ total-requires-2 c κs = c .before .before .before .before .sweep-rules .ensures
 loop-less : tie.Need-loop-less Inv-loop μ-loop
 loop-less c =
     rw (c .total2 .ensures, c .before .before .before .before .before .before .before .total .ensures)
-    (turn-less (c .before .before .before .before .before .before .before .before .before .before .loop .changed) (c .before .before .before .before .before .before .before .before .before .loop-test .taken) (c .before .before .before .before .before .before .before .before .before .before .loop .inv .0) (c .before .before .before .before .before .sweep-rules .ensures .1 (bare (c .before .before .before .before .before .before .before .before .before .before .before .args .n)) refl))
+    (sweep-less (c .before .before .before .before .before .before .before .before .before .before .loop .changed) (c .before .before .before .before .before .before .before .before .before .loop-test .taken) (c .before .before .before .before .before .before .before .before .before .before .loop .inv .0) (c .before .before .before .before .before .sweep-rules .ensures .1 (bare (c .before .before .before .before .before .before .before .before .before .before .before .args .n)) refl))
 
 loop-again : tie.Need-loop-again Inv-loop μ-loop
 loop-again c =
