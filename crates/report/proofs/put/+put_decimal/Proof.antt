@@ -8,7 +8,7 @@ use lib.ListN.{length-set, length-append}
 use Rattle.records.proofs.Writers.{sets-append}
 use Rattle.report.specs.Decimal.{decimal}
 use Rattle.report.proofs.Decimals.{decimal-one, decimal-more}
-use Prim.Native.Nat.{ℕ}
+use Prim.Native.Nat.{ℕ, _<_}
 use borrow.Fn.Kinds.{In}
 use borrow.Fn.PlainCycle.{Measures, is, falls, and}
 use Rattle.report.proofs.put.put_decimal.Reads as put-decimal
