@@ -1,13 +1,13 @@
 -- Numbers as the code computes them: a domain's bits, and where a domain stands.
 use mathlib.Core.Bool.{Bool, true, false, cond, _&&_}
-use mathlib.Core.Path.{_≡_, refl, sym}
+use mathlib.Core.Path.{_≡_, refl, sym, _∙_}
 use Prim.Native.Nat.{ℕ, _-_, _*_, _/_, _%_, _≤_, _<_}
 use native.Mathlib.Nat.{one-mul, zero-mul}
 use native.Mathlib.Omega.{arith}
 use lib.Dec.{eqb, ltb, leb}
 use lib.ListN.{length, length-set}
 use borrow.Author.Tests.{eqb-true, eqb-false, ltb-true, leb-true}
-use Rattle.model.specs.Domains.{Domains, odd, remove-overlap, remove-before}
+use Rattle.model.specs.Domains.{Domains, odd, remove-overlap, remove-before, fix-before}
 use Rattle.model.specs.Below.{all-below}
 use Rattle.model.proofs.Below.{all-at, and-both}
 use Rattle.domains.specs.Propagated.{domain-count}
@@ -27,6 +27,10 @@ square-small v h = ltb-true _ 100 (all-at 10 (λ v. ltb (v * (v - 1)) 100) refl 
 pub remove-before-long : (k : Domains) (a u v : ℕ) → length (remove-before k a u v) ≡ length k
 unfolding remove-before
 remove-before-long k a u v = length-set k _ _
+
+pub fix-before-long : (k : Domains) (a u v : ℕ) → length (fix-before k a u v) ≡ length k
+unfolding fix-before remove-overlap
+fix-before-long k a u v = length-set (remove-before k a v u) _ _ ∙ remove-before-long k a v u
 
 -- how many domains n items have
 pub square-bounds : (n : ℕ) → n ≤ 10 → (n ≤ n * n) × (n * n ≤ 100)

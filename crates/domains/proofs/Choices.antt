@@ -49,7 +49,14 @@ or-none false = refl
 -- no axis has more than one relation left
 pub axis-none : (k : Domains) (u v : ℕ) → ((a : ℕ) → a < 3 → undecided k a u v ≡ false) → choice-axis k u v ≡ 0
 unfolding choice-axis
-axis-none k u v h = rw (h 0 (omega arith), h 1 (omega arith), h 2 (omega arith)) refl
+axis-none k u v h = go (undecided k 0 u v) (undecided k 1 u v) (undecided k 2 u v) (h 0 (omega arith)) (h 1 (omega arith)) (h 2 (omega arith))
+  where
+    go : (x y z : Bool) → x ≡ false → y ≡ false → z ≡ false
+        → _≡_ {A = ℕ} (elim x as (λ _. ℕ) [ true ↦ 0 | false ↦ elim y as (λ _. ℕ) [ true ↦ 1 | false ↦ elim z as (λ _. ℕ) [ true ↦ 2 | false ↦ 0 ] ] ]) 0
+    go true y z e f g = absurd (false≢true (sym e))
+    go false true z e f g = absurd (false≢true (sym f))
+    go false false true e f g = absurd (false≢true (sym g))
+    go false false false e f g = refl
 
 module _ (k : Domains) (n : ℕ) (limited : n ≤ 10) where
   abbrev pub open-at : ℕ → Bool

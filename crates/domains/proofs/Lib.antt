@@ -6,3 +6,6 @@ pub mod Totals
 pub mod Shapes
 pub mod Choices
 pub mod Openings
+pub mod Settles
+pub mod Layouts
+pub mod Packings

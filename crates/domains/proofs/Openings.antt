@@ -39,26 +39,22 @@ names-proper n o h e =
     let v = ltb-true (o .successor) n (r .0) in
     record { axis = omega arith; item-u = omega arith; item-v = omega arith; distinct = eqb-false (o .predecessor) (o .successor) (not-true _ (r .1)) }
 
-module _ (x : Instance) (v : valid x ≡ true) where
-  parts : (leb (x .«item_count») 10 ≡ true) × (leb (x .«precedence_count») 90 ≡ true) × (all-stand (x .«item_count») Nothing (precedences-of x) ≡ true)
-  unfolding valid
-  parts =
-      let a = and-both (leb (x .«item_count») 10) (leb (x .«precedence_count») 90 && (positive (x .container) && (all-have-size (items-of x) && all-stand (x .«item_count») Nothing (precedences-of x)))) v in
-      let b = and-both (leb (x .«precedence_count») 90) (positive (x .container) && (all-have-size (items-of x) && all-stand (x .«item_count») Nothing (precedences-of x))) (a .1) in
-      let c = and-both (positive (x .container)) (all-have-size (items-of x) && all-stand (x .«item_count») Nothing (precedences-of x)) (b .1) in
-      let d = and-both (all-have-size (items-of x)) (all-stand (x .«item_count») Nothing (precedences-of x)) (c .1) in
-      (a .0, b .0, d .1)
+-- what is valid about the precedences
+pub valid-parts : (x : Instance) → valid x ≡ true
+    → (x .«item_count» ≤ 10) × (x .«precedence_count» ≤ 90) × (all-stand (x .«item_count») Nothing (precedences-of x) ≡ true)
+unfolding valid
+valid-parts x v =
+    let a = and-both (leb (x .«item_count») 10) (leb (x .«precedence_count») 90 && (positive (x .container) && (all-have-size (items-of x) && all-stand (x .«item_count») Nothing (precedences-of x)))) v in
+    let b = and-both (leb (x .«precedence_count») 90) (positive (x .container) && (all-have-size (items-of x) && all-stand (x .«item_count») Nothing (precedences-of x))) (a .1) in
+    let c = and-both (positive (x .container)) (all-have-size (items-of x) && all-stand (x .«item_count») Nothing (precedences-of x)) (b .1) in
+    let d = and-both (all-have-size (items-of x)) (all-stand (x .«item_count») Nothing (precedences-of x)) (c .1) in
+    (leb-true _ 10 (a .0), leb-true _ 90 (b .0), d .1)
 
-  pub valid-few : x .«precedence_count» ≤ 90
-  valid-few = leb-true _ 90 (parts .1)
-
-  pub valid-proper : length (x .precedences) ≡ 90 → (i : ℕ) → i < x .«precedence_count»
-      → Proper 10 2 (getD (x .precedences) i no-precedence .predecessor) (getD (x .precedences) i no-precedence .successor)
-  valid-proper long i h =
-      let few = valid-few in
-      let room : i < length (precedences-of x) = rw (length-take-le (x .«precedence_count») (x .precedences) (omega arith)) h in
-      names-proper (x .«item_count») (getD (x .precedences) i no-precedence) (leb-true _ 10 (parts .0))
-      (rw (getD-take (x .«precedence_count») (x .precedences) i no-precedence h) at (stands-at (x .«item_count») Nothing (precedences-of x) (parts .2) i room))
+pub stand-proper : (n m : ℕ) (os : List Precedence) → n ≤ 10 → m ≤ length os → all-stand n Nothing (take m os) ≡ true → (i : ℕ) → i < m
+    → Proper 10 2 (getD os i no-precedence .predecessor) (getD os i no-precedence .successor)
+stand-proper n m os limited room e i h =
+    names-proper n (getD os i no-precedence) limited
+    (rw (getD-take m os i no-precedence h) at (stands-at n Nothing (take m os) e i (rw (length-take-le m os room) h)))
 
 -- One precedence more is fixed
 module _ (m i : ℕ) (os : List Precedence) (room : m ≤ length os) (k : Domains) where

@@ -1,10 +1,13 @@
 -- Loops that look for an item at which a test passes.
 use mathlib.Core.Bool.{Bool, true, false, not, cond, _&&_, _||_}
+use mathlib.Core.List.{List}
 use mathlib.Core.Logic.{_⊎_, inl, inr}
 use mathlib.Core.Path.{_≡_, refl, sym, _∙_, ap}
 use Prim.Native.Nat.{ℕ, _+_, _≤_, _<_}
 use native.Mathlib.Nat.{eq-or-lt-of-le}
 use native.Mathlib.Omega.{arith}
+use lib.ListN.{getD, set, length}
+use lib.Seq.{getD-set-same, getD-set-other}
 use Rattle.model.specs.Below.{some-below, all-below}
 use Rattle.model.specs.Problem.{Problem}
 use Rattle.model.specs.Domains.{Domains}
@@ -25,6 +28,15 @@ none-more f i h e x l = go (eq-or-lt-of-le {n = x} {m = i} (omega arith))
     go : (x ≡ i) ⊎ (x < i) → f x ≡ false
     go (inl q) = rw q e
     go (inr q) = h x q
+
+-- what holds of the entries below i, and of what is stored at i, holds of those below i + 1
+pub stored-more : {A : Type 0} (d : A) (P : ℕ → A → Type 0) (l : List A) (i : ℕ) (v : A) → i < length l → ((x : ℕ) → x < i → P x (getD l x d)) → P i v
+    → (x : ℕ) → x < i + 1 → P x (getD (set l i v) x d)
+stored-more {A} d P l i v room h at x less = go (eq-or-lt-of-le {n = x} {m = i} (omega arith))
+  where
+    go : (x ≡ i) ⊎ (x < i) → P x (getD (set l i v) x d)
+    go (inl q) = rw (q, getD-set-same l i v d room) at
+    go (inr q) = rw (getD-set-other l i x v d (omega arith)) (h x q)
 
 pub found : (n : ℕ) (f : ℕ → Bool) (i : ℕ) → i < n → f i ≡ true → true ≡ some-below n f
 found n f i h e = sym (some-of n f i h e)

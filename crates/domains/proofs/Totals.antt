@@ -1,19 +1,23 @@
 -- Tables of chains: rounds over the items come to the greatest chains.
 use mathlib.Core.Bool.{Bool, true, false, cond, false≢true}
 use mathlib.Core.Logic.{_⊎_, inl, inr}
-use mathlib.Core.List.{List}
+use mathlib.Core.List.{List, [], _∷_}
 use mathlib.Core.Path.{_≡_, refl, sym, _∙_, ap, ap₂}
-use Prim.Native.Nat.{ℕ, zero, suc, _+_, _≤_, _<_, max}
+use Prim.Native.Nat.{ℕ, zero, suc, _+_, _*_, _/_, _%_, _≤_, _<_, max}
 use native.Mathlib.Nat.{le-refl, le-trans, le-antisymm, eq-or-lt-of-le}
 use native.Mathlib.Numerals.{add-one}
+use native.Mathlib.Decide.{decLt}
 use native.Mathlib.Omega.{arith}
+use lib.ListN.{getD, length, replicate}
+use borrow.Author.Tests.{lt-ltb}
 use Rattle.model.specs.Problem as M
 use Rattle.model.specs.Domains.{Domains, fixed-before}
 use Rattle.model.specs.Rules.{joined}
 use Rattle.model.proofs.Domains.{fixed-distinct}
 use Rattle.model.proofs.Chains.{greatest-ending-size, greatest-starting-size, greatest-ending-rounds, greatest-starting-rounds, greatest-ending-step, greatest-starting-step}
 use Rattle.domains.specs.Shape.{shape-problem, size-at}
-use Rattle.domains.specs.Chains.{linked, longer, extend, totals, greatest, Ordered}
+use Rattle.domains.specs.Sweep.{Table}
+use Rattle.domains.specs.Chains.{linked, longer, extend, totals, on-axis, entry, Extended, greatest, Ordered, Exact}
 
 longer-ge : (b : Bool) (best x : ℕ) → best ≤ longer b best x
 longer-ge true best x = omega arith
@@ -112,3 +116,51 @@ module _ (k : Domains) (n : ℕ) (sizes capacity : List ℕ) (os : List M.Preced
 
   pub totals-exact : (ending : Bool) (u : ℕ) → u < n → totals k sizes ending a n (suc n) u ≡ greatest p k ending a u
   totals-exact ending u h = le-antisymm (totals-le ending (suc n) u h) (totals-ge ending u h)
+
+-- The table after r rounds
+pub record Round (k : Domains) (n : ℕ) (sizes : List ℕ) (ending : Bool) (r : ℕ) (t : List ℕ) : Type 0 where
+  pub long : length t ≡ 30
+  pub bounded : (i : ℕ) → getD t i 0 ≤ 65535 * r
+  pub is : (a u : ℕ) → a < 3 → u < n → getD t (a * 10 + u) 0 ≡ totals k sizes ending a n r u
+
+zero-at : (m i : ℕ) → _≡_ {A = ℕ} (getD (replicate m 0) i 0) 0
+zero-at zero i = refl
+zero-at (suc m) zero = refl
+zero-at (suc m) (suc i) = zero-at m i
+
+past : (l : List ℕ) (i : ℕ) → length l ≤ i → getD l i 0 ≡ 0
+past [] i h = refl
+past (x ∷ l) zero h = absurd (omega arith)
+past (x ∷ l) (suc i) h = past l i (omega arith)
+
+module _ (k : Domains) (n : ℕ) (sizes : List ℕ) (ending : Bool) (limited : n ≤ 10) where
+  pub round-start : (t : List ℕ) → t ≡ replicate 30 0 → Round k n sizes ending 0 t
+  round-start t e = record {
+    long = ap length e;
+    bounded = λ i. omega (arith, ap (λ (l : List ℕ). getD l i 0) e, zero-at 30 i);
+    is = λ a u ha hu. ap (λ (l : List ℕ). getD l (a * 10 + u) 0) e ∙ (zero-at 30 (a * 10 + u) ∙ sym (totals-none k sizes ending a n u));
+  }
+
+  pub round-next : (r : ℕ) (t s : List ℕ) → Round k n sizes ending r t → length s ≡ 30
+      → ((i : ℕ) → i < 30 → Extended t (entry k n sizes t ending i) (getD s i 0)) → Round k n sizes ending (r + 1) s
+  round-next r t s h long next = record { long = long; bounded = λ i. bounded i (decLt i 30); is = at }
+    where
+      bounded : (i : ℕ) → Dec (i < 30) → getD s i 0 ≤ 65535 * (r + 1)
+      bounded i (yes l) = omega (arith, next i l .near (65535 * r) (h .bounded))
+      bounded i (no l) = omega (arith, past s i (omega arith))
+
+      at : (a u : ℕ) → a < 3 → u < n → getD s (a * 10 + u) 0 ≡ totals k sizes ending a n (r + 1) u
+      at a u ha hu =
+          let x = a * 10 + u in
+          let ea : x / 10 ≡ a = omega arith in
+          let eu : x % 10 ≡ u = omega arith in
+          let e : getD s x 0 ≡ extend k sizes ending a (on-axis t a) u n = rw (ea, eu, lt-ltb u n hu) at (next x (omega arith) .is) in
+          e ∙ (extend-same k sizes ending a (on-axis t a) (totals k sizes ending a n r) u n (λ v l. h .is a v ha l)
+          ∙ rw (add-one r) (sym (totals-next k sizes ending a n r u)))
+
+  pub round-exact : (r : ℕ) (t : List ℕ) → r ≡ n + 1 → Round k n sizes ending r t → Exact k n sizes ending t
+  round-exact r t e h = record {
+    table = record { long = h .long; small = λ i. omega (arith, h .bounded i) };
+    exact = λ capacity os a u ha hu o.
+        h .is a u ha hu ∙ (ap (λ (m : ℕ). totals k sizes ending a n m u) (e ∙ add-one n) ∙ totals-exact k n sizes capacity os a o ending u hu);
+  }

@@ -10,8 +10,8 @@ use Rattle.model.specs.Problem.{Problem}
 use Rattle.model.specs.Domains.{Domains}
 use Rattle.model.specs.Propagate.{propagate}
 use Rattle.model.specs.Branching.{inconsistent}
-use Rattle.model.specs.Order.{WellFormed, _⊑_, Between}
-use Rattle.domains.specs.Sweep.{RulesRest, Everywhere}
+use Rattle.model.specs.Order.{WellFormed}
+use Rattle.domains.specs.Sweep.{Worked, Anything, RulesRest, Everywhere}
 
 -- r tells whether the propagation of k is inconsistent; where it is not, j is that propagation
 pub record Propagated (p : Problem) (k j : Domains) (r : Bool) : Type 0 where
@@ -36,8 +36,6 @@ has-large n sizes capacity = some-below 30 (large-at n sizes capacity)
 
 -- rules 1 to 4 are at rest in j, or r tells that a domain is empty
 pub record Settled (p : Problem) (n : ℕ) (k j : Domains) (r : Bool) : Type 0 where
-  pub well-formed : WellFormed j
-  pub less : j ⊑ k
-  pub kept : (h : Domains) → WellFormed h → Between p h k → Between p h j
-  pub empty : has-empty j n ≡ r
+  pub worked : Worked p Anything k j
+  pub empty : r ≡ has-empty j n
   pub rest : r ≡ false → Everywhere n (RulesRest p) j

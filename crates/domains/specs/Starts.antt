@@ -28,11 +28,12 @@ pub record Started (k : Domains) (n : ℕ) (sizes capacity : List ℕ) (q : Pack
 abbrev pub start-at : List ℕ → List ℕ → ℕ → ℕ → ℕ
 start-at ends sizes a u = getD ends (a * 10 + u) 0 - size-at sizes a u
 
--- a chain of the table has the item in it, and leaves a start that a position holds
-pub record StartsAt (ends sizes : List ℕ) (a u : ℕ) : Type 0 where
+-- a chain of the table has the item in it, and fits the container
+pub record StartsAt (ends sizes capacity : List ℕ) (a u : ℕ) : Type 0 where
   pub ends-long : length ends ≡ 30
   pub sizes-long : length sizes ≡ 30
+  pub capacity-long : length capacity ≡ 3
   pub axis : a < 3
   pub item : u < 10
   pub whole : size-at sizes a u ≤ getD ends (a * 10 + u) 0
-  pub fits : start-at ends sizes a u < 65536
+  pub fits : start-at ends sizes a u ≤ getD capacity a 0

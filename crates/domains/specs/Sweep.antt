@@ -56,6 +56,10 @@ pub record Worked (p : Problem) (A : Domains → Type 0) (k j : Domains) : Type 
   pub kept : (h : Domains) → WellFormed h → Between p h k → Between p h j
   pub still : j ≡ k → A k
 
+-- nothing is said of domains that stay as they are
+abbrev pub Anything : Domains → Type 0
+Anything k = Unit {0}
+
 -- rules 1 to 4 ask for nothing that is left of u and v
 abbrev pub BeforeRests : Problem → ℕ → ℕ → ℕ → Domains → Type 0
 BeforeRests p a u v k = early-before p k a u v ≡ true → may-before k a u v ≡ false

@@ -5,17 +5,15 @@ ghost use Prim.Native.Nat.{_<_};
 ghost use lib.ListN.{length};
 ghost use Rattle.instance.specs.Meaning.{problem-of, precedence-of};
 ghost use Rattle.instance.specs.Valid.{precedences-of};
-ghost use Rattle.domains.specs.Shape.{Laid, size-at};
+ghost use Rattle.domains.specs.Shape.{Copied, Laid, size-at};
 use crate::Shape;
 use instance::Instance;
+use records::Item;
 
-// The arrays of an instance.
-pub fn shape_of(instance: Instance) -> Shape
-    ensures { λ r. ⌜ Laid instance r ⌝ }
+// The items' measures, axis by axis.
+fn copied(items: [Item; 10]) -> [u16; 30]
+    ensures { λ r. ⌜ Copied items r 10 × (length items ≡ 10) ⌝ }
 {
-    let n = instance.item_count;
-    let items = instance.items;
-    let container = instance.container;
     let mut sizes = [0u16; 30];
     let mut i: usize = 0;
     while i < 10 {
@@ -26,6 +24,17 @@ pub fn shape_of(instance: Instance) -> Shape
         sizes[20 + i] = size.shifts;
         i = i + 1;
     }
+    sizes
+}
+
+// The arrays of an instance.
+pub fn shape_of(instance: Instance) -> Shape
+    ensures { λ r. ⌜ Laid instance r ⌝ }
+{
+    let n = instance.item_count;
+    let items = instance.items;
+    let container = instance.container;
+    let sizes = copied(items);
     let capacity = [container.width, container.depth, container.shifts];
     Shape {
         items: n,

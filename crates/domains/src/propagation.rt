@@ -5,6 +5,7 @@ ghost use Prim.Native.Nat.{_<_, _≤_};
 ghost use lib.ListN.{length};
 ghost use Rattle.model.specs.Problem as M;
 ghost use Rattle.model.specs.Propagate.{sum};
+ghost use Rattle.model.specs.Order.{WellFormed};
 ghost use Rattle.domains.specs.Shape.{Given, shape-problem};
 ghost use Rattle.domains.specs.Sweep.{Items};
 ghost use Rattle.domains.specs.Propagated.{Propagated, Settled, has-empty, has-large, large-at};
@@ -77,7 +78,7 @@ fn any_large(n: usize, sizes: &[u16; 30], capacity: &[u16; 3]) -> bool
 // Rules 1 to 4 until they ask for nothing that is left, or a domain is empty: then the answer is true.
 fn settle(k: &mut [u8; 135], n: usize) -> bool
     requires { ⌜ Items (now k) n ⌝ }
-    ensures { λ r. ⌜ ((p : M.Problem) → p .items ≡ n → Settled p n (now (k .entry)) (now (k .exit)) r) ⌝ }
+    ensures { λ r. ⌜ WellFormed (now (k .exit)) × ((p : M.Problem) → p .items ≡ n → Settled p n (now (k .entry)) (now (k .exit)) r) ⌝ }
 {
     let mut changed = true;
     while changed {

@@ -13,7 +13,7 @@ rule2-requires c κs = search needs
 
 -- src/rules.rt:176:9
 returns : tie.Need-returns
-returns c = ?
+returns c = λ p e. rw (← (c .before .rule2 .ensures p e), c .if1 .taken)
 
 -- src/rules.rt:178:8
 rule3-requires : tie.Need-rule3-requires
@@ -21,7 +21,7 @@ rule3-requires c κs = search needs
 
 -- src/rules.rt:179:9
 returns-2 : tie.Need-returns-2
-returns-2 c = ?
+returns-2 c = λ p e. rw (← (c .before .before .before .rule2 .ensures p e), c .before .before .if1 .left, ← (c .before .rule3 .ensures p e), c .if2 .taken)
 
 -- src/rules.rt:181:5
 rule4-requires : tie.Need-rule4-requires
@@ -29,7 +29,7 @@ rule4-requires c κs = search needs
 
 -- src/rules.rt:171:1
 returns-3 : tie.Need-returns-3
-returns-3 c = ?
+returns-3 c = λ p e. rw (← (c .before .before .before .before .rule2 .ensures p e), c .before .before .before .if1 .left, ← (c .before .before .rule3 .ensures p e), c .before .if2 .left) (c .rule4 .ensures p e)
 
 pub asks-before-spec : {M : Type 1} → statement M
 asks-before-spec =
