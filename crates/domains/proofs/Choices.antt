@@ -24,9 +24,12 @@ abbrev right : List ℕ → ℕ → Bool
 right t j = eqb (getD t (2 * j) 0) (pair-of j .u) && eqb (getD t (2 * j + 1) 0) (pair-of j .v)
 
 pub table-right : (t : List ℕ) → all-below 45 (right t) ≡ true → PairTable t
-table-right t e j h =
-    let q = and-both (eqb (getD t (2 * j) 0) (pair-of j .u)) (eqb (getD t (2 * j + 1) 0) (pair-of j .v)) (all-at 45 (right t) e j h) in
-    (eqb-true _ _ (q .0), eqb-true _ _ (q .1))
+table-right t e = record { at = at }
+  where
+    at : (j : ℕ) → j < 45 → (getD t (2 * j) 0 ≡ pair-of j .u) × (getD t (2 * j + 1) 0 ≡ pair-of j .v)
+    at j h =
+        let q = and-both (eqb (getD t (2 * j) 0) (pair-of j .u)) (eqb (getD t (2 * j + 1) 0) (pair-of j .v)) (all-at 45 (right t) e j h) in
+        (eqb-true _ _ (q .0), eqb-true _ _ (q .1))
 
 last-pair : pair-of 44 .v ≡ 9
 unfolding pairs
@@ -34,7 +37,7 @@ last-pair = refl
 
 pub pair-bounds : (t : List ℕ) → PairTable t → (j : ℕ) → j < 45 → (getD t (2 * j) 0 < 10) × (getD t (2 * j + 1) 0 < 10)
 pair-bounds t h j l =
-    let e = h j l in
+    let e = h .at j l in
     let s = pairs-sorted 44 j (omega arith) (omega arith) in
     (omega (arith, pairs-rise j l, last-pair, s, e .0), omega (arith, last-pair, s, e .1))
 

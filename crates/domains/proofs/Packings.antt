@@ -4,7 +4,7 @@ use mathlib.Core.List.{List}
 use mathlib.Core.Path.{_≡_, refl, sym, _∙_, ap}
 use Prim.Native.Nat.{ℕ, zero, suc, _+_, _-_, _*_, _≤_, _<_}
 use native.Mathlib.Omega.{arith}
-use lib.ListN.{getD}
+use lib.ListN.{getD, replicate}
 use Rattle.model.specs.Problem as M
 use Rattle.model.specs.Domains.{Domains}
 use Rattle.model.specs.Rules.{greatest-ending}
@@ -20,6 +20,12 @@ use Rattle.domains.specs.Shape.{shape-problem, size-at}
 use Rattle.domains.specs.Chains.{Ordered, Exact}
 use Rattle.domains.specs.Starts.{Startable, StartsAt, start-at}
 use Rattle.domains.proofs.Shapes.{capacity-at-is}
+
+-- positions past the items
+pub blank-at : (m x : ℕ) → getD (replicate m origin) x origin ≡ origin
+blank-at zero x = refl
+blank-at (suc m) zero = refl
+blank-at (suc m) (suc x) = blank-at m x
 
 -- the position of an item by the table
 abbrev pub position-at : List ℕ → List ℕ → ℕ → Position

@@ -133,8 +133,8 @@ module _ (n : ℕ) (limited : n ≤ 10) (sizes capacity : List ℕ) (os : List M
     ordered a ha = before-transitive p k consistent a ha (λ a u v w t f g. (
       rest a u w (t .uw) .1 (ask-d2-overlap p k a u v w (t .uv .item-v) f g),
       rest a w u (proper-sym (t .uw)) .0
-      (or-left (rule3 p k a w u || rule4 p k a w u)
-      (sym (rule2-is p refl k a u w) ∙ some-of n (through k a u w) v (t .uv .item-v) (and-intro f g))),
+          (or-left (rule3 p k a w u || rule4 p k a w u)
+          (sym (rule2-is p refl k a u w) ∙ some-of n (through k a u w) v (t .uv .item-v) (and-intro f g))),
     ))
 
     module _ (ends starts : List ℕ) (before : Exact k n sizes true ends) (after : Exact k n sizes false starts) where

@@ -1,5 +1,5 @@
 -- Laws of sweeps: what a removal does, one after the other, and all of them.
-use mathlib.Core.Bool.{Bool, true, false, not, cond}
+use mathlib.Core.Bool.{Bool, true, false, not, cond, _||_}
 use mathlib.Core.List.{List, []}
 use mathlib.Core.Logic.{_⊎_, inl, inr}
 use mathlib.Core.Path.{_≡_, refl, sym, _∙_, ap, subst}
@@ -11,7 +11,7 @@ use borrow.Author.Tests.{eqb-true, eqb-false}
 use Rattle.model.specs.Problem.{Problem}
 use Rattle.model.specs.Propagate.{sum}
 use Rattle.model.specs.Domains.{Domains, may-overlap, may-before, remove-overlap, remove-before}
-use Rattle.model.specs.Rules.{rule5, asks-overlap, asks-before}
+use Rattle.model.specs.Rules.{rule2, rule3, rule4, rule5, asks-overlap, asks-before}
 use Rattle.model.specs.Order.{Proper, WellFormed, _⊑_, Between}
 use Rattle.model.proofs.Below.{clash, or-left, or-mono}
 use Rattle.model.proofs.Monotone.{asks-before-mono}
@@ -94,7 +94,9 @@ module _ (p : Problem) where
 -- what rules 2 to 4 ask for, some rule asks for
 pub early-asks : (p : Problem) (k : Domains) (a u v : ℕ) → early-before p k a u v ≡ true → asks-before p k a u v ≡ true
 unfolding asks-before
-early-asks p k a u v = or-mono (λ e. e) (or-mono (λ e. e) (or-left (rule5 p k a u v)))
+early-asks p k a u v =
+    or-mono {a = rule2 p k a v u} {b = rule3 p k a u v || rule4 p k a u v} {c = rule2 p k a v u} {d = rule3 p k a u v || (rule4 p k a u v || rule5 p k a u v)} (λ e. e)
+    (or-mono {a = rule3 p k a u v} {b = rule4 p k a u v} {c = rule3 p k a u v} {d = rule4 p k a u v || rule5 p k a u v} (λ e. e) (or-left (rule5 p k a u v)))
 
 -- tables that hold of domains hold where less is left
 pub asked-less : (p : Problem) (j k : Domains) (capacity ends starts : List ℕ) → j ⊑ k → Asked p k capacity ends starts → Asked p j capacity ends starts

@@ -17,8 +17,8 @@ abbrev no-pair : Pair
 no-pair = record { u = 0; v = 0 }
 
 -- the pair j of the table stands at 2 * j
-abbrev pub PairTable : List ℕ → Type 0
-PairTable t = (j : ℕ) → j < 45 → (getD t (2 * j) 0 ≡ getD pairs j no-pair .u) × (getD t (2 * j + 1) 0 ≡ getD pairs j no-pair .v)
+pub record PairTable (t : List ℕ) : Type 0 where
+  pub at : (j : ℕ) → j < 45 → (getD t (2 * j) 0 ≡ getD pairs j no-pair .u) × (getD t (2 * j + 1) 0 ≡ getD pairs j no-pair .v)
 
 -- "'before' known, one way or the other", on the axis
 abbrev pub separated-on : Domains → ℕ → ℕ → ℕ → Bool

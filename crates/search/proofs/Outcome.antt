@@ -74,6 +74,3 @@ module _ (p : Problem) (path : List Branch) where
       go : (b : Bool) → (b && S.is-complete (look p path)) ≡ false
       go true = e
       go false = refl
-
-  pub unforked : S.forking (look p) path ≡ false → S.follows (look p) (S.packed-at path) ≡ false
-  unforked e = rw e

@@ -13,9 +13,9 @@ use instance::Packing;
 use instance::Status;
 use refusal::Refusal;
 
-pub mod path;
-pub mod results;
-pub mod steps;
+mod path;
+mod results;
+mod steps;
 
 pub enum Answer {
     Packed,
@@ -32,20 +32,20 @@ pub struct SearchResult {
 }
 
 // What the domains of a path show.
-pub enum Outlook {
+enum Outlook {
     Conflict,
     Complete,
     Fork(Place),
 }
 
 // A branching point on the path: its domains, and where they branch.
-pub struct Snapshot {
+struct Snapshot {
     pub domains: [u8; 135],
     pub place: Place,
 }
 
 // Whether each shorter beginning of a path is a branching point; then these with their snapshots, and the domains at the path's end.
-pub struct Replay {
+struct Replay {
     pub follows: bool,
     pub levels: [Snapshot; 270],
     pub domains: [u8; 135],

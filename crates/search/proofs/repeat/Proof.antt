@@ -11,13 +11,13 @@ use Rattle.model.specs.Order.{WellFormed}
 use Rattle.model.specs.Problem.{Problem}
 use Rattle.model.specs.Run.{look}
 use Rattle.model.specs.Search as S
-use Rattle.instance.specs.Meaning.{precedence-of, problem-of}
+use Rattle.instance.specs.Meaning.{precedence-of}
 use Rattle.instance.specs.Valid.{precedences-of}
 use Rattle.domains.specs.Shape.{shape-problem, Given}
 use Rattle.search.specs.Checkpoints.{path-of}
 use Rattle.search.specs.Standing.{Standing, Looked}
 use Rattle.search.proofs.Checkpoints.{path-length}
-use Rattle.search.proofs.Outcome.{comes-packed, comes-again, follows-result, refused-result, complete-follows, incomplete, unforked}
+use Rattle.search.proofs.Outcome.{comes-packed, comes-again, follows-result, refused-result, complete-follows, incomplete}
 use Rattle.search.proofs.Seeing.{startable, started-plan}
 use Rattle.search.proofs.Sound.{length-mapped, laid-sound}
 use Rattle.search.proofs.repeat.Statement.{statement}
@@ -57,10 +57,7 @@ refused-requires c κs = search needs
 
 returns : tie.Need-returns
 returns c =
-    let a = c .before .before .before .before .before .args in
-    let p = problem-of (a .instance) in
-    c .refused .ensures
-    ∙ refused-result p (a .budget) (S.packed-at (path (c .before .before .before .before .before))) (a .checkpoint) (unforked p (path (c .before .before .before .before .before)) (sym (c .before .before .before .replay .ensures .verdict) ∙ not-true _ (c .before .if1 .taken)))
+    rw (← (c .before .before .before .replay .ensures .verdict), not-true (c .before .before .before .replay .result .follows) (c .before .if1 .taken)) (c .refused .ensures)
 
 shape-of-requires : tie.Need-shape-of-requires
 shape-of-requires c κs = search needs

@@ -18,14 +18,14 @@ remove-before-requires c κs = search needs
 
 -- src/access.rt:125:5
 remove-overlap-requires : tie.Need-remove-overlap-requires
-remove-overlap-requires c κs = 
+remove-overlap-requires c κs =
     let a = c .before .before .before .args in
     record { long = ap length (c .before .remove-before .ensures) ∙ (remove-before-long (a .k .now) (a .a) (a .v) (a .u) ∙ c .before .before .before .pre .long); proper = c .before .before .before .pre .proper }
 
 -- src/access.rt:120:1
 returns : tie.Need-returns
 unfolding fix-before fix-overlap
-returns c = 
+returns c =
     let a = c .before .before .before .before .args in
     c .remove-overlap .ensures ∙ ap (λ (j : Domains). remove-overlap j (a .a) (a .u) (a .v)) (c .before .before .remove-before .ensures)
 

@@ -17,14 +17,14 @@ remove-before-requires c κs = search needs
 
 -- src/access.rt:134:5
 remove-before-requires-2 : tie.Need-remove-before-requires-2
-remove-before-requires-2 c κs = 
+remove-before-requires-2 c κs =
     let a = c .before .before .before .args in
     record { long = ap length (c .before .remove-before .ensures) ∙ (remove-before-long (a .k .now) (a .a) (a .v) (a .u) ∙ c .before .before .before .pre .long); proper = c .before .before .before .pre .proper }
 
 -- src/access.rt:129:1
 returns : tie.Need-returns
 unfolding fix-before fix-overlap
-returns c = 
+returns c =
     let a = c .before .before .before .before .args in
     c .remove-before2 .ensures ∙ ap (λ (j : Domains). remove-before j (a .a) (a .u) (a .v)) (c .before .before .remove-before .ensures)
 

@@ -37,7 +37,7 @@ returns-2 c = rw (c .before .index2 .ensures .0) (sym (before-down (c .before .b
 
 -- src/access.rt:35:1
 returns-3 : tie.Need-returns-3
-returns-3 c = 
+returns-3 c =
     let a = c .before .before .args in
     let e : a .u ≡ a .v = omega arith in rw e (sym (may-before-self (a .k .now) (a .a) (a .v)))
 

@@ -33,13 +33,13 @@ element-copy-out-result-2 c = search needs
 -- src/access.rt:29:9
 returns-2 : tie.Need-returns-2
 unfolding overlap-bit
-returns-2 c = 
+returns-2 c =
     let a = c .before .before .before .before .args in
     rw (c .before .index2 .ensures .0) (sym (may-overlap-sym (a .k .now) (a .a) (a .v) (a .u) ∙ overlap-up (a .k .now) (a .a) (c .before .before .if2 .taken)))
 
 -- src/access.rt:19:1
 returns-3 : tie.Need-returns-3
-returns-3 c = 
+returns-3 c =
     let a = c .before .before .args in
     let e : a .u ≡ a .v = omega arith in rw e (sym (may-overlap-self (a .k .now) (a .a) (a .v)))
 

@@ -48,7 +48,7 @@ element-write-k-2 c = search needs
 
 -- src/access.rt:92:1
 returns-2 : tie.Need-returns-2
-returns-2 c = 
+returns-2 c =
     let a = c .before .before .before .before .args in
     let h : a .v < a .u = omega (arith, c .before .before .before .before .pre .proper .distinct) in
     rw (c .without-overlap2 .ensures, c .before .before .index2 .ensures .0) (sym (remove-overlap-down (a .k .now) (a .a) h))

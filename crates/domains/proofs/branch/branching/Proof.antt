@@ -110,12 +110,11 @@ found-less c = search needs
 found-again : tie.Need-found-again Inv-loop μ-loop Inv-found μ-found
 found-again c =
     let a = c .before .before .before .before .before .args in
-    let e = c .before .before .before .before .pair-table .ensures (c .before .before .before .found .number) (c .before .before .found-test .taken) in
-    (
+    let e = c .before .before .before .before .pair-table .ensures .at (c .before .before .before .found .number) (c .before .before .found-test .taken) in (
       omega arith,
       c .before .before .before .found .inv .1,
       none-more (λ j. open-pair (a .k .now) (a .n) (pair-of j .u) (pair-of j .v)) (c .before .before .before .found .number) (c .before .before .before .found .inv .2)
-      (rw (← (e .0), ← (e .1)) (sym (c .before .is-open .ensures) ∙ c .if1 .left)),
+          (rw (← (e .0), ← (e .1)) (sym (c .before .is-open .ensures) ∙ c .if1 .left)),
     )
 
 -- src/branch.rt:172:1
@@ -129,7 +128,7 @@ returns c =
 returns-2 : tie.Need-returns-2 Inv-loop μ-loop Inv-found μ-found
 returns-2 c =
     let a = c .before .before .before .before .before .before .before .before .before .args in
-    let e = c .before .before .before .before .before .before .before .before .pair-table .ensures (c .before .before .before .before .before .before .before .found .number) (c .before .before .before .before .before .before .found-test .taken) in
+    let e = c .before .before .before .before .before .before .before .before .pair-table .ensures .at (c .before .before .before .before .before .before .before .found .number) (c .before .before .before .before .before .before .found-test .taken) in
     chosen-at (a .k .now) (a .n) (c .before .before .before .before .before .before .before .before .before .pre .1) (c .before .before .before .before .before .before .before .found .number) (c .before .before .before .loop .a) _ _ (c .before .before .before .before .before .before .found-test .taken) (e .0) (e .1)
     (sym (c .before .before .before .before .before .is-open .ensures) ∙ c .before .before .before .before .if1 .taken) (c .before .before .before .before .before .before .before .found .inv .2)
     (choice-axis-is (a .k .now) _ _ (c .before .before .before .loop .a) (c .before .before .loop-test .taken) (sym (c .before .undecided .ensures) ∙ c .if2 .taken) (c .before .before .before .loop .inv .1))
@@ -139,7 +138,7 @@ returns-2 c =
 returns-3 : tie.Need-returns-3 Inv-loop μ-loop Inv-found μ-found
 returns-3 c =
     let a = c .before .before .before .before .before .before .before .args in
-    let e = c .before .before .before .before .before .before .pair-table .ensures (c .before .before .before .before .before .found .number) (c .before .before .before .before .found-test .taken) in
+    let e = c .before .before .before .before .before .before .pair-table .ensures .at (c .before .before .before .before .before .found .number) (c .before .before .before .before .found-test .taken) in
     chosen-at (a .k .now) (a .n) (c .before .before .before .before .before .before .before .pre .1) (c .before .before .before .before .before .found .number) 0 _ _ (c .before .before .before .before .found-test .taken) (e .0) (e .1)
     (sym (c .before .before .before .is-open .ensures) ∙ c .before .before .if1 .taken) (c .before .before .before .before .before .found .inv .2)
     (axis-none (a .k .now) _ _ (λ b l. c .before .loop .inv .1 b (omega arith)))

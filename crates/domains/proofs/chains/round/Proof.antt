@@ -45,10 +45,9 @@ loop-less c = search needs
 loop-again : tie.Need-loop-again Inv-loop μ-loop
 loop-again c =
     let a = c .before .before .before .args in
-    let l = c .before .before .loop in
-    (
+    let l = c .before .before .loop in (
       omega arith,
-      length-set _ _ _ ∙ l .inv .1,
+      length-set (l .next) (l .i) (c .entry-at .result) ∙ l .inv .1,
       stored-more 0 (λ x y. Extended (a .t .now) (entry (a .k .now) (a .n) (a .sizes .now) (a .t .now) (a .ending) x) y) (l .next) (l .i) (c .entry-at .result) (omega arith) (l .inv .2) (c .entry-at .ensures),
     )
 

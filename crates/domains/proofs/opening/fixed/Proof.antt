@@ -63,8 +63,7 @@ loop-again c =
     let a = c .before .before .before .before .before .before .before .args in
     let l = c .before .before .before .before .before .before .loop in
     let long : length (a .t1) ≡ 90 = search needs in
-    let room : a .m ≤ length (a .t1) = omega (arith, c .before .before .before .before .before .before .before .pre .1) in
-    (
+    let room : a .m ≤ length (a .t1) = omega (arith, c .before .before .before .before .before .before .before .pre .1) in (
       omega arith,
       ap length (c .fix-before .ensures) ∙ (fix-before-long (l .k) 2 _ _ ∙ l .inv .1),
       rw (c .fix-before .ensures) (sym (fixed-next (a .m) (l .i) (a .t1) room (l .k) (c .before .before .before .before .before .loop-test .taken)) ∙ l .inv .2),

@@ -56,9 +56,9 @@ returns-2 c =
     let a = c .before .before .before .before .before .before .before .args in
     let g = c .before .before .before .before .before .before .before .pre in
     λ os.
-        let s = c .before .settle .ensures .1 (shape-problem (a .n) (a .sizes .now) (a .capacity .now) os) refl in
-        ends-empty (a .n) (g .limited) (a .sizes .now) (a .capacity .now) os (a .k .now) (g .well-formed) _ (goes-on (g .well-formed) (c .before .before .before .before .loop .inv .1 os) (s .worked))
-        (sym (s .empty) ∙ c .if2 .taken)
+    let s = c .before .settle .ensures .1 (shape-problem (a .n) (a .sizes .now) (a .capacity .now) os) refl in
+    ends-empty (a .n) (g .limited) (a .sizes .now) (a .capacity .now) os (a .k .now) (g .well-formed) _ (goes-on (g .well-formed) (c .before .before .before .before .loop .inv .1 os) (s .worked))
+    (sym (s .empty) ∙ c .if2 .taken)
 
 -- src/propagation.rt:109:20
 chains-requires : tie.Need-chains-requires Inv-loop μ-loop
@@ -75,9 +75,9 @@ total-requires c κs = c .before .before .before .before .before .before .settle
 -- src/propagation.rt:112:9
 sweep-chains-requires : tie.Need-sweep-chains-requires Inv-loop μ-loop
 sweep-chains-requires c κs = (
-      record { well-formed = c .before .before .before .before .before .before .before .before .before .before .settle .ensures .0; limited = c .before .before .before .before .before .before .before .before .before .before .before .before .before .before .before .before .pre .limited },
-      record { capacity-long = c .before .before .before .before .before .before .before .before .before .before .before .before .before .before .before .before .pre .capacity-long; ends-table = c .before .before .before .before .before .before .before .chains .ensures .table; starts-table = c .before .before .before .before .before .chains2 .ensures .table },
-    )
+  record { well-formed = c .before .before .before .before .before .before .before .before .before .before .settle .ensures .0; limited = c .before .before .before .before .before .before .before .before .before .before .before .before .before .before .before .before .pre .limited },
+  record { capacity-long = c .before .before .before .before .before .before .before .before .before .before .before .before .before .before .before .before .pre .capacity-long; ends-table = c .before .before .before .before .before .before .before .chains .ensures .table; starts-table = c .before .before .before .before .before .chains2 .ensures .table },
+)
 
 -- src/propagation.rt:113:13
 total-requires-2 : tie.Need-total-requires-2 Inv-loop μ-loop
@@ -105,8 +105,7 @@ loop-less c =
 loop-again : tie.Need-loop-again Inv-loop μ-loop
 loop-again c =
     let a = c .before .before .before .before .before .before .before .before .before .before .before .before .before .before .before .before .before .before .before .args in
-    let l = c .before .before .before .before .before .before .before .before .before .before .before .before .before .before .before .before .loop in
-    (
+    let l = c .before .before .before .before .before .before .before .before .before .before .before .before .before .before .before .before .loop in (
       c .before .before .sweep-chains .ensures .0,
       λ os.
           let p = shape-problem (a .n) (a .sizes .now) (a .capacity .now) os in
@@ -121,8 +120,8 @@ returns-3 c =
     let g = c .before .before .before .before .pre in
     let l = c .before .loop in
     λ os.
-        let r = l .inv .2 (c .loop-test .left) os in
-        ends-rest (a .n) (g .limited) (a .sizes .now) (a .capacity .now) os (a .k .now) (g .well-formed) (l .k) (l .inv .1 os) (r .0) (r .1)
+    let r = l .inv .2 (c .loop-test .left) os in
+    ends-rest (a .n) (g .limited) (a .sizes .now) (a .capacity .now) os (a .k .now) (g .well-formed) (l .k) (l .inv .1 os) (r .0) (r .1)
 
 pub propagate-spec : {M : Type 1} → statement M
 propagate-spec =

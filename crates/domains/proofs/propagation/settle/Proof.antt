@@ -43,13 +43,13 @@ any-empty-requires c κs = (c .before .sweep-rules .ensures .0 .long, c .before 
 -- src/propagation.rt:88:13
 returns : tie.Need-returns Inv-loop μ-loop
 returns c = (
-      c .before .before .before .sweep-rules .ensures .0,
-      λ p e. record {
-        worked = goes-on (c .before .before .before .before .before .before .before .before .before .pre .well-formed) (c .before .before .before .before .before .before .before .before .loop .inv .1 p e) (c .before .before .before .sweep-rules .ensures .1 p e);
-        empty = sym (c .if1 .taken) ∙ c .before .any-empty .ensures;
-        rest = λ q. absurd (false≢true (sym q));
-      },
-    )
+  c .before .before .before .sweep-rules .ensures .0,
+  λ p e. record {
+    worked = goes-on (c .before .before .before .before .before .before .before .before .before .pre .well-formed) (c .before .before .before .before .before .before .before .before .loop .inv .1 p e) (c .before .before .before .sweep-rules .ensures .1 p e);
+    empty = sym (c .if1 .taken) ∙ c .before .any-empty .ensures;
+    rest = λ q. absurd (false≢true (sym q));
+  },
+)
 
 -- src/propagation.rt:90:13
 total-requires-2 : tie.Need-total-requires-2 Inv-loop μ-loop
@@ -64,8 +64,7 @@ loop-less c =
 -- src/propagation.rt:84:5
 loop-again : tie.Need-loop-again Inv-loop μ-loop
 loop-again c =
-    let l = c .before .before .before .before .before .before .before .before .before .before .loop in
-    (
+    let l = c .before .before .before .before .before .before .before .before .before .before .loop in (
       c .before .before .before .before .before .sweep-rules .ensures .0,
       λ p e. goes-on (c .before .before .before .before .before .before .before .before .before .before .before .pre .well-formed) (l .inv .1 p e) (c .before .before .before .before .before .sweep-rules .ensures .1 p e),
       λ q.

@@ -70,8 +70,7 @@ returns-6 c =
     let w = c .before .before .before .before .before .before .before .before .before .before .pre .0 .well-formed in
     let x = a .i / 100 in
     let u = a .i / 10 % 10 in
-    let v = a .i % 10 in
-    (
+    let v = a .i % 10 in (
       rw (c .remove-before .ensures) (remove-before-well-formed (a .k .now) x u v w),
       λ p e asked.
           let limited : p .items ≤ 10 = omega (arith, c .before .before .before .before .before .before .before .before .before .before .pre .0 .limited) in

@@ -46,8 +46,7 @@ remove-overlap-requires c κs = search needs
 returns-3 : tie.Need-returns-3
 returns-3 c =
     let a = c .before .before .before .before .before .before .before .before .args in
-    let w = c .before .before .before .before .before .before .before .before .pre .0 .well-formed in
-    (
+    let w = c .before .before .before .before .before .before .before .before .pre .0 .well-formed in (
       rw (c .remove-overlap .ensures) (remove-overlap-well-formed (a .k .now) (a .a) (a .u) (a .v) w),
       λ p e.
           let limited : p .items ≤ 10 = omega (arith, c .before .before .before .before .before .before .before .before .pre .0 .limited) in

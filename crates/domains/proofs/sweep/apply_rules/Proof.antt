@@ -41,8 +41,7 @@ apply-overlap-requires c κs = search needs
 -- src/sweep.rt:44:1
 returns-4 : tie.Need-returns-4
 returns-4 c =
-    let a = c .before .before .before .before .before .before .before .args in
-    (
+    let a = c .before .before .before .before .before .before .before .args in (
       c .apply-overlap .ensures .0,
       λ p e. worked-then p (c .before .before .before .before .before .before .before .pre .0 .well-formed) (c .before .before .apply-before .ensures .1 p e) (c .apply-overlap .ensures .1 p e) (AtNumber (a .n) (RulesRest p) (a .i)) (λ b o s. (b, o)),
     )

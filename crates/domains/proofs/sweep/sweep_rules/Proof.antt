@@ -39,8 +39,7 @@ loop-less c = omega arith
 -- src/sweep.rt:70:5
 loop-again : tie.Need-loop-again Inv-loop μ-loop
 loop-again c =
-    let l = c .before .before .before .loop in
-    (
+    let l = c .before .before .before .loop in (
       omega arith,
       c .apply-rules .ensures .0,
       λ p e. worked-next p (AtNumber (c .before .before .before .before .args .n) (RulesRest p)) (l .i) (c .before .before .before .before .pre .well-formed) (l .inv .2 p e) (c .apply-rules .ensures .1 p e),
