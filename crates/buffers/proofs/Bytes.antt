@@ -4,9 +4,10 @@ use mathlib.Core.Path.{_≡_, refl, sym, ap, _∙_}
 use Prim.Native.Nat.{ℕ, zero, suc, _+_, _*_, _/_, _%_, _≤_, _<_}
 use native.Mathlib.Decide.{ℕ-discrete, decLt}
 use native.Mathlib.Omega.{arith}
+use native.Mathlib.Nat.{add-zero}
 use native.Mathlib.Numerals.{add-one}
 use lib.ListN.{length, getD, take, drop, set, replicate, length-set, length-map, drop-of-length-le, List·getD-eq-default}
-use lib.Seq.{sets, ext-getD, length-take-le, take-suc, getD-set-same, getD-set-other}
+use lib.Seq.{sets, ext-getD, length-take-le, take-suc, getD-set-same, getD-set-other, getD-append-add}
 use Rattle.records.specs.Bytes.{row-bytes}
 use Rattle.records.proofs.Writers.{sets-front, sets-append, row-next}
 use Rattle.instance.specs.declared.Packing.{Packing}
@@ -130,3 +131,20 @@ read-all s ps n ρ l =
     at : (u : ℕ) → Dec (u < n) → getD ps u origin ≡ position-at s u
     at u (yes h) = ρ .there u h
     at u (no h) = ρ .blank u (omega arith) ∙ sym (position-past s u (omega arith))
+
+-- positions come back from their bytes
+pub position-back : (ps : List Position) (u : ℕ) → u < length ps → position-at (row-bytes position-bytes ps) u ≡ getD ps u origin
+unfolding row-bytes
+position-back [] u h = absurd (omega arith)
+position-back (p ∷ ps) zero h = rw (word-back (p .x), word-back (p .y), word-back (p .t))
+position-back (p ∷ ps) (suc u) h =
+    let rest = row-bytes position-bytes ps in
+    let next : (k : ℕ) → getD (position-bytes p ++ rest) (6 * suc u + k) 0 ≡ getD rest (6 * u + k) 0 =
+    λ k. let e : 6 * suc u + k ≡ 6 + (6 * u + k) = omega arith in rw e (getD-append-add (position-bytes p) rest (6 * u + k) 0) in
+    let word : (k : ℕ) → word-at (position-bytes p ++ rest) (6 * suc u + k) ≡ word-at rest (6 * u + k) =
+    λ k.
+    let a : 6 * suc u + k + 1 ≡ 6 * suc u + (k + 1) = omega arith in
+    let b : 6 * u + k + 1 ≡ 6 * u + (k + 1) = omega arith in
+    rw (a, b, next k, next (k + 1)) in
+    let x : word-at (position-bytes p ++ rest) (6 * suc u) ≡ word-at rest (6 * u) = simp add-zero at (word 0) in
+    (λ i. record { x = x i; y = word 2 i; t = word 4 i }) ∙ position-back ps u (omega arith)

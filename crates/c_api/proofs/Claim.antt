@@ -100,6 +100,7 @@ module _ (sheet : List ℕ) (bytes : Bytes sheet) (i : Instance) (at : ℕ) (res
 
   -- what is asked of one call holds of `hallplan_search`
   pub search-serves : C.Serves (look (problem-of i)) (plan-bytes i) note-bytes (granted i) (exec sheet)
+  unfolding R.refused
   search-serves = record {
     refuses = λ c κ f e. (108, refused-call c κ (lengths-fit i 273 (length (c .steps)) (length (c .plan))) refl e);
     serves = λ c b κ f e. served-call c b κ f (lengths-fit i 273 (length (c .steps)) (length (c .plan))) refl e;
@@ -107,7 +108,6 @@ module _ (sheet : List ℕ) (bytes : Bytes sheet) (i : Instance) (at : ℕ) (res
     where
       refused-call : (c : Lent) (κ : S.Checkpoint) (b : Bool) → lengths-fit i 273 (length (c .steps)) (length (c .plan)) ≡ b → granted-if b (c .allowance) ≡ none
           → exec sheet c (note-bytes κ) ≡ (note-bytes κ, C.refused 108)
-      unfolding R.refused
       refused-call c κ true h e = let z : _≡_ {A = ℕ} 0 1 = cc in absurd (omega arith)
       refused-call c κ false h e = exec-is c (note-bytes κ) _ (wrong-length c κ h)
 
@@ -127,11 +127,11 @@ module _ (sheet : List ℕ) (bytes : Bytes sheet) (i : Instance) (at : ℕ) (res
 -- "on a refused sheet every call is refused, and the note stays the opening one"
 pub every-refused-list : (sheet : List ℕ) (e : Refusal) → decode sheet ≡ refused e → (calls : List Lent)
     → C.RefusedClaim (100 + number-of e) (note-bytes S.opening) (exec sheet) calls
+unfolding search-call R.refused
 every-refused-list sheet e h = T.every-refused-list (100 + number-of e) (note-bytes S.opening) (exec sheet) refuses
   where
     over : (n : ℕ) (steps plan-before : List ℕ) → reply-of (100 + n) steps plan-before ≡ C.refused (100 + n)
     over n steps q = let e : 100 + n ≡ suc (suc (suc (97 + n))) = omega arith in rw e
 
     refuses : C.Refuses (100 + number-of e) (note-bytes S.opening) (exec sheet)
-    unfolding search-call R.refused
     refuses c = rw h (ap (λ (x : C.Reply ℕ (List ℕ)). (note-bytes S.opening, x)) (over (number-of e) (c .steps) (c .plan)))

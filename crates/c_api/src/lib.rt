@@ -100,7 +100,7 @@ fn search_instance(
     steps: &mut [u8],
     plan: &mut [u8],
 ) -> u32
-    requires { ⌜ (valid instance ≡ true) × (length (instance .items) ≡ 10) ⌝ }
+    requires { ⌜ valid instance ≡ true ⌝ }
     ensures { λ r. ⌜ r ≡ answer-number (instance-searched instance (now (note .entry)) allowance (length (now (steps .entry))) (length (now (plan .entry))) .answer) ⌝ }
     ensures { λ _. ⌜ now (note .exit) ≡ note-of (instance-searched instance (now (note .entry)) allowance (length (now (steps .entry))) (length (now (plan .entry)))) (now (note .entry)) ⌝ }
     ensures { λ _. ⌜ now (steps .exit) ≡ steps-of (instance-searched instance (now (note .entry)) allowance (length (now (steps .entry))) (length (now (plan .entry)))) (now (steps .entry)) ⌝ }
