@@ -7,63 +7,46 @@ use Rattle.c_api.proofs.Outcomes.{checked-is}
 use borrow.Author.Needs.{needs}
 use Rattle.c_api.proofs.check_instance.Statement.{statement}
 use Rattle.c_api.proofs.check_instance.Tie as tie
-use Rattle.c_api.proofs.check_instance.Reads as reads
-use Rattle.c_api.proofs.check_instance.Lts as lts
-use Rattle.buffers.proofs.positions.read_packing.Reads as read-packing-reads
-use Rattle.c_api.proofs.refusal_code.Reads as refusal-code-reads
-use Rattle.packing.proofs.check.Reads as check-reads
 
--- src/lib.rt:70:22
 mul-if1 : tie.Need-mul-if1
 mul-if1 c = omega (arith, valid-says (c .before .args .instance) (c .before .pre) .items-few)
 
--- src/lib.rt:71:9
 refusal-code-requires : tie.Need-refusal-code-requires
 refusal-code-requires c κs = search needs
 
--- src/lib.rt:71:9
 returns : tie.Need-returns
 returns c = rw (c .refusal-code .ensures, ne-eqb _ _ (c .before .if1 .taken))
 
--- src/lib.rt:73:9
 read-packing-requires : tie.Need-read-packing-requires
 read-packing-requires c κs = (valid-says (c .before .before .args .instance) (c .before .before .pre) .items-few, c .if1 .left)
 
--- src/lib.rt:74:11
 check-requires : tie.Need-check-requires
 check-requires c κs = search needs
 
--- src/lib.rt:75:37
 enum-told : tie.Need-enum-told
 enum-told c = search needs
 
--- src/lib.rt:76:34
 enum-told-2 : tie.Need-enum-told-2
 enum-told-2 c = search needs
 
--- src/lib.rt:77:30
 enum-known-e : tie.Need-enum-known-e
 enum-known-e c = search needs
 
--- src/lib.rt:77:36
 refusal-code-requires-2 : tie.Need-refusal-code-requires-2
 refusal-code-requires-2 c κs = search needs
 
--- src/lib.rt:65:1
 returns-2 : tie.Need-returns-2
-returns-2 c = 
+returns-2 c =
     let a = c .before .before .before .before .before .before .args in
     sym (ap check-number (c .enum-told .given .1)) ∙ checked-is (a .instance) (a .plan .now) _ _ (c .before .before .before .before .if1 .left) (c .before .before .before .read-packing .ensures) (c .before .before .check .ensures .0)
 
--- src/lib.rt:65:1
 returns-3 : tie.Need-returns-3
-returns-3 c = 
+returns-3 c =
     let a = c .before .before .before .before .before .before .args in
     sym (ap check-number (c .enum-told2 .given .1)) ∙ checked-is (a .instance) (a .plan .now) _ _ (c .before .before .before .before .if1 .left) (c .before .before .before .read-packing .ensures) (c .before .before .check .ensures .0)
 
--- src/lib.rt:65:1
 returns-4 : tie.Need-returns-4
-returns-4 c = 
+returns-4 c =
     let a = c .before .before .before .before .before .before .before .before .args in
     c .refusal-code2 .ensures ∙ sym (ap check-number (c .before .before .e .given .1)) ∙ checked-is (a .instance) (a .plan .now) _ _ (c .before .before .before .before .before .before .if1 .left) (c .before .before .before .before .before .read-packing .ensures) (c .before .before .before .before .check .ensures .0)
 

@@ -6,46 +6,34 @@ use Rattle.c_api.specs.Calls.{check-code}
 use borrow.Author.Needs.{needs}
 use Rattle.c_api.proofs.hallplan_check.Statement.{statement}
 use Rattle.c_api.proofs.hallplan_check.Tie as tie
-use Rattle.c_api.proofs.hallplan_check.Reads as reads
-use Rattle.c_api.proofs.hallplan_check.Lts as lts
-use Rattle.c_api.proofs.check_instance.Reads as check-instance-reads
-use Rattle.c_api.proofs.refusal_code.Reads as refusal-code-reads
-use Rattle.instance.proofs.Instance.read.Reads as read-reads
 
--- src/lib.rt:26:9
 read-requires : tie.Need-read-requires
 read-requires c κs = search needs
 
--- src/lib.rt:30:29
 enum-known-answer : tie.Need-enum-known-answer
 enum-known-answer c = search needs
 
--- src/lib.rt:30:35
 refusal-code-requires : tie.Need-refusal-code-requires
 refusal-code-requires c κs = search needs
 
--- src/lib.rt:31:29
 enum-told : tie.Need-enum-told
 enum-told c = search needs
 
--- src/lib.rt:31:29
 check-instance-requires : tie.Need-check-instance-requires
-check-instance-requires c κs = 
+check-instance-requires c κs =
     let s = c .before .before .before .before .before .before .args .sheet .now in
     let w = was-read (decode s) (c .before .before .before .read .result) (c .before .before .before .read .ensures) (c .enum-told .given .1) in
     read-written s (λ k. omega (arith, c .before .before .before .before .before .shared-slice-known .given k)) (w .was) .1
 
--- src/lib.rt:22:1
 returns : tie.Need-returns
 unfolding check-code
-returns c = 
+returns c =
     let s = c .before .before .before .before .before .before .before .before .args .sheet .now in
     rw (c .refusal-code .ensures, was-refused (decode s) (c .before .before .before .before .before .read .result) (c .before .before .before .before .before .read .ensures) (c .before .before .answer .given .1))
 
--- src/lib.rt:22:1
 returns-2 : tie.Need-returns-2
 unfolding check-code
-returns-2 c = 
+returns-2 c =
     let s = c .before .before .before .before .before .before .before .args .sheet .now in
     let w = was-read (decode s) (c .before .before .before .before .read .result) (c .before .before .before .before .read .ensures) (c .before .enum-told .given .1) in
     rw (c .check-instance .ensures, w .was)

@@ -8,58 +8,43 @@ use Rattle.c_api.specs.Calls.{search-call}
 use borrow.Author.Needs.{needs}
 use Rattle.c_api.proofs.hallplan_search.Statement.{statement}
 use Rattle.c_api.proofs.hallplan_search.Tie as tie
-use Rattle.c_api.proofs.hallplan_search.Reads as reads
-use Rattle.c_api.proofs.hallplan_search.Lts as lts
-use Rattle.c_api.proofs.refusal_code.Reads as refusal-code-reads
-use Rattle.c_api.proofs.search_instance.Reads as search-instance-reads
-use Rattle.instance.proofs.Instance.read.Reads as read-reads
 
--- src/lib.rt:49:9
 read-requires : tie.Need-read-requires
 read-requires c κs = search needs
 
--- src/lib.rt:53:29
 enum-known-answer : tie.Need-enum-known-answer
 enum-known-answer c = search needs
 
--- src/lib.rt:53:35
 refusal-code-requires : tie.Need-refusal-code-requires
 refusal-code-requires c κs = search needs
 
--- src/lib.rt:54:55
 enum-told : tie.Need-enum-told
 enum-told c = search needs
 
--- src/lib.rt:54:29
 search-instance-requires : tie.Need-search-instance-requires
-search-instance-requires c κs = 
+search-instance-requires c κs =
     let s = c .before .before .before .before .before .before .before .before .before .before .before .args .sheet .now in
     let w = was-read (decode s) (c .before .before .before .before .before .before .read .result) (c .before .before .before .before .before .before .read .ensures) (c .before .before .before .enum-told .given .1) in
     read-written s (λ k. omega (arith, c .before .before .before .before .before .before .before .before .before .before .shared-slice-known .given k)) (w .was) .1
 
--- src/lib.rt:36:1
 returns : tie.Need-returns
 unfolding search-call refused
-returns c = 
+returns c =
     let s = c .before .before .before .before .before .before .before .before .before .before .args .sheet .now in
     rw (was-refused (decode s) (c .before .before .before .before .before .read .result) (c .before .before .before .before .before .read .ensures) (c .before .before .answer .given .1)) (c .refusal-code .ensures, (refl, (refl, refl)))
 
--- src/lib.rt:36:1
 same-length : tie.Need-same-length
 same-length c = search needs
 
--- src/lib.rt:36:1
 same-length-2 : tie.Need-same-length-2
 same-length-2 c = search needs
 
--- src/lib.rt:36:1
 same-length-3 : tie.Need-same-length-3
 same-length-3 c = search needs
 
--- src/lib.rt:36:1
 returns-2 : tie.Need-returns-2
 unfolding search-call
-returns-2 c = 
+returns-2 c =
     let s = c .before .before .before .before .before .before .before .before .before .before .before .before .before .before .before .before .before .before .args .sheet .now in
     let w = was-read (decode s) (c .before .before .before .before .before .before .before .before .before .before .before .before .before .read .result) (c .before .before .before .before .before .before .before .before .before .before .before .before .before .read .ensures) (c .before .before .before .before .before .before .before .before .before .before .enum-told .given .1) in
     rw (w .was) (c .before .before .before .before .before .before .search-instance .ensures)

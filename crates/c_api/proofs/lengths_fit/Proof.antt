@@ -3,22 +3,16 @@ use borrow.Author.Tests.{eq-eqb, ne-eqb}
 use Rattle.instance.proofs.Sheets.{valid-says}
 use Rattle.c_api.proofs.lengths_fit.Statement.{statement}
 use Rattle.c_api.proofs.lengths_fit.Tie as tie
-use Rattle.c_api.proofs.lengths_fit.Reads as reads
-use Rattle.c_api.proofs.lengths_fit.Lts as lts
 
--- src/lib.rt:87:9
 returns : tie.Need-returns
 returns c = rw (ne-eqb _ _ (c .if1 .taken))
 
--- src/lib.rt:90:9
 returns-2 : tie.Need-returns-2
 returns-2 c = rw (eq-eqb _ _ (c .before .if1 .left), ne-eqb _ _ (c .if2 .taken))
 
--- src/lib.rt:92:13
 mul-result : tie.Need-mul-result
 mul-result c = omega (arith, valid-says (c .before .before .before .args .instance) (c .before .before .before .pre) .items-few)
 
--- src/lib.rt:82:1
 returns-3 : tie.Need-returns-3
 returns-3 c = rw (eq-eqb _ _ (c .before .before .if1 .left), eq-eqb _ _ (c .before .if2 .left))
 

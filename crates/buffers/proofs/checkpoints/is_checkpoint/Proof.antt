@@ -6,37 +6,26 @@ use Rattle.buffers.specs.Checkpoints.{is-checkpoint}
 use borrow.Author.Needs.{needs}
 use Rattle.buffers.proofs.checkpoints.is_checkpoint.Statement.{statement}
 use Rattle.buffers.proofs.checkpoints.is_checkpoint.Tie as tie
-use Rattle.buffers.proofs.checkpoints.is_checkpoint.Reads as reads
-use Rattle.buffers.proofs.checkpoints.is_checkpoint.Lts as lts
-use Rattle.buffers.proofs.checkpoints.zero_from.Reads as zero-from-reads
-use Rattle.buffers.proofs.words.word_at.Reads as word-at-reads
 
--- src/checkpoints.rt:52:12
 shared-slice-read-if1 : tie.Need-shared-slice-read-if1
 shared-slice-read-if1 c = search needs
 
--- src/checkpoints.rt:53:9
 returns : tie.Need-returns
 unfolding is-checkpoint
 returns c = let h : 3 ≤ getD (c .before .before .before .args .note .now) 0 0 = omega arith in rw (le-ltb _ _ h)
 
--- src/checkpoints.rt:55:25
 word-at-requires : tie.Need-word-at-requires
 word-at-requires c κs = search needs
 
--- src/checkpoints.rt:55:25
 cast-zero-from : tie.Need-cast-zero-from
 cast-zero-from c = search needs
 
--- src/checkpoints.rt:55:21
 add-zero-from : tie.Need-add-zero-from
 add-zero-from c = search needs
 
--- src/checkpoints.rt:55:5
 zero-from-requires : tie.Need-zero-from-requires
 zero-from-requires c κs = search needs
 
--- src/checkpoints.rt:48:1
 returns-2 : tie.Need-returns-2
 unfolding is-checkpoint
 returns-2 c =

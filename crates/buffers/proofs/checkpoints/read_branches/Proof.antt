@@ -7,8 +7,6 @@ use lib.Seq.{sets}
 use borrow.Author.Needs.{needs}
 use Rattle.buffers.proofs.checkpoints.read_branches.Statement.{statement}
 use Rattle.buffers.proofs.checkpoints.read_branches.Tie as tie
-use Rattle.buffers.proofs.checkpoints.read_branches.Reads as reads
-use Rattle.buffers.proofs.checkpoints.read_branches.Lts as lts
 
 abbrev Inv-loop : tie.InvT-loop
 Inv-loop note branches₀ i₀ branches i = (i ≤ 270) × (branches ≡ sets branches₀ 0 (take i (drop 3 note))) × (length branches ≡ 270)
@@ -16,38 +14,30 @@ Inv-loop note branches₀ i₀ branches i = (i ≤ 270) × (branches ≡ sets br
 abbrev μ-loop : tie.MeasureT-loop
 μ-loop note branches₀ i₀ branches i = 270 - i
 
--- src/checkpoints.rt:64:5
 loop-holds : tie.Need-loop-holds Inv-loop μ-loop
 loop-holds c = (omega arith, refl, refl)
 
--- src/checkpoints.rt:65:28
 add-branches : tie.Need-add-branches Inv-loop μ-loop
 add-branches c = omega arith
 
--- src/checkpoints.rt:65:23
 shared-slice-read-branches : tie.Need-shared-slice-read-branches Inv-loop μ-loop
 shared-slice-read-branches c = omega arith
 
--- src/checkpoints.rt:65:9
 array-write-branches : tie.Need-array-write-branches Inv-loop μ-loop
 array-write-branches c = omega arith
 
--- src/checkpoints.rt:66:13
 add-i : tie.Need-add-i Inv-loop μ-loop
 add-i c = omega arith
 
--- src/checkpoints.rt:64:5
 loop-less : tie.Need-loop-less Inv-loop μ-loop
 loop-less c = omega arith
 
--- src/checkpoints.rt:64:5
 loop-again : tie.Need-loop-again Inv-loop μ-loop
 loop-again c =
     let l = c .before .before .loop in
     let note = c .before .before .before .args .note .now in
     (omega arith, rw (l .inv .1) (branches-next note (replicate 270 0) (l .i) (omega arith) (omega arith)), simp length-set (l .inv .2))
 
--- src/checkpoints.rt:58:1
 returns : tie.Need-returns Inv-loop μ-loop
 returns c =
     let l = c .before .loop in

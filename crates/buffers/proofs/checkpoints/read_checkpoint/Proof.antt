@@ -2,33 +2,22 @@ use Rattle.buffers.specs.Checkpoints.{checkpoint-in}
 use borrow.Author.Needs.{needs}
 use Rattle.buffers.proofs.checkpoints.read_checkpoint.Statement.{statement}
 use Rattle.buffers.proofs.checkpoints.read_checkpoint.Tie as tie
-use Rattle.buffers.proofs.checkpoints.read_checkpoint.Reads as reads
-use Rattle.buffers.proofs.checkpoints.read_checkpoint.Lts as lts
-use Rattle.buffers.proofs.checkpoints.read_branches.Reads as read-branches-reads
-use Rattle.buffers.proofs.checkpoints.status_of.Reads as status-of-reads
-use Rattle.buffers.proofs.words.word_at.Reads as word-at-reads
 
--- src/checkpoints.rt:75:28
 shared-slice-read-status-of : tie.Need-shared-slice-read-status-of
 shared-slice-read-status-of c = search needs
 
--- src/checkpoints.rt:75:9
 status-of-requires : tie.Need-status-of-requires
 status-of-requires c κs = search needs
 
--- src/checkpoints.rt:76:9
 read-branches-requires : tie.Need-read-branches-requires
 read-branches-requires c κs = search needs
 
--- src/checkpoints.rt:77:18
 word-at-requires : tie.Need-word-at-requires
 word-at-requires c κs = search needs
 
--- src/checkpoints.rt:77:18
 cast-length : tie.Need-cast-length
 cast-length c = search needs
 
--- src/checkpoints.rt:71:1
 returns : tie.Need-returns
 unfolding checkpoint-in
 returns c = rw (c .word-at .ensures, c .before .read-branches .ensures, c .before .before .status-of .ensures)

@@ -7,8 +7,6 @@ use borrow.Author.Needs.{needs}
 use Rattle.buffers.proofs.Bytes.{sets-next}
 use Rattle.buffers.proofs.checkpoints.write_branches.Statement.{statement}
 use Rattle.buffers.proofs.checkpoints.write_branches.Tie as tie
-use Rattle.buffers.proofs.checkpoints.write_branches.Reads as reads
-use Rattle.buffers.proofs.checkpoints.write_branches.Lts as lts
 
 abbrev Inv-loop : tie.InvT-loop
 Inv-loop out₀ branches i₀ out i = (i ≤ 270) × (out ≡ sets out₀ 3 (take i branches)) × (length out ≡ length out₀)
@@ -16,31 +14,24 @@ Inv-loop out₀ branches i₀ out i = (i ≤ 270) × (out ≡ sets out₀ 3 (tak
 abbrev μ-loop : tie.MeasureT-loop
 μ-loop out₀ branches i₀ out i = 270 - i
 
--- src/checkpoints.rt:90:5
 loop-holds : tie.Need-loop-holds Inv-loop μ-loop
 loop-holds c = (omega arith, refl, refl)
 
--- src/checkpoints.rt:91:22
 array-read-out : tie.Need-array-read-out Inv-loop μ-loop
 array-read-out c = omega arith
 
--- src/checkpoints.rt:91:13
 add-out : tie.Need-add-out Inv-loop μ-loop
 add-out c = omega arith
 
--- src/checkpoints.rt:91:9
 slice-write-out : tie.Need-slice-write-out Inv-loop μ-loop
 slice-write-out c = omega arith
 
--- src/checkpoints.rt:92:13
 add-i : tie.Need-add-i Inv-loop μ-loop
 add-i c = omega arith
 
--- src/checkpoints.rt:90:5
 loop-less : tie.Need-loop-less Inv-loop μ-loop
 loop-less c = omega arith
 
--- src/checkpoints.rt:90:5
 loop-again : tie.Need-loop-again Inv-loop μ-loop
 loop-again c =
     let l = c .before .loop in
@@ -48,11 +39,9 @@ loop-again c =
     let h : length (a .t2) ≡ 270 = search needs in
     (omega arith, rw (l .inv .1) (sets-next (a .out .now) (a .t2) 3 (l .i) (omega arith)), simp length-set (l .inv .2))
 
--- src/checkpoints.rt:85:1
 same-length : tie.Need-same-length Inv-loop μ-loop
 same-length c = c .before .loop .inv .2
 
--- src/checkpoints.rt:85:1
 returns : tie.Need-returns Inv-loop μ-loop
 returns c =
     let l = c .before .loop in

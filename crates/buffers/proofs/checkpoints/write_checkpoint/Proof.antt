@@ -5,37 +5,25 @@ use Rattle.buffers.proofs.CheckpointBytes.{checkpoint-fills}
 use borrow.Author.Needs.{needs}
 use Rattle.buffers.proofs.checkpoints.write_checkpoint.Statement.{statement}
 use Rattle.buffers.proofs.checkpoints.write_checkpoint.Tie as tie
-use Rattle.buffers.proofs.checkpoints.write_checkpoint.Reads as reads
-use Rattle.buffers.proofs.checkpoints.write_checkpoint.Lts as lts
-use Rattle.buffers.proofs.checkpoints.status_byte.Reads as status-byte-reads
-use Rattle.buffers.proofs.checkpoints.write_branches.Reads as write-branches-reads
-use Rattle.buffers.proofs.words.write_word.Reads as write-word-reads
 
--- src/checkpoints.rt:103:14
 status-byte-requires : tie.Need-status-byte-requires
 status-byte-requires c κs = search needs
 
--- src/checkpoints.rt:103:5
 slice-write-out : tie.Need-slice-write-out
 slice-write-out c = search needs
 
--- src/checkpoints.rt:104:31
 cast-write-word : tie.Need-cast-write-word
 cast-write-word c = search needs
 
--- src/checkpoints.rt:104:5
 write-word-requires : tie.Need-write-word-requires
 write-word-requires c κs = simp length-set (omega arith)
 
--- src/checkpoints.rt:105:5
 write-branches-requires : tie.Need-write-branches-requires
 write-branches-requires c κs = omega (arith, simp length-set at (c .before .before .before .write-word .kept .0))
 
--- src/checkpoints.rt:97:1
 same-length : tie.Need-same-length
 same-length c = omega (arith, c .before .before .write-branches .kept .0, simp length-set at (c .before .before .before .before .before .before .write-word .kept .0))
 
--- src/checkpoints.rt:97:1
 returns : tie.Need-returns
 returns c =
     let a = c .before .before .before .before .before .before .before .before .before .before .before .before .args in

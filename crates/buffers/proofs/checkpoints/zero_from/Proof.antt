@@ -6,8 +6,6 @@ use Rattle.buffers.specs.Checkpoints.{all-zero}
 use Rattle.buffers.proofs.CheckpointBytes.{zero-pass, zero-fail, zero-done}
 use Rattle.buffers.proofs.checkpoints.zero_from.Statement.{statement}
 use Rattle.buffers.proofs.checkpoints.zero_from.Tie as tie
-use Rattle.buffers.proofs.checkpoints.zero_from.Reads as reads
-use Rattle.buffers.proofs.checkpoints.zero_from.Lts as lts
 
 abbrev Inv-loop : tie.InvT-loop
 Inv-loop s from i₀ i = all-zero (drop i s) ≡ all-zero (drop from s)
@@ -15,31 +13,24 @@ Inv-loop s from i₀ i = all-zero (drop i s) ≡ all-zero (drop from s)
 abbrev μ-loop : tie.MeasureT-loop
 μ-loop s from i₀ i = length s - i
 
--- src/checkpoints.rt:38:5
 loop-holds : tie.Need-loop-holds Inv-loop μ-loop
 loop-holds c = refl
 
--- src/checkpoints.rt:39:12
 shared-slice-read-if1 : tie.Need-shared-slice-read-if1 Inv-loop μ-loop
 shared-slice-read-if1 c = omega arith
 
--- src/checkpoints.rt:40:13
 returns : tie.Need-returns Inv-loop μ-loop
 returns c = sym (sym (c .before .before .before .loop .inv) ∙ zero-fail (c .before .before .before .before .args .s .now) (c .before .before .before .loop .i) (omega arith) (c .if1 .taken))
 
--- src/checkpoints.rt:42:13
 add-i : tie.Need-add-i Inv-loop μ-loop
 add-i c = omega arith
 
--- src/checkpoints.rt:38:5
 loop-less : tie.Need-loop-less Inv-loop μ-loop
 loop-less c = omega arith
 
--- src/checkpoints.rt:38:5
 loop-again : tie.Need-loop-again Inv-loop μ-loop
 loop-again c = sym (zero-pass (c .before .before .before .before .args .s .now) (c .before .before .before .loop .i) (omega arith) (c .if1 .left)) ∙ c .before .before .before .loop .inv
 
--- src/checkpoints.rt:34:1
 returns-2 : tie.Need-returns-2 Inv-loop μ-loop
 returns-2 c = sym (sym (c .before .loop .inv) ∙ zero-done (c .before .before .args .s .now) (c .before .loop .i) (omega arith))
 

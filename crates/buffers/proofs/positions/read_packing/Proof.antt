@@ -5,9 +5,6 @@ use borrow.Author.Needs.{needs}
 use Rattle.buffers.proofs.Bytes.{ReadTo, read-none, read-next, read-all}
 use Rattle.buffers.proofs.positions.read_packing.Statement.{statement}
 use Rattle.buffers.proofs.positions.read_packing.Tie as tie
-use Rattle.buffers.proofs.positions.read_packing.Reads as reads
-use Rattle.buffers.proofs.positions.read_packing.Lts as lts
-use Rattle.buffers.proofs.positions.read_position.Reads as read-position-reads
 
 abbrev Inv-loop : tie.InvT-loop
 Inv-loop s n positions₀ u₀ positions u = (u ≤ n) × ReadTo s positions u
@@ -15,35 +12,27 @@ Inv-loop s n positions₀ u₀ positions u = (u ≤ n) × ReadTo s positions u
 abbrev μ-loop : tie.MeasureT-loop
 μ-loop s n positions₀ u₀ positions u = n - u
 
--- src/positions.rt:30:5
 loop-holds : tie.Need-loop-holds Inv-loop μ-loop
 loop-holds c = (omega arith, read-none (c .before .args .s .now))
 
--- src/positions.rt:31:24
 read-position-requires : tie.Need-read-position-requires Inv-loop μ-loop
 read-position-requires c κs = (omega arith, omega arith)
 
--- src/positions.rt:31:9
 mul-positions : tie.Need-mul-positions Inv-loop μ-loop
 mul-positions c = search needs
 
--- src/positions.rt:31:9
 array-set-from-positions : tie.Need-array-set-from-positions Inv-loop μ-loop
 array-set-from-positions c = omega arith
 
--- src/positions.rt:32:13
 add-u : tie.Need-add-u Inv-loop μ-loop
 add-u c = omega arith
 
--- src/positions.rt:30:5
 loop-less : tie.Need-loop-less Inv-loop μ-loop
 loop-less c = omega arith
 
--- src/positions.rt:30:5
 loop-again : tie.Need-loop-again Inv-loop μ-loop
 loop-again c = (omega arith, read-next (c .read-position .result) (c .before .before .loop .inv .1) (omega arith) (c .read-position .ensures))
 
--- src/positions.rt:24:1
 returns : tie.Need-returns Inv-loop μ-loop
 returns c =
     let l = c .before .loop in

@@ -10,9 +10,6 @@ use Rattle.buffers.specs.Bytes.{position-bytes}
 use Rattle.buffers.proofs.Bytes.{length-mapped, positions-next, packing-fills}
 use Rattle.buffers.proofs.positions.write_packing.Statement.{statement}
 use Rattle.buffers.proofs.positions.write_packing.Tie as tie
-use Rattle.buffers.proofs.positions.write_packing.Reads as reads
-use Rattle.buffers.proofs.positions.write_packing.Lts as lts
-use Rattle.buffers.proofs.positions.write_position.Reads as write-position-reads
 
 abbrev Inv-loop : tie.InvT-loop
 Inv-loop out₀ n positions u₀ out u = (u ≤ n) × (out ≡ sets out₀ 0 (row-bytes position-bytes (take u positions))) × (length out ≡ length out₀)
@@ -20,35 +17,27 @@ Inv-loop out₀ n positions u₀ out u = (u ≤ n) × (out ≡ sets out₀ 0 (ro
 abbrev μ-loop : tie.MeasureT-loop
 μ-loop out₀ n positions u₀ out u = n - u
 
--- src/positions.rt:53:5
 loop-holds : tie.Need-loop-holds Inv-loop μ-loop
 loop-holds c = (omega arith, rw (row-none position-bytes) refl, refl)
 
--- src/positions.rt:54:29
 mul-write-position : tie.Need-mul-write-position Inv-loop μ-loop
 mul-write-position c = omega arith
 
--- src/positions.rt:54:36
 mul-write-position-2 : tie.Need-mul-write-position-2 Inv-loop μ-loop
 mul-write-position-2 c = search needs
 
--- src/positions.rt:54:36
 array-copy-out-write-position : tie.Need-array-copy-out-write-position Inv-loop μ-loop
 array-copy-out-write-position c = omega arith
 
--- src/positions.rt:54:9
 write-position-requires : tie.Need-write-position-requires Inv-loop μ-loop
 write-position-requires c κs = omega arith
 
--- src/positions.rt:55:13
 add-u : tie.Need-add-u Inv-loop μ-loop
 add-u c = omega arith
 
--- src/positions.rt:53:5
 loop-less : tie.Need-loop-less Inv-loop μ-loop
 loop-less c = omega arith
 
--- src/positions.rt:53:5
 loop-again : tie.Need-loop-again Inv-loop μ-loop
 loop-again c =
     let l = c .before .before .before .before .before .before .loop in
@@ -57,11 +46,9 @@ loop-again c =
     let h : length (a .packing .positions) ≡ 10 = search length-mapped in
     (omega arith, rw (w .ensures, l .inv .1) (positions-next (a .packing .positions) (a .out .now) (l .u) (omega arith)), omega (arith, w .kept .0))
 
--- src/positions.rt:47:1
 same-length : tie.Need-same-length Inv-loop μ-loop
 same-length c = c .before .loop .inv .2
 
--- src/positions.rt:47:1
 returns : tie.Need-returns Inv-loop μ-loop
 returns c =
     let l = c .before .loop in

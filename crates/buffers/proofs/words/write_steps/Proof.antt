@@ -2,46 +2,34 @@ use Rattle.buffers.proofs.Bytes.{steps-fill}
 use borrow.Author.Needs.{needs}
 use Rattle.buffers.proofs.words.write_steps.Statement.{statement}
 use Rattle.buffers.proofs.words.write_steps.Tie as tie
-use Rattle.buffers.proofs.words.write_steps.Reads as reads
-use Rattle.buffers.proofs.words.write_steps.Lts as lts
 
--- src/words.rt:41:14
 cast-out : tie.Need-cast-out
 cast-out c = search needs
 
--- src/words.rt:41:5
 slice-write-out : tie.Need-slice-write-out
 slice-write-out c = search needs
 
--- src/words.rt:42:14
 cast-out-2 : tie.Need-cast-out-2
 cast-out-2 c = search needs
 
--- src/words.rt:42:5
 slice-write-out-2 : tie.Need-slice-write-out-2
 slice-write-out-2 c = search needs
 
--- src/words.rt:43:14
 cast-out-3 : tie.Need-cast-out-3
 cast-out-3 c = search needs
 
--- src/words.rt:43:5
 slice-write-out-3 : tie.Need-slice-write-out-3
 slice-write-out-3 c = search needs
 
--- src/words.rt:44:14
 cast-out-4 : tie.Need-cast-out-4
 cast-out-4 c = search needs
 
--- src/words.rt:44:5
 slice-write-out-4 : tie.Need-slice-write-out-4
 slice-write-out-4 c = search needs
 
--- src/words.rt:37:1
 same-length : tie.Need-same-length
 same-length c = search needs
 
--- src/words.rt:37:1
 returns : tie.Need-returns
 returns c = steps-fill (c .args .m) (c .args .out .now) (c .pre)
 

@@ -4,34 +4,25 @@ use lib.ListN.{length-set}
 use borrow.Author.Needs.{needs}
 use Rattle.buffers.proofs.words.write_word.Statement.{statement}
 use Rattle.buffers.proofs.words.write_word.Tie as tie
-use Rattle.buffers.proofs.words.write_word.Reads as reads
-use Rattle.buffers.proofs.words.write_word.Lts as lts
 
--- src/words.rt:32:15
 cast-out : tie.Need-cast-out
 cast-out c = search needs
 
--- src/words.rt:32:5
 slice-write-out : tie.Need-slice-write-out
 slice-write-out c = search needs
 
--- src/words.rt:33:19
 cast-out-2 : tie.Need-cast-out-2
 cast-out-2 c = search needs
 
--- src/words.rt:33:9
 add-out : tie.Need-add-out
 add-out c = search needs
 
--- src/words.rt:33:5
 slice-write-out-2 : tie.Need-slice-write-out-2
 slice-write-out-2 c = simp length-set (omega arith)
 
--- src/words.rt:28:1
 same-length : tie.Need-same-length
 same-length c = search needs
 
--- src/words.rt:28:1
 returns : tie.Need-returns
 returns c = rw add-one
 
