@@ -4,7 +4,7 @@
  * byte first: 6 bytes for each piece. A note is HALLPLAN_NOTE_BYTES bytes; a search opens with all of them 0, and each
  * later call gets the note that the last one left. Steps are HALLPLAN_STEP_BYTES bytes, low byte first.
  *
- * A refusal is HALLPLAN_REFUSED plus its number (1 to 8, or 10) and writes nothing. A pointer may be null where its
+ * A refusal is HALLPLAN_REFUSED plus its number (1 to 8, or 10) and writes nothing. No pointer is null, also where its
  * length is 0. No buffer lent to be written shares a byte with another buffer of the same call. */
 #ifndef HALLPLAN_H
 #define HALLPLAN_H

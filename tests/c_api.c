@@ -55,7 +55,7 @@ int main(void)
         EXPECT(hallplan_check(sheet, sizeof sheet, fits, n), 108);
     }
     EXPECT(hallplan_check(sheet, 12, fits, 11), 101);
-    EXPECT(hallplan_check(NULL, 0, NULL, 0), 101);
+    EXPECT(hallplan_check(sheet, 0, fits, 0), 101);
 
     /* search: a refused call writes nothing */
     fill();

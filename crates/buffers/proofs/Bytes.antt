@@ -7,7 +7,7 @@ use native.Mathlib.Omega.{arith}
 use native.Mathlib.Nat.{add-zero}
 use native.Mathlib.Numerals.{add-one}
 use lib.ListN.{length, getD, take, drop, set, replicate, length-set, length-map, drop-of-length-le, List·getD-eq-default}
-use lib.Seq.{sets, ext-getD, length-take-le, take-suc, getD-set-same, getD-set-other, getD-append-add}
+use lib.Seq.{sets, ext-getD, length-take-le, take-suc, getD-set-same, getD-set-other, getD-append-add, getD-take}
 use Rattle.records.specs.Bytes.{row-bytes}
 use Rattle.records.proofs.Writers.{sets-front, sets-append, row-next}
 use Rattle.instance.specs.declared.Packing.{Packing}
@@ -148,3 +148,10 @@ position-back (p ∷ ps) (suc u) h =
     rw (a, b, next k, next (k + 1)) in
     let x : word-at (position-bytes p ++ rest) (6 * suc u) ≡ word-at rest (6 * u) = simp add-zero at (word 0) in
     (λ i. record { x = x i; y = word 2 i; t = word 4 i }) ∙ position-back ps u (omega arith)
+
+pub packing-back : (n u : ℕ) (q : Packing) → n ≤ length (q .positions) → n ≤ 10 → u < n → getD (packing-in (packing-bytes n q) .positions) u origin ≡ getD (q .positions) u origin
+unfolding packing-in packing-bytes
+packing-back n u q l m h =
+    entry (position-at (row-bytes position-bytes (take n (q .positions)))) u (omega arith)
+    ∙ position-back (take n (q .positions)) u (omega (arith, length-take-le n (q .positions) l))
+    ∙ getD-take n (q .positions) u origin h
