@@ -1,76 +1,54 @@
-use native.Mathlib.Omega.{arith}
+-- `planner::result_text` meets its contract.
 use Rattle.planner.proofs.Programs.{text-packed, text-infeasible, text-spent, text-refused-call}
 use borrow.Author.Needs.{needs}
 use Rattle.planner.proofs.result_text.Statement.{statement}
 use Rattle.planner.proofs.result_text.Tie as tie
-use Rattle.planner.proofs.result_text.Reads as reads
-use Rattle.planner.proofs.result_text.Lts as lts
-use Rattle.report.proofs.infeasible.Reads as infeasible-reads
-use Rattle.report.proofs.packed.Reads as packed-reads
-use Rattle.report.proofs.refused.Reads as refused-reads
-use Rattle.report.proofs.spent.Reads as spent-reads
 
--- src/lib.rt:25:42
 enum-told : tie.Need-enum-told
 enum-told c = search needs
 
--- src/lib.rt:25:27
 packed-requires : tie.Need-packed-requires
 packed-requires c κs = search needs
 
--- src/lib.rt:26:50
 enum-told-2 : tie.Need-enum-told-2
 enum-told-2 c = search needs
 
--- src/lib.rt:26:31
 infeasible-requires : tie.Need-infeasible-requires
 infeasible-requires c κs = search needs
 
--- src/lib.rt:27:46
 enum-told-3 : tie.Need-enum-told-3
 enum-told-3 c = search needs
 
--- src/lib.rt:27:32
 spent-requires : tie.Need-spent-requires
 spent-requires c κs = search needs
 
--- src/lib.rt:28:25
 enum-known-answer : tie.Need-enum-known-answer
 enum-known-answer c = search needs
 
--- src/lib.rt:28:31
 refused-requires : tie.Need-refused-requires
 refused-requires c κs = search needs
 
--- src/lib.rt:16:1
 same-length : tie.Need-same-length
 same-length c = search needs
 
--- src/lib.rt:16:1
 returns : tie.Need-returns
 returns c = let a = c .before .before .before .before .before .before .before .before .args in let w = c .before .before .packed .ensures in rw (text-packed (a .n) (a .result) (c .before .before .before .before .enum-told .given .1)) (w .0, w .1)
 
--- src/lib.rt:16:1
 same-length-2 : tie.Need-same-length-2
 same-length-2 c = search needs
 
--- src/lib.rt:16:1
 returns-2 : tie.Need-returns-2
 returns-2 c = let a = c .before .before .before .before .before .before .before .before .args in let w = c .before .before .infeasible .ensures in rw (text-infeasible (a .n) (a .result) (c .before .before .before .before .enum-told2 .given .1)) (w .0, w .1)
 
--- src/lib.rt:16:1
 same-length-3 : tie.Need-same-length-3
 same-length-3 c = search needs
 
--- src/lib.rt:16:1
 returns-3 : tie.Need-returns-3
 returns-3 c = let a = c .before .before .before .before .before .before .before .before .args in let w = c .before .before .spent .ensures in rw (text-spent (a .n) (a .result) (c .before .before .before .before .enum-told3 .given .1)) (w .0, w .1)
 
--- src/lib.rt:16:1
 same-length-4 : tie.Need-same-length-4
 same-length-4 c = search needs
 
--- src/lib.rt:16:1
 returns-4 : tie.Need-returns-4
 returns-4 c = let a = c .before .before .before .before .before .before .before .before .before .args in let w = c .before .before .refused .ensures in rw (text-refused-call (a .n) (a .result) (c .before .before .before .before .before .answer .given .1)) (w .0, w .1)
 

@@ -1,61 +1,43 @@
+-- `planner::sheet_text` meets its contract.
 use native.Mathlib.Omega.{arith}
-use mathlib.Core.Path.{_∙_}
 use Rattle.planner.proofs.Programs.{text-read, text-refused, few-items}
 use borrow.Author.Needs.{needs}
 use Rattle.planner.proofs.sheet_text.Statement.{statement}
 use Rattle.planner.proofs.sheet_text.Tie as tie
-use Rattle.planner.proofs.sheet_text.Reads as reads
-use Rattle.planner.proofs.sheet_text.Lts as lts
-use Rattle.instance.proofs.Instance.opening.Reads as opening-reads
-use Rattle.instance.proofs.Instance.read.Reads as read-reads
-use Rattle.planner.proofs.result_text.Reads as result-text-reads
-use Rattle.report.proofs.refused.Reads as refused-reads
-use Rattle.search.proofs.search.Reads as search-reads
 
--- src/lib.rt:38:9
 read-requires : tie.Need-read-requires
 read-requires c κs = search needs
 
--- src/lib.rt:42:17
 enum-told : tie.Need-enum-told
 enum-told c = search needs
 
--- src/lib.rt:43:51
 opening-requires : tie.Need-opening-requires
 opening-requires c κs = search needs
 
--- src/lib.rt:43:17
 search-requires : tie.Need-search-requires
 search-requires c κs = search needs
 
--- src/lib.rt:44:13
 result-text-requires : tie.Need-result-text-requires
 result-text-requires c κs = (few-items (c .before .before .before .before .before .before .before .before .before .args .sheet .now) (c .before .before .before .before .before .before .read .result) (c .before .before .before .before .before .before .read .ensures) (λ j. c .before .before .before .before .before .before .before .shared-slice-known .given j .fits) (c .before .before .before .before .enum-told .given .1), omega arith)
 
--- src/lib.rt:46:29
 enum-known-answer : tie.Need-enum-known-answer
 enum-known-answer c = search needs
 
--- src/lib.rt:46:35
 refused-requires : tie.Need-refused-requires
 refused-requires c κs = search needs
 
--- src/lib.rt:33:1
 same-length : tie.Need-same-length
 same-length c = search needs
 
--- src/lib.rt:33:1
 returns : tie.Need-returns
 returns c =
     let w = c .before .before .result-text .ensures in
     let e = text-read (c .before .before .before .before .before .before .before .before .before .before .before .before .args .sheet .now) (c .before .before .before .before .before .before .before .before .before .read .result) (c .before .before .before .before .before .before .before .before .before .read .ensures) (c .before .before .before .before .before .before .before .enum-told .given .1) in
     rw (e, ← (c .before .before .before .before .before .opening .ensures), ← (c .before .before .before .before .search .ensures)) (w .0, w .1)
 
--- src/lib.rt:33:1
 same-length-2 : tie.Need-same-length-2
 same-length-2 c = search needs
 
--- src/lib.rt:33:1
 returns-2 : tie.Need-returns-2
 returns-2 c =
     let w = c .before .before .refused .ensures in
