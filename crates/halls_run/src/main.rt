@@ -23,16 +23,22 @@ fn resume(instance: Instance, checkpoint: Checkpoint, budget: u32) -> Checkpoint
 }
 
 // Budgets 0, 1, 1, 1, each call from the checkpoint that the last one returned.
+fn resume_all(instance: Instance)
+    requires { ⌜ instance .«item_count» ≤ 10 ⌝ }
+{
+    let a = resume(instance, Instance::opening(), 0);
+    let b = resume(instance, a, 1);
+    let c = resume(instance, b, 1);
+    resume(instance, c, 1);
+}
+
 fn run_in_parts(sheet: &[u8]) {
     let reading = Instance::read(sheet);
     let answer = reading.answer;
     match answer {
         ReadAnswer::Read => {
             let instance = reading.instance;
-            let a = resume(instance, Instance::opening(), 0);
-            let b = resume(instance, a, 1);
-            let c = resume(instance, b, 1);
-            resume(instance, c, 1);
+            resume_all(instance);
         }
         ReadAnswer::Refused(_) => {
             run(sheet);
