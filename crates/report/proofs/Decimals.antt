@@ -58,6 +58,7 @@ decimal-short zero n h = rw (decimal-one n h) (omega arith)
 decimal-short (suc k) n h =
     ⊎-elim (λ l. rw (decimal-one n l) (omega arith))
     (λ l.
-    let s : n / 10 < 10 ^ suc k = div-lt-iff-lt-mul (omega arith) .1 (rw (pow-suc 10 (suc k)) at h) in
+    let ten : 0 < 10 = omega arith in
+    let s : n / 10 < 10 ^ suc k = div-lt-iff-lt-mul ten .1 (rw (pow-suc 10 (suc k)) at h) in
     rw (decimal-more n l, length-append) (omega (arith, decimal-short k (n / 10) s)))
     (one-or-more n)
