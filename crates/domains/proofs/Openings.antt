@@ -1,0 +1,67 @@
+-- The precedences of a valid instance name two of its items each.
+use mathlib.Core.Bool.{Bool, true, not, _&&_}
+use mathlib.Core.List.{List, [], _∷_, map}
+use mathlib.Core.Path.{_≡_, refl, sym, _∙_, ap}
+use Prim.Native.Nat.{ℕ, zero, suc, _+_, _≤_, _<_}
+use native.Mathlib.Omega.{arith}
+use lib.Dec.{ltb, leb, eqb}
+use lib.ListN.{getD, length, take, drop}
+use lib.Seq.{getD-take, length-take-le}
+use borrow.Author.Tests.{ltb-true, leb-true, eqb-false, not-true}
+use Rattle.records.specs.declared.Precedence.{Precedence}
+use Rattle.records.specs.declared.Previous.{Previous}
+use Rattle.records.specs.declared.Previous.the-variants.{Nothing, Was}
+use Rattle.records.specs.Precedences.{names-items, rises, all-stand}
+use Rattle.records.specs.Sizes.{positive, all-have-size, no-precedence}
+use Rattle.records.proofs.Tests.{part-next, part-done}
+use Rattle.instance.specs.declared.Instance.{Instance}
+use Rattle.instance.specs.Valid.{valid, items-of, precedences-of}
+use Rattle.instance.specs.Meaning.{precedence-of}
+use Rattle.model.specs.Domains.{Domains, fix-before}
+use Rattle.model.specs.Branching.{fix-precedences}
+use Rattle.model.specs.Order.{Proper}
+use Rattle.model.proofs.Below.{and-both}
+
+stands-at : (n : ℕ) (last : Previous) (l : List Precedence) → all-stand n last l ≡ true → (i : ℕ) → i < length l → names-items n (getD l i no-precedence) ≡ true
+unfolding all-stand
+stands-at n last [] e i h = absurd (omega arith)
+stands-at n last (o ∷ l) e zero h =
+    and-both (names-items n o) (rises last o) (and-both (names-items n o && rises last o) (all-stand n (Was o) l) e .0) .0
+stands-at n last (o ∷ l) e (suc i) h =
+    stands-at n (Was o) l (and-both (names-items n o && rises last o) (all-stand n (Was o) l) e .1) i (omega arith)
+
+names-proper : (n : ℕ) (o : Precedence) → n ≤ 10 → names-items n o ≡ true → Proper 10 2 (o .predecessor) (o .successor)
+unfolding names-items
+names-proper n o h e =
+    let q = and-both (ltb (o .predecessor) n) (ltb (o .successor) n && not (eqb (o .predecessor) (o .successor))) e in
+    let r = and-both (ltb (o .successor) n) (not (eqb (o .predecessor) (o .successor))) (q .1) in
+    let u = ltb-true (o .predecessor) n (q .0) in
+    let v = ltb-true (o .successor) n (r .0) in
+    record { axis = omega arith; item-u = omega arith; item-v = omega arith; distinct = eqb-false (o .predecessor) (o .successor) (not-true _ (r .1)) }
+
+-- what is valid about the precedences
+pub valid-parts : (x : Instance) → valid x ≡ true
+    → (x .«item_count» ≤ 10) × (x .«precedence_count» ≤ 90) × (all-stand (x .«item_count») Nothing (precedences-of x) ≡ true)
+unfolding valid
+valid-parts x v =
+    let a = and-both (leb (x .«item_count») 10) (leb (x .«precedence_count») 90 && (positive (x .container) && (all-have-size (items-of x) && all-stand (x .«item_count») Nothing (precedences-of x)))) v in
+    let b = and-both (leb (x .«precedence_count») 90) (positive (x .container) && (all-have-size (items-of x) && all-stand (x .«item_count») Nothing (precedences-of x))) (a .1) in
+    let c = and-both (positive (x .container)) (all-have-size (items-of x) && all-stand (x .«item_count») Nothing (precedences-of x)) (b .1) in
+    let d = and-both (all-have-size (items-of x)) (all-stand (x .«item_count») Nothing (precedences-of x)) (c .1) in
+    (leb-true _ 10 (a .0), leb-true _ 90 (b .0), d .1)
+
+pub stand-proper : (n m : ℕ) (os : List Precedence) → n ≤ 10 → m ≤ length os → all-stand n Nothing (take m os) ≡ true → (i : ℕ) → i < m
+    → Proper 10 2 (getD os i no-precedence .predecessor) (getD os i no-precedence .successor)
+stand-proper n m os limited room e i h =
+    names-proper n (getD os i no-precedence) limited
+    (rw (getD-take m os i no-precedence h) at (stands-at n Nothing (take m os) e i (rw (length-take-le m os room) h)))
+
+-- One precedence more is fixed
+module _ (m i : ℕ) (os : List Precedence) (room : m ≤ length os) (k : Domains) where
+  pub fixed-next : i < m
+      → fix-precedences (map precedence-of (drop i (take m os))) k
+      ≡ fix-precedences (map precedence-of (drop (i + 1) (take m os))) (fix-before k 2 (getD os i no-precedence .predecessor) (getD os i no-precedence .successor))
+  fixed-next h = rw (part-next m i os room no-precedence h) refl
+
+  pub fixed-done : m ≤ i → fix-precedences (map precedence-of (drop i (take m os))) k ≡ k
+  fixed-done h = rw (part-done m i os room h) refl

@@ -1,0 +1,30 @@
+use mathlib.Core.Path.{_≡_, sym, _∙_}
+use Rattle.model.specs.Domains.{fixed-overlap}
+use borrow.Author.Needs.{needs}
+use Rattle.domains.proofs.access.fixed_overlap.Statement.{statement}
+use Rattle.domains.proofs.access.fixed_overlap.Tie as tie
+use Rattle.domains.proofs.access.fixed_overlap.Reads as reads
+use Rattle.domains.proofs.access.fixed_overlap.Lts as lts
+use Rattle.domains.proofs.access.may_before.Reads as may-before-reads
+
+-- src/access.rt:66:8
+may-before-requires : tie.Need-may-before-requires
+may-before-requires c κs = search needs
+
+-- src/access.rt:67:9
+returns : tie.Need-returns
+unfolding fixed-overlap
+returns c = rw (← (c .before .may-before .ensures), c .if1 .taken)
+
+-- src/access.rt:69:6
+may-before-requires-2 : tie.Need-may-before-requires-2
+may-before-requires-2 c κs = search needs
+
+-- src/access.rt:62:1
+returns-2 : tie.Need-returns-2
+unfolding fixed-overlap
+returns-2 c = rw (← (c .before .before .may-before .ensures), c .before .if1 .left, ← (c .may-before2 .ensures))
+
+pub fixed-overlap-spec : {M : Type 1} → statement M
+fixed-overlap-spec =
+    tie.close (tie.spec may-before-requires returns may-before-requires-2 returns-2)

@@ -1,0 +1,28 @@
+use borrow.Author.Tests.{not-true, not-false}
+use borrow.Author.Needs.{needs}
+use Rattle.domains.proofs.rules.blocks_after.Statement.{statement}
+use Rattle.domains.proofs.rules.blocks_after.Tie as tie
+use Rattle.domains.proofs.rules.blocks_after.Reads as reads
+use Rattle.domains.proofs.rules.blocks_after.Lts as lts
+use Rattle.domains.proofs.access.fixed_before.Reads as fixed-before-reads
+use Rattle.domains.proofs.access.may_before.Reads as may-before-reads
+
+-- src/rules.rt:80:9
+fixed-before-requires : tie.Need-fixed-before-requires
+fixed-before-requires c κs = search needs
+
+-- src/rules.rt:81:9
+returns : tie.Need-returns
+returns c = rw (← (c .before .fixed-before .ensures), not-true (c .before .fixed-before .result) (c .if1 .taken))
+
+-- src/rules.rt:83:6
+may-before-requires : tie.Need-may-before-requires
+may-before-requires c κs = search needs
+
+-- src/rules.rt:76:1
+returns-2 : tie.Need-returns-2
+returns-2 c = rw (← (c .before .before .fixed-before .ensures), not-false (c .before .before .fixed-before .result) (c .before .if1 .left), ← (c .may-before .ensures))
+
+pub blocks-after-spec : {M : Type 1} → statement M
+blocks-after-spec =
+    tie.close (tie.spec fixed-before-requires returns may-before-requires returns-2)

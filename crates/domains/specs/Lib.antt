@@ -1,0 +1,7 @@
+pub mod Access
+pub mod Shape
+pub mod Choice
+pub mod Sweep
+pub mod Chains
+pub mod Propagated
+pub mod Starts

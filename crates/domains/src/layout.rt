@@ -1,0 +1,52 @@
+// An instance's measures as arrays.
+ghost use mathlib.Core.Path.{_≡_};
+ghost use mathlib.Core.List.{map};
+ghost use Prim.Native.Nat.{_<_};
+ghost use lib.ListN.{length};
+ghost use Rattle.instance.specs.Meaning.{problem-of, precedence-of};
+ghost use Rattle.instance.specs.Valid.{precedences-of};
+ghost use Rattle.domains.specs.Shape.{Copied, Laid, size-at};
+use crate::Shape;
+use instance::Instance;
+use records::Item;
+
+// The items' measures, axis by axis.
+fn copied(items: [Item; 10]) -> [u16; 30]
+    ensures { λ r. ⌜ Copied items r 10 × (length items ≡ 10) ⌝ }
+{
+    let mut sizes = [0u16; 30];
+    let mut i: usize = 0;
+    while i < 10 {
+        let item = items[i];
+        let size = item.size;
+        sizes[i] = size.width;
+        sizes[10 + i] = size.depth;
+        sizes[20 + i] = size.shifts;
+        i = i + 1;
+    }
+    sizes
+}
+
+// The arrays of an instance.
+pub fn shape_of(instance: Instance) -> Shape
+    ensures { λ r. ⌜ Laid instance r ⌝ }
+{
+    let n = instance.item_count;
+    let items = instance.items;
+    let container = instance.container;
+    let sizes = copied(items);
+    let capacity = [container.width, container.depth, container.shifts];
+    Shape {
+        items: n,
+        sizes,
+        capacity,
+    }
+}
+
+// The measure of an item on an axis.
+pub fn size_of(sizes: &[u16; 30], a: usize, u: usize) -> u16
+    requires { ⌜ (length (now sizes) ≡ 30) × (a < 3) × (u < 10) ⌝ }
+    ensures { λ r. ⌜ r ≡ size-at (now (sizes .entry)) a u ⌝ }
+{
+    sizes[a * 10 + u]
+}

@@ -1,0 +1,30 @@
+// The domains of all pairs and axes in one array: their accessors, propagation, greatest chains, and where the search branches.
+pub mod access;
+pub mod branch;
+pub mod chains;
+pub mod layout;
+pub mod opening;
+pub mod propagation;
+pub mod rules;
+pub mod starts;
+pub mod sweep;
+
+// An instance's measures as arrays: the size of an item at axis * 10 + item.
+pub struct Shape {
+    pub items: usize,
+    pub sizes: [u16; 30],
+    pub capacity: [u16; 3],
+}
+
+// A pair u < v on an axis.
+pub struct Place {
+    pub axis: usize,
+    pub u: usize,
+    pub v: usize,
+}
+
+// Where to branch, if not every pair is separated.
+pub enum Branching {
+    Packed,
+    At(Place),
+}

@@ -1,0 +1,109 @@
+-- Steps under way: where the search stands, what the checkpoint holds, and what is left of the budget.
+use mathlib.Core.Bool.{true, false}
+use mathlib.Core.List.{List, [], _∷_}
+use mathlib.Core.Logic.{_⊎_, inl, inr}
+use mathlib.Core.Path.{_≡_}
+use Prim.Native.Nat.{ℕ, _+_, _-_, _≤_, _<_}
+use native.Mathlib.Omega.{arith}
+use lib.ListN.{length, getD, set}
+use Rattle.model.proofs.Path.{path-well-formed}
+use Rattle.model.proofs.Search.{limit-270}
+use Rattle.model.proofs.Theorems.{fork-most, path-270}
+use Rattle.model.specs.Admits.{Sound}
+use Rattle.model.specs.Branching.{Branch, first, second}
+use Rattle.model.specs.Domains.{Domains}
+use Rattle.model.specs.Order.{WellFormed, Rising}
+use Rattle.model.specs.Problem.{Problem}
+use Rattle.model.specs.Run.{look}
+use Rattle.model.specs.Search as S
+use Rattle.domains.specs.Choice.{Branched}
+use Rattle.domains.specs.declared.Place.{Place}
+use Rattle.search.specs.Standing.{Looked, Standing, Holds, without-seconds}
+use Rattle.search.specs.declared.Outlook.the-variants.{Complete, Fork}
+use Rattle.search.specs.declared.Snapshot.{Snapshot}
+use Rattle.search.proofs.Budget.{Rest, Comes, rest-start, rest-next, rest-finished}
+use Rattle.search.proofs.Checkpoints.{holds-next, turned}
+use Rattle.search.proofs.Standing.{fork-rising, stand-next, stand-back, Turn, turn}
+
+-- some steps on from the path `start`
+pub record Going (p : Problem) (budget : ℕ) (start : List Branch) (levels : List Snapshot) (k : Domains) (bs : List ℕ) (depth taken : ℕ) : Type 0 where
+  pub path : List Branch
+  pub stands : Standing p levels k path
+  pub holds : Holds path bs depth
+  pub rest : Rest (look p) budget (S.open-at start) taken (S.open-at path)
+
+pub going-start : {p : Problem} {budget : ℕ} {start : List Branch} {levels : List Snapshot} {k : Domains} {bs : List ℕ} {depth : ℕ}
+    → Standing p levels k start → Holds start bs depth → Going p budget start levels k bs depth 0
+going-start {p} {budget} {start} σ h = record { path = start; stands = σ; holds = h; rest = rest-start (look p) budget (S.open-at start) }
+
+module _ {p : Problem} {budget : ℕ} {start : List Branch} {levels : List Snapshot} {k : Domains} {bs : List ℕ} {depth taken : ℕ}
+    (γ : Going p budget start levels k bs depth taken) where
+  pub going-depth : Sound p → depth ≤ 270
+  going-depth σ = omega (arith, γ .holds .many, path-270 p σ (γ .path) (γ .stands .forks))
+
+  -- "each pair has 'before' known: placed"
+  pub complete-comes : taken < budget → {j : Domains} → Looked p (γ .path) j Complete → Comes (look p) budget (S.open-at start) (taken + 1) (S.packed-at (γ .path))
+  complete-comes h l = rest-finished (look p) budget (S.open-at start) (rest-next (look p) budget (S.open-at start) (γ .rest) h (l .0)) tt
+
+  -- "Append a first turn"
+  pub fork-depth : Sound p → {j : Domains} {c : Place} → Looked p (γ .path) j (Fork c) → depth < 270
+  fork-depth σ l = omega (arith, γ .holds .many, fork-most p σ (γ .path) (γ .stands .forks) (l .0), limit-270 p (σ .limited))
+
+  pub fork-goes : {j h : Domains} {c : Place} → depth < 270 → taken < budget → Looked p (γ .path) j (Fork c) → Branched j c false h
+      → Going p budget start (set levels depth (record { domains = j; place = c })) h (set bs depth 0) (depth + 1) (taken + 1)
+  fork-goes d t l β = record {
+    path = first ∷ γ .path;
+    stands = stand-next p (γ .stands) l (γ .holds .many) d β;
+    holds = holds-next first (γ .holds);
+    rest = rest-next (look p) budget (S.open-at start) (γ .rest) t (l .0);
+  }
+
+  -- "contradictory: drop the trailing second turns"
+  conflict-rest : taken < budget → look p (γ .path) ≡ S.conflict → {κ : S.Checkpoint} → S.backtrack (γ .path) ≡ κ
+      → Rest (look p) budget (S.open-at start) (taken + 1) κ
+  conflict-rest t l e = rw e at (rest-next (look p) budget (S.open-at start) (γ .rest) t l)
+
+  module _ {cs : List ℕ} {left : ℕ} (δ : Holds (without-seconds (γ .path)) cs left) where
+    back : ((without-seconds (γ .path) ≡ []) × (S.backtrack (γ .path) ≡ S.infeasible)) ⊎ Turn p levels (γ .path)
+    back = turn p levels (γ .path) (γ .stands .forks) (γ .stands .saved)
+
+    -- "if none is left, the note is none with an empty row"
+    pub conflict-comes : left ≡ 0 → taken < budget → look p (γ .path) ≡ S.conflict
+        → Comes (look p) budget (S.open-at start) (taken + 1) S.infeasible
+    conflict-comes e t l = go back
+      where
+        go : ((without-seconds (γ .path) ≡ []) × (S.backtrack (γ .path) ≡ S.infeasible)) ⊎ Turn p levels (γ .path)
+            → Comes (look p) budget (S.open-at start) (taken + 1) S.infeasible
+        go (inl (n, b)) = rest-finished (look p) budget (S.open-at start) (conflict-rest t l b) tt
+        go (inr τ) = let m = rw (τ .left) at (δ .many) in absurd (omega arith)
+
+    -- "else the last first turn becomes second"
+    pub there : (left ≡ 0 → ⊥) → Turn p levels (γ .path)
+    there f = go back
+      where
+        go : ((without-seconds (γ .path) ≡ []) × (S.backtrack (γ .path) ≡ S.infeasible)) ⊎ Turn p levels (γ .path) → Turn p levels (γ .path)
+        go (inl (n, b)) = absurd (f (rw n at (δ .many)))
+        go (inr τ) = τ
+
+    module _ (τ : Turn p levels (γ .path)) where
+      pub at-turn : left - 1 ≡ length (τ .to)
+      at-turn = let m = rw (τ .left) at (δ .many) in omega arith
+
+      pub turn-depth : Sound p → left ≤ 270
+      turn-depth σ = let m = rw (τ .left) at (δ .many) in omega (arith, path-270 p σ (second ∷ τ .to) (τ .forks))
+
+      pub turn-rising : Sound p → (d : Snapshot) → Rising 10 (getD levels (left - 1) d .place .axis) (getD levels (left - 1) d .place .u) (getD levels (left - 1) d .place .v)
+      turn-rising σ d = rw at-turn (fork-rising p (τ .to) σ (τ .forks .0) (τ .saved .0 d .place))
+
+      pub turn-well-formed : (d : Snapshot) → WellFormed (getD levels (left - 1) d .domains)
+      turn-well-formed d = rw (at-turn, τ .saved .0 d .domains) (path-well-formed p (τ .to))
+
+      pub turn-goes : (d : Snapshot) {h : Domains} → taken < budget → look p (γ .path) ≡ S.conflict
+          → Branched (getD levels (left - 1) d .domains) (getD levels (left - 1) d .place) true h
+          → Going p budget start levels h (set cs (left - 1) 1) left (taken + 1)
+      turn-goes d t l β = record {
+        path = second ∷ τ .to;
+        stands = stand-back p d (γ .stands) τ at-turn β;
+        holds = turned second (rw (τ .left) at δ);
+        rest = conflict-rest t l (τ .back);
+      }

@@ -1,0 +1,54 @@
+-- The test of the first n is the test of the first i, for i from n down.
+use mathlib.Core.Path.{_≡_, refl, sym, _∙_}
+use Prim.Native.Nat.{_≤_}
+use native.Mathlib.Omega.{arith}
+use Rattle.search.specs.Checkpoints.{all-branches}
+use Rattle.search.proofs.Checkpoints.{branches-fail, branches-pass}
+use Rattle.search.proofs.path.all_branches.Statement.{statement}
+use Rattle.search.proofs.path.all_branches.Tie as tie
+
+abbrev Inv-loop : tie.InvT-loop
+Inv-loop n branches i₀ i = (i ≤ n) × (all-branches n branches ≡ all-branches i branches)
+
+abbrev μ-loop : tie.MeasureT-loop
+μ-loop n branches i₀ i = i
+
+loop-holds : tie.Need-loop-holds Inv-loop μ-loop
+loop-holds c = (omega arith, refl)
+
+sub-if1 : tie.Need-sub-if1 Inv-loop μ-loop
+sub-if1 c = omega arith
+
+array-read-if1 : tie.Need-array-read-if1 Inv-loop μ-loop
+array-read-if1 c = omega arith
+
+returns : tie.Need-returns Inv-loop μ-loop
+returns c = sym (c .before .before .loop .inv .1 ∙ branches-fail (c .before .before .loop .i) (c .before .before .before .args .t1) (omega arith) (c .if1 .taken))
+
+sub-i : tie.Need-sub-i Inv-loop μ-loop
+sub-i c = omega arith
+
+loop-less : tie.Need-loop-less Inv-loop μ-loop
+loop-less c = omega arith
+
+loop-again : tie.Need-loop-again Inv-loop μ-loop
+loop-again c = (omega arith, c .before .before .loop .inv .1 ∙ branches-pass (c .before .before .loop .i) (c .before .before .before .args .t1) (omega arith) (c .if1 .left))
+
+returns-2 : tie.Need-returns-2 Inv-loop μ-loop
+unfolding all-branches
+returns-2 c = let e : c .before .loop .i ≡ 0 = omega arith in sym (c .before .loop .inv .1 ∙ rw e)
+
+pub all-branches-spec : {M : Type 1} → statement M
+all-branches-spec =
+    tie.close
+    (tie.spec
+    Inv-loop
+    μ-loop
+    loop-holds
+    sub-if1
+    array-read-if1
+    returns
+    sub-i
+    loop-less
+    loop-again
+    returns-2)

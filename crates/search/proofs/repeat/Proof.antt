@@ -1,0 +1,141 @@
+use mathlib.Core.List.{List, map}
+use mathlib.Core.Path.{_≡_, sym, _∙_}
+use lib.ListN as L
+use borrow.Author.Needs.{needs}
+use borrow.Author.Tests.{not-true, not-false}
+use Rattle.model.proofs.Run.{forking-so}
+use Rattle.model.specs.Admits.{Sound}
+use Rattle.model.specs.Branching.{Branch}
+use Rattle.model.specs.Domains.{Domains}
+use Rattle.model.specs.Order.{WellFormed}
+use Rattle.model.specs.Problem.{Problem}
+use Rattle.model.specs.Run.{look}
+use Rattle.model.specs.Search as S
+use Rattle.instance.specs.Meaning.{precedence-of}
+use Rattle.instance.specs.Valid.{precedences-of}
+use Rattle.domains.specs.Shape.{shape-problem, Given}
+use Rattle.search.specs.Checkpoints.{path-of}
+use Rattle.search.specs.Standing.{Standing, Looked}
+use Rattle.search.proofs.Checkpoints.{path-length}
+use Rattle.search.proofs.Outcome.{comes-packed, comes-again, follows-result, refused-result, complete-follows, incomplete}
+use Rattle.search.proofs.Seeing.{startable, started-plan}
+use Rattle.search.proofs.Sound.{length-mapped, laid-sound}
+use Rattle.search.proofs.repeat.Statement.{statement}
+use Rattle.search.proofs.repeat.Tie as tie
+
+long : (c : tie.Start) → L.length (c .args .instance .items) ≡ 10
+long c = search length-mapped
+
+-- the path, and the problem of the arrays
+abbrev path : tie.Start → List Branch
+path c = path-of (c .args .checkpoint .length) (c .args .checkpoint .branches)
+
+abbrev problem : tie.After-shape-of → Problem
+problem c =
+    shape-problem (c .shape-of .result .items) (c .shape-of .result .sizes) (c .shape-of .result .capacity)
+    (map precedence-of (precedences-of (c .before .before .before .before .before .args .instance)))
+
+sound : (c : tie.After-shape-of) → Sound (problem c)
+sound c = laid-sound (c .before .before .before .before .before .args .instance) (c .shape-of .result) (c .shape-of .ensures) (c .before .before .before .before .before .pre .0) (long (c .before .before .before .before .before))
+
+arrays : (c : tie.After-shape-of) {k : Domains} → WellFormed k → Given k (c .shape-of .result .items) (c .shape-of .result .sizes) (c .shape-of .result .capacity)
+arrays c w = record { well-formed = w; limited = sound c .limited; sizes-long = search needs; capacity-long = search needs }
+
+-- where the replay has come to
+here : (c : tie.After-shape-of) → Standing (problem c) (c .before .before .before .replay .result .levels) (c .before .before .before .replay .result .domains) (path (c .before .before .before .before .before))
+here c = rw (c .shape-of .ensures .means) at (c .before .before .before .replay .ensures .stands (not-false _ (c .before .if1 .left)))
+
+-- what is seen there
+seen : (c : tie.After-look) → Looked (problem (c .before .before .before .before .before .before .before)) (path (c .before .before .before .before .before .before .before .before .before .before .before .before)) (c .look .last .0) (c .look .result)
+seen c = c .look .ensures .looked _ _ (here (c .before .before .before .before .before .before .before) .ready)
+
+replay-requires : tie.Need-replay-requires
+replay-requires c κs = search needs
+
+refused-requires : tie.Need-refused-requires
+refused-requires c κs = search needs
+
+returns : tie.Need-returns
+returns c =
+    rw (← (c .before .before .before .replay .ensures .verdict), not-true (c .before .before .before .replay .result .follows) (c .before .if1 .taken)) (c .refused .ensures)
+
+shape-of-requires : tie.Need-shape-of-requires
+shape-of-requires c κs = search needs
+
+look-requires : tie.Need-look-requires
+look-requires c κs = arrays (c .before .before .before .before .before .before) (here (c .before .before .before .before .before .before) .ready .well-formed)
+
+enum-told : tie.Need-enum-told
+enum-told c = search needs
+
+path-branches-requires : tie.Need-path-branches-requires
+path-branches-requires c κs = search needs
+
+starts-of-requires : tie.Need-starts-of-requires
+starts-of-requires c κs =
+    let l = rw (c .before .before .before .before .enum-told .given .1) at (seen (c .before .before .before .before .before .before)) in
+    startable _ _ _ _ (path (c .before .before .before .before .before .before .before .before .before .before .before .before .before .before .before .before .before .before)) (sound (c .before .before .before .before .before .before .before .before .before .before .before .before .before)) (arrays (c .before .before .before .before .before .before .before .before .before .before .before .before .before) (c .before .before .before .before .before .before .look .ensures .well-formed)) l
+
+packed-requires : tie.Need-packed-requires
+packed-requires c κs = search needs
+
+enum-told-2 : tie.Need-enum-told-2
+enum-told-2 c = search needs
+
+refused-requires-2 : tie.Need-refused-requires-2
+refused-requires-2 c κs = search needs
+
+enum-told-3 : tie.Need-enum-told-3
+enum-told-3 c = search needs
+
+refused-requires-3 : tie.Need-refused-requires-3
+refused-requires-3 c κs = search needs
+
+returns-2 : tie.Need-returns-2
+returns-2 c =
+    let p = problem (c .before .before .before .before .before .before .before .before .before .before .before .before .before .before .before) in
+    let l = rw (c .before .before .before .before .before .before .enum-told .given .1) at (seen (c .before .before .before .before .before .before .before .before)) in
+    let q : L.length (c .before .starts-of .result .positions) ≡ 10 = search length-mapped in
+    let κ = S.packed-at (path (c .before .before .before .before .before .before .before .before .before .before .before .before .before .before .before .before .before .before .before .before)) in
+    let f = complete-follows p (path (c .before .before .before .before .before .before .before .before .before .before .before .before .before .before .before .before .before .before .before .before)) (forking-so (look p) (path (c .before .before .before .before .before .before .before .before .before .before .before .before .before .before .before .before .before .before .before .before)) .1 (here (c .before .before .before .before .before .before .before .before .before .before .before .before .before .before .before) .forks)) (l .0) in
+    rw (c .before .before .before .before .before .before .before .before .before .before .before .before .before .before .before .shape-of .ensures .means)
+    (c .packed .ensures
+    ∙ comes-packed p (c .before .before .before .before .before .before .before .before .before .before .before .before .before .before .before .before .before .before .before .before .args .budget) κ (record { many = sym (path-length _ _); values = c .before .before .before .before .before .path-branches .ensures }) (started-plan _ _ _ _ (path (c .before .before .before .before .before .before .before .before .before .before .before .before .before .before .before .before .before .before .before .before)) l (c .before .starts-of .ensures) q) (comes-again p (c .before .before .before .before .before .before .before .before .before .before .before .before .before .before .before .before .before .before .before .before .args .budget) κ tt)
+    ∙ follows-result p (c .before .before .before .before .before .before .before .before .before .before .before .before .before .before .before .before .before .before .before .before .args .budget) κ _ f)
+
+returns-3 : tie.Need-returns-3
+returns-3 c =
+    let a = c .before .before .before .before .before .before .before .before .before .before .before .before .before .before .before .args in
+    let p = problem (c .before .before .before .before .before .before .before .before .before .before) in
+    let l = rw (c .before .enum-told2 .given .1) at (seen (c .before .before .before)) in
+    rw (c .before .before .before .before .before .before .before .before .before .before .shape-of .ensures .means)
+    (c .refused2 .ensures ∙ refused-result p (a .budget) (S.packed-at (path (c .before .before .before .before .before .before .before .before .before .before .before .before .before .before .before))) (a .checkpoint) (incomplete p (path (c .before .before .before .before .before .before .before .before .before .before .before .before .before .before .before)) (rw l)))
+
+returns-4 : tie.Need-returns-4
+returns-4 c =
+    let a = c .before .before .before .before .before .before .before .before .before .before .before .before .before .before .before .args in
+    let p = problem (c .before .before .before .before .before .before .before .before .before .before) in
+    let l = rw (c .before .enum-told3 .given .1) at (seen (c .before .before .before)) in
+    rw (c .before .before .before .before .before .before .before .before .before .before .shape-of .ensures .means)
+    (c .refused3 .ensures ∙ refused-result p (a .budget) (S.packed-at (path (c .before .before .before .before .before .before .before .before .before .before .before .before .before .before .before))) (a .checkpoint) (incomplete p (path (c .before .before .before .before .before .before .before .before .before .before .before .before .before .before .before)) (rw (l .0))))
+
+pub repeat-spec : {M : Type 1} → statement M
+repeat-spec =
+    tie.close
+    (tie.spec
+    replay-requires
+    refused-requires
+    returns
+    shape-of-requires
+    look-requires
+    enum-told
+    path-branches-requires
+    starts-of-requires
+    packed-requires
+    enum-told-2
+    refused-requires-2
+    enum-told-3
+    refused-requires-3
+    returns-2
+    returns-3
+    returns-4)

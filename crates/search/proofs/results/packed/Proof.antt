@@ -1,0 +1,11 @@
+use mathlib.Core.Path.{refl}
+use Rattle.search.specs.Results.{packed-after}
+use Rattle.search.proofs.results.packed.Statement.{statement}
+use Rattle.search.proofs.results.packed.Tie as tie
+
+returns : tie.Need-returns
+unfolding packed-after
+returns c = refl
+
+pub packed-spec : {M : Type 1} → statement M
+packed-spec = tie.close (tie.spec returns)

@@ -1,0 +1,90 @@
+use mathlib.Core.Path.{sym, _∙_}
+use borrow.Author.Needs.{needs}
+use borrow.Author.Tests.{not-true, not-false}
+use Rattle.model.specs.Search as S
+use Rattle.instance.specs.Meaning.{problem-of}
+use Rattle.search.specs.Results.{search-result}
+use Rattle.search.proofs.Checkpoints.{checkpoint-as, well-formed-bits}
+use Rattle.search.proofs.Outcome.{comes-infeasible, comes-again}
+use Rattle.search.proofs.search.Statement.{statement}
+use Rattle.search.proofs.search.Tie as tie
+
+is-valid-requires : tie.Need-is-valid-requires
+is-valid-requires c κs = search needs
+
+refused-requires : tie.Need-refused-requires
+refused-requires c κs = search needs
+
+returns : tie.Need-returns
+unfolding search-result
+returns c = rw (← (c .before .before .is-valid .ensures), not-true (c .before .before .is-valid .result) (c .before .if1 .taken)) (c .refused .ensures)
+
+is-well-formed-requires : tie.Need-is-well-formed-requires
+is-well-formed-requires c κs = search needs
+
+refused-requires-2 : tie.Need-refused-requires-2
+refused-requires-2 c κs = search needs
+
+returns-2 : tie.Need-returns-2
+unfolding search-result
+returns-2 c =
+    rw (← (c .before .before .before .before .is-valid .ensures), not-false (c .before .before .before .before .is-valid .result) (c .before .before .before .if1 .left), ← (c .before .before .is-well-formed .ensures), not-true (c .before .before .is-well-formed .result) (c .before .if2 .taken))
+    (c .refused2 .ensures)
+
+enum-told : tie.Need-enum-told
+enum-told c = search needs
+
+resume-requires : tie.Need-resume-requires
+resume-requires c κs =
+    (sym (c .before .before .before .before .before .is-valid .ensures) ∙ not-false _ (c .before .before .before .before .if1 .left), well-formed-bits _ (sym (c .before .before .before .is-well-formed .ensures) ∙ not-false _ (c .before .before .if2 .left)))
+
+enum-told-2 : tie.Need-enum-told-2
+enum-told-2 c = search needs
+
+infeasible-requires : tie.Need-infeasible-requires
+infeasible-requires c κs = search needs
+
+enum-told-3 : tie.Need-enum-told-3
+enum-told-3 c = search needs
+
+repeat-requires : tie.Need-repeat-requires
+repeat-requires c κs =
+    (sym (c .before .before .before .before .before .is-valid .ensures) ∙ not-false _ (c .before .before .before .before .if1 .left), well-formed-bits _ (sym (c .before .before .before .is-well-formed .ensures) ∙ not-false _ (c .before .before .if2 .left)))
+
+returns-3 : tie.Need-returns-3
+unfolding search-result
+returns-3 c =
+    rw (← (c .before .before .before .before .before .before .is-valid .ensures), not-false (c .before .before .before .before .before .before .is-valid .result) (c .before .before .before .before .before .if1 .left), ← (c .before .before .before .before .is-well-formed .ensures), not-false (c .before .before .before .before .is-well-formed .result) (c .before .before .before .if2 .left), checkpoint-as (c .before .before .before .before .before .before .before .args .checkpoint) (c .before .enum-told .given .1))
+    (c .resume .ensures)
+
+returns-4 : tie.Need-returns-4
+unfolding search-result
+returns-4 c =
+    rw (← (c .before .before .before .before .before .before .is-valid .ensures), not-false (c .before .before .before .before .before .before .is-valid .result) (c .before .before .before .before .before .if1 .left), ← (c .before .before .before .before .is-well-formed .ensures), not-false (c .before .before .before .before .is-well-formed .result) (c .before .before .before .if2 .left), checkpoint-as (c .before .before .before .before .before .before .before .args .checkpoint) (c .before .enum-told2 .given .1))
+    (c .infeasible .ensures ∙ comes-infeasible (problem-of (c .before .before .before .before .before .before .before .args .instance)) (c .before .before .before .before .before .before .before .args .budget) S.infeasible (comes-again (problem-of (c .before .before .before .before .before .before .before .args .instance)) (c .before .before .before .before .before .before .before .args .budget) S.infeasible tt))
+
+returns-5 : tie.Need-returns-5
+unfolding search-result
+returns-5 c =
+    rw (← (c .before .before .before .before .before .before .is-valid .ensures), not-false (c .before .before .before .before .before .before .is-valid .result) (c .before .before .before .before .before .if1 .left), ← (c .before .before .before .before .is-well-formed .ensures), not-false (c .before .before .before .before .is-well-formed .result) (c .before .before .before .if2 .left), checkpoint-as (c .before .before .before .before .before .before .before .args .checkpoint) (c .before .enum-told3 .given .1))
+    (c .repeat .ensures)
+
+pub search-spec : {M : Type 1} → statement M
+search-spec =
+    tie.close
+    (tie.spec
+    is-valid-requires
+    refused-requires
+    returns
+    is-well-formed-requires
+    refused-requires-2
+    returns-2
+    enum-told
+    resume-requires
+    enum-told-2
+    infeasible-requires
+    enum-told-3
+    repeat-requires
+    returns-3
+    returns-4
+    returns-5)

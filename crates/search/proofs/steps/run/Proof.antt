@@ -1,0 +1,231 @@
+-- So many steps lead from the start to where the search stands; what they come to within the rest of the budget is what the whole call comes to.
+use mathlib.Core.List.{List, [], map}
+use mathlib.Core.Path.{_≡_, ap, _∙_}
+use Prim.Native.Nat.{_-_}
+use native.Mathlib.Omega.{arith}
+use lib.ListN as L
+use borrow.Author.Needs.{needs}
+use Rattle.model.specs.Admits.{Sound}
+use Rattle.model.specs.Branching.{Branch}
+use Rattle.model.specs.Domains.{Domains}
+use Rattle.model.specs.Order.{WellFormed}
+use Rattle.model.specs.Problem.{Problem, Precedence}
+use Rattle.model.specs.Run.{look}
+use Rattle.model.specs.Search as S
+use Rattle.instance.specs.Meaning.{precedence-of}
+use Rattle.instance.specs.Valid.{precedences-of}
+use Rattle.domains.specs.Shape.{shape-problem, Given}
+use Rattle.search.specs.Checkpoints.{path-of}
+use Rattle.search.specs.Standing.{without-seconds, Standing, Holds, Looked}
+use Rattle.search.specs.declared.Snapshot.{Snapshot}
+use Rattle.search.proofs.Budget.{rest-spent}
+use Rattle.search.proofs.Checkpoints.{branches-length}
+use Rattle.search.proofs.Going.{going-start, going-depth, complete-comes, fork-depth, fork-goes, conflict-comes, there, turn-depth, turn-rising, turn-well-formed, turn-goes, Going}
+use Rattle.search.proofs.Outcome.{comes-infeasible, comes-spent, comes-packed}
+use Rattle.search.proofs.Seeing.{startable, started-plan}
+use Rattle.search.proofs.Sound.{length-mapped, laid-sound}
+use Rattle.search.proofs.Standing.{Turn, fork-rising}
+use Rattle.search.proofs.steps.run.Statement.{statement}
+use Rattle.search.proofs.steps.run.Tie as tie
+
+abbrev Inv-loop : tie.InvT-loop
+Inv-loop at budget n sizes capacity levels₀ k₀ branches₀ depth₀ taken₀ levels k branches depth taken =
+    (os : List Precedence) → Sound (shape-problem n sizes capacity os) → Standing (shape-problem n sizes capacity os) levels₀ k₀ (path-of depth₀ branches₀)
+    → Holds (path-of depth₀ branches₀) branches₀ depth₀ → Going (shape-problem n sizes capacity os) budget (path-of depth₀ branches₀) levels k branches depth taken
+
+abbrev μ-loop : tie.MeasureT-loop
+μ-loop at budget n sizes capacity levels₀ k₀ branches₀ depth₀ taken₀ levels k branches depth taken = budget - taken
+
+long : (c : tie.Start Inv-loop μ-loop) → L.length (c .args .instance .items) ≡ 10
+long c = search length-mapped
+
+-- the problem of the arrays
+abbrev problem : tie.After-shape-of Inv-loop μ-loop → Problem
+problem c =
+    shape-problem (c .shape-of .result .items) (c .shape-of .result .sizes) (c .shape-of .result .capacity)
+    (map precedence-of (precedences-of (c .before .args .instance)))
+
+abbrev start : tie.Start Inv-loop μ-loop → List Branch
+start c = path-of (c .args .at) (c .args .given)
+
+sound : (c : tie.After-shape-of Inv-loop μ-loop) → Sound (problem c)
+sound c = laid-sound (c .before .args .instance) (c .shape-of .result) (c .shape-of .ensures) (c .before .pre .0) (long (c .before))
+
+arrays : (c : tie.After-shape-of Inv-loop μ-loop) {k : Domains} → WellFormed k
+    → Given k (c .shape-of .result .items) (c .shape-of .result .sizes) (c .shape-of .result .capacity)
+arrays c w = record { well-formed = w; limited = sound c .limited; sizes-long = search needs; capacity-long = search needs }
+
+-- how far the steps have come
+going : (c : tie.At-loop Inv-loop μ-loop)
+    → Going (problem (c .before .before .before .before .before)) (c .before .before .before .before .before .before .args .budget) (start (c .before .before .before .before .before .before)) (c .loop .levels) (c .loop .k) (c .loop .branches) (c .loop .depth) (c .loop .taken)
+going c = c .loop .inv _ (sound (c .before .before .before .before .before)) (rw (c .before .before .before .before .before .shape-of .ensures .means) at (c .before .before .before .before .before .before .pre .1 .0)) (c .before .before .before .before .before .before .pre .1 .1)
+
+-- what is seen there
+seen : (c : tie.After-look Inv-loop μ-loop) → Looked (problem (c .before .before .before .before .before .before .before .before .before .before)) (going (c .before .before .before .before .before) .path) (c .look .last .0) (c .look .result)
+seen c = c .look .ensures .looked _ _ (going (c .before .before .before .before .before) .stands .ready)
+
+-- what is left of the path without its trailing second branches
+kept : (c : tie.After-drop-seconds Inv-loop μ-loop) → Holds (without-seconds (going (c .before .before .before .before .before .before .before .before .before) .path)) (c .drop-seconds .last .0) (c .drop-seconds .result)
+kept c = c .drop-seconds .ensures _ (going (c .before .before .before .before .before .before .before .before .before) .holds)
+
+back : (c : tie.Else1 Inv-loop μ-loop) → Turn (problem (c .before .before .before .before .before .before .before .before .before .before .before .before .before .before .before)) (c .before .before .before .before .before .before .before .before .before .before .loop .levels) (going (c .before .before .before .before .before .before .before .before .before .before) .path)
+back c = there (going (c .before .before .before .before .before .before .before .before .before .before)) (kept (c .before)) (c .if1 .left)
+
+blank : Snapshot
+blank = record { domains = []; place = record { axis = 0; u = 0; v = 0 } }
+
+shape-of-requires : tie.Need-shape-of-requires Inv-loop μ-loop
+shape-of-requires c κs = search needs
+
+loop-holds : tie.Need-loop-holds Inv-loop μ-loop
+loop-holds c = λ os σ s h. going-start s h
+
+add-taken : tie.Need-add-taken Inv-loop μ-loop
+add-taken c = search needs
+
+look-requires : tie.Need-look-requires Inv-loop μ-loop
+look-requires c κs = arrays (c .before .before .before .before .before .before .before .before .before) (going (c .before .before .before .before) .stands .ready .well-formed)
+
+enum-told : tie.Need-enum-told Inv-loop μ-loop
+enum-told c = search needs
+
+drop-seconds-requires : tie.Need-drop-seconds-requires Inv-loop μ-loop
+drop-seconds-requires c κs =
+    let γ = going (c .before .before .before .before .before .before .before .before) in
+    (ap L.length (γ .holds .values) ∙ branches-length (γ .path), going-depth γ (sound (c .before .before .before .before .before .before .before .before .before .before .before .before .before)))
+
+infeasible-requires : tie.Need-infeasible-requires Inv-loop μ-loop
+infeasible-requires c κs = search needs
+
+returns : tie.Need-returns Inv-loop μ-loop
+returns c =
+    let γ = going (c .before .before .before .before .before .before .before .before .before .before .before) in
+    let l = rw (c .before .before .before .before .enum-told .given .1) at (seen (c .before .before .before .before .before .before)) in
+    rw (c .before .before .before .before .before .before .before .before .before .before .before .before .before .before .before .before .shape-of .ensures .means)
+    (c .infeasible .ensures ∙ comes-infeasible (problem (c .before .before .before .before .before .before .before .before .before .before .before .before .before .before .before .before)) (c .before .before .before .before .before .before .before .before .before .before .before .before .before .before .before .before .before .args .budget) (S.open-at (start (c .before .before .before .before .before .before .before .before .before .before .before .before .before .before .before .before .before))) (conflict-comes γ (kept (c .before .before)) (c .before .if1 .taken) (c .before .before .before .before .before .before .before .before .before .before .loop-test .taken) l))
+
+sub-branches : tie.Need-sub-branches Inv-loop μ-loop
+sub-branches c = omega arith
+
+array-write-branches : tie.Need-array-write-branches Inv-loop μ-loop
+array-write-branches c = omega (arith, turn-depth (going (c .before .before .before .before .before .before .before .before .before .before)) (kept (c .before)) (back c) (sound (c .before .before .before .before .before .before .before .before .before .before .before .before .before .before .before)))
+
+sub-last : tie.Need-sub-last Inv-loop μ-loop
+sub-last c = omega arith
+
+mul-last : tie.Need-mul-last Inv-loop μ-loop
+mul-last c = omega (arith, turn-depth (going (c .before .before .before .before .before .before .before .before .before .before)) (kept (c .before)) (back c) (sound (c .before .before .before .before .before .before .before .before .before .before .before .before .before .before .before)))
+
+array-copy-out-last : tie.Need-array-copy-out-last Inv-loop μ-loop
+array-copy-out-last c = omega (arith, turn-depth (going (c .before .before .before .before .before .before .before .before .before .before)) (kept (c .before)) (back c) (sound (c .before .before .before .before .before .before .before .before .before .before .before .before .before .before .before)))
+
+apply-branch-requires : tie.Need-apply-branch-requires Inv-loop μ-loop
+unfolding blank
+apply-branch-requires c κs =
+    let τ = back (c .before .before .before) in
+    (turn-well-formed (going (c .before .before .before .before .before .before .before .before .before .before .before .before .before)) (kept (c .before .before .before .before)) τ blank, turn-rising (going (c .before .before .before .before .before .before .before .before .before .before .before .before .before)) (kept (c .before .before .before .before)) τ (sound (c .before .before .before .before .before .before .before .before .before .before .before .before .before .before .before .before .before .before)) blank)
+
+loop-less : tie.Need-loop-less Inv-loop μ-loop
+loop-less c = omega arith
+
+loop-again : tie.Need-loop-again Inv-loop μ-loop
+unfolding blank
+loop-again c = λ os σ s h.
+    let γ = c .before .before .before .before .before .before .before .before .before .before .before .before .before .before .loop .inv os σ s h in
+    let l = rw (c .before .before .before .before .before .before .before .enum-told .given .1) at (c .before .before .before .before .before .before .before .before .before .look .ensures .looked os (γ .path) (γ .stands .ready)) in
+    let δ = c .before .before .before .before .before .drop-seconds .ensures (γ .path) (γ .holds) in
+    turn-goes γ δ (there γ δ (c .before .before .before .before .if1 .left)) blank (c .before .before .before .before .before .before .before .before .before .before .before .before .before .loop-test .taken) l (c .apply-branch .ensures)
+
+enum-told-2 : tie.Need-enum-told-2 Inv-loop μ-loop
+enum-told-2 c = search needs
+
+starts-of-requires : tie.Need-starts-of-requires Inv-loop μ-loop
+starts-of-requires c κs =
+    let l = rw (c .before .before .before .enum-told2 .given .1) at (seen (c .before .before .before .before .before)) in
+    startable _ _ _ _ (going (c .before .before .before .before .before .before .before .before .before .before) .path) (sound (c .before .before .before .before .before .before .before .before .before .before .before .before .before .before .before)) (arrays (c .before .before .before .before .before .before .before .before .before .before .before .before .before .before .before) (c .before .before .before .before .before .look .ensures .well-formed)) l
+
+packed-requires : tie.Need-packed-requires Inv-loop μ-loop
+packed-requires c κs = search needs
+
+returns-2 : tie.Need-returns-2 Inv-loop μ-loop
+returns-2 c =
+    let γ = going (c .before .before .before .before .before .before .before .before .before .before .before .before) in
+    let l = rw (c .before .before .before .before .before .enum-told2 .given .1) at (seen (c .before .before .before .before .before .before .before)) in
+    let q : L.length (c .before .starts-of .result .positions) ≡ 10 = search length-mapped in
+    rw (c .before .before .before .before .before .before .before .before .before .before .before .before .before .before .before .before .before .shape-of .ensures .means)
+    (c .packed .ensures ∙ comes-packed (problem (c .before .before .before .before .before .before .before .before .before .before .before .before .before .before .before .before .before)) (c .before .before .before .before .before .before .before .before .before .before .before .before .before .before .before .before .before .before .args .budget) (S.open-at (start (c .before .before .before .before .before .before .before .before .before .before .before .before .before .before .before .before .before .before))) (γ .holds) (started-plan _ _ _ _ (γ .path) l (c .before .starts-of .ensures) q) (complete-comes γ (c .before .before .before .before .before .before .before .before .before .before .before .loop-test .taken) l))
+
+enum-known-place : tie.Need-enum-known-place Inv-loop μ-loop
+enum-known-place c = search needs
+
+mul-levels : tie.Need-mul-levels Inv-loop μ-loop
+mul-levels c = omega (arith, fork-depth (going (c .before .before .before .before .before .before .before .before)) (sound (c .before .before .before .before .before .before .before .before .before .before .before .before .before)) (rw (c .before .place .given .1) at (seen (c .before .before .before))))
+
+array-set-from-levels : tie.Need-array-set-from-levels Inv-loop μ-loop
+array-set-from-levels c = fork-depth (going (c .before .before .before .before .before .before .before .before)) (sound (c .before .before .before .before .before .before .before .before .before .before .before .before .before)) (rw (c .before .place .given .1) at (seen (c .before .before .before)))
+
+array-write-branches-2 : tie.Need-array-write-branches-2 Inv-loop μ-loop
+array-write-branches-2 c = fork-depth (going (c .before .before .before .before .before .before .before .before)) (sound (c .before .before .before .before .before .before .before .before .before .before .before .before .before)) (rw (c .before .place .given .1) at (seen (c .before .before .before)))
+
+add-depth : tie.Need-add-depth Inv-loop μ-loop
+add-depth c = omega (arith, fork-depth (going (c .before .before .before .before .before .before .before .before)) (sound (c .before .before .before .before .before .before .before .before .before .before .before .before .before)) (rw (c .before .place .given .1) at (seen (c .before .before .before))))
+
+apply-branch-requires-2 : tie.Need-apply-branch-requires-2 Inv-loop μ-loop
+apply-branch-requires-2 c κs =
+    let l = rw (c .before .before .place .given .1) at (seen (c .before .before .before .before)) in
+    (c .before .before .before .before .look .ensures .well-formed, fork-rising (problem (c .before .before .before .before .before .before .before .before .before .before .before .before .before .before)) _ (sound (c .before .before .before .before .before .before .before .before .before .before .before .before .before .before)) (l .0) (l .2))
+
+loop-less-2 : tie.Need-loop-less-2 Inv-loop μ-loop
+loop-less-2 c = omega arith
+
+loop-again-2 : tie.Need-loop-again-2 Inv-loop μ-loop
+loop-again-2 c = λ os σ s h.
+    let γ = c .before .before .before .before .before .before .before .before .before .before .loop .inv os σ s h in
+    let l = rw (c .before .before .before .place .given .1) at (c .before .before .before .before .before .look .ensures .looked os (γ .path) (γ .stands .ready)) in
+    fork-goes γ (fork-depth γ σ l) (c .before .before .before .before .before .before .before .before .before .loop-test .taken) l (c .apply-branch2 .ensures)
+
+spent-requires : tie.Need-spent-requires Inv-loop μ-loop
+spent-requires c κs = search needs
+
+returns-3 : tie.Need-returns-3 Inv-loop μ-loop
+returns-3 c =
+    let γ = going (c .before .before) in
+    rw (c .before .before .before .before .before .before .before .shape-of .ensures .means)
+    (c .spent .ensures ∙ comes-spent (problem (c .before .before .before .before .before .before .before)) (c .before .before .before .before .before .before .before .before .args .budget) (S.open-at (start (c .before .before .before .before .before .before .before .before))) (γ .holds) (rest-spent _ _ _ (γ .rest) (c .before .loop-test .left)))
+
+pub run-spec : {M : Type 1} → statement M
+run-spec =
+    tie.close
+    (tie.spec
+    Inv-loop
+    μ-loop
+    shape-of-requires
+    loop-holds
+    add-taken
+    look-requires
+    enum-told
+    drop-seconds-requires
+    infeasible-requires
+    returns
+    sub-branches
+    array-write-branches
+    sub-last
+    mul-last
+    array-copy-out-last
+    apply-branch-requires
+    loop-less
+    loop-again
+    enum-told-2
+    starts-of-requires
+    packed-requires
+    returns-2
+    enum-known-place
+    mul-levels
+    array-set-from-levels
+    array-write-branches-2
+    add-depth
+    apply-branch-requires-2
+    loop-less-2
+    loop-again-2
+    spent-requires
+    returns-3)

@@ -1,0 +1,96 @@
+-- One call of the search as a value (document 01, "The search").
+use mathlib.Core.Bool.{Bool, true, false}
+use mathlib.Core.List.{List, [], _∷_, map}
+use Prim.Native.Nat.{ℕ, _+_}
+use lib.Dec.{ltb}
+use Rattle.model.specs.Calls as C
+use Rattle.model.specs.Problem.{Problem, Positions}
+use Rattle.model.specs.Run as R
+use Rattle.model.specs.Search as S
+use Rattle.refusal.specs.Numbers as N
+use Rattle.refusal.specs.declared.Refusal.{Refusal}
+use Rattle.refusal.specs.declared.Refusal.the-variants.{InvalidInstance, NotFollowing}
+use Rattle.instance.specs.Meaning.{problem-of}
+use Rattle.instance.specs.Valid.{valid}
+use Rattle.instance.specs.Values.{origin, origin-packing}
+use Rattle.instance.specs.declared.Checkpoint.{Checkpoint}
+use Rattle.instance.specs.declared.Instance.{Instance}
+use Rattle.instance.specs.declared.Packing.{Packing}
+use Rattle.instance.specs.declared.Position.{Position}
+use Rattle.instance.specs.declared.Status.the-variants as Status
+use Rattle.search.specs.Checkpoints.{checkpoint-of, well-formed, value-of}
+use Rattle.search.specs.declared.Answer.{Answer}
+use Rattle.search.specs.declared.Answer.the-variants.{Packed, Infeasible, BudgetSpent, Refused}
+use Rattle.search.specs.declared.SearchResult.{SearchResult}
+
+-- "It returns 0 spent, 1 placed, 2 none, or a refusal as check does": "100 plus the number for a refusal"
+abbrev pub answer-number : Answer → ℕ
+answer-number BudgetSpent = 0
+answer-number Packed = 1
+answer-number Infeasible = 2
+answer-number (Refused e) = 100 + N.number-of e
+
+-- "It answers placed with the plan, none, or spent"
+abbrev pub answer-of : C.Answer Positions → Answer
+answer-of C.budget-spent = BudgetSpent
+answer-of C.no-packing = Infeasible
+answer-of (C.packing q) = Packed
+
+-- "those past the sheet's count .. are 0 when the search returns them"
+abbrev pub position-if : Bool → Positions → ℕ → Position
+position-if true q u = record { x = q 0 u; y = q 1 u; t = q 2 u }
+position-if false q u = origin
+
+abbrev pub position-of : ℕ → Positions → ℕ → Position
+position-of n q u = position-if (ltb u n) q u
+
+unfoldable pub packing-of : Problem → Positions → Packing
+packing-of p q = record { positions = map (position-of (p .items) q) (0 ∷ 1 ∷ 2 ∷ 3 ∷ 4 ∷ 5 ∷ 6 ∷ 7 ∷ 8 ∷ 9 ∷ []) }
+
+-- "Where a search doesn't answer placed, all ten are 0"
+abbrev pub packing-with : Problem → C.Answer Positions → Packing
+packing-with p C.budget-spent = origin-packing
+packing-with p C.no-packing = origin-packing
+packing-with p (C.packing q) = packing-of p q
+
+-- "each with the note and the steps taken"
+unfoldable pub result-of : Problem → C.Result Positions → SearchResult
+result-of p r = record {
+  answer = answer-of (r .answer);
+  steps = r .steps;
+  checkpoint = value-of (r .checkpoint);
+  packing = packing-with p (r .answer);
+}
+
+-- "a refused search hands its note back with 0 steps"
+unfoldable pub refused : Refusal → Checkpoint → SearchResult
+refused e c = record { answer = Refused e; steps = 0; checkpoint = c; packing = origin-packing }
+
+-- the results of a call that is not refused, as the code makes them
+unfoldable pub infeasible-after : ℕ → SearchResult
+infeasible-after m = record { answer = Infeasible; steps = m; checkpoint = value-of S.infeasible; packing = origin-packing }
+
+unfoldable pub spent-after : ℕ → List ℕ → ℕ → SearchResult
+spent-after m bs n =
+    record { answer = BudgetSpent; steps = m; checkpoint = record { status = Status.Open; length = n; branches = bs }; packing = origin-packing }
+
+unfoldable pub packed-after : ℕ → List ℕ → ℕ → Packing → SearchResult
+packed-after m bs n q =
+    record { answer = Packed; steps = m; checkpoint = record { status = Status.Packed; length = n; branches = bs }; packing = q }
+
+-- 10: "a note that doesn't follow its sheet"
+abbrev pub followed-if : Bool → Problem → ℕ → Checkpoint → S.Checkpoint → SearchResult
+followed-if true p budget c κ = result-of p (R.search p budget κ)
+followed-if false p budget c κ = refused NotFollowing c
+
+abbrev pub followed : Problem → ℕ → Checkpoint → S.Checkpoint → SearchResult
+followed p budget c κ = followed-if (S.follows (R.look p) κ) p budget c κ
+
+-- "9 is tested before .. 10"; "other contents get 10"
+abbrev pub result-if : Bool → Bool → Instance → Checkpoint → ℕ → SearchResult
+result-if true true i c budget = followed (problem-of i) budget c (checkpoint-of c)
+result-if true false i c budget = refused NotFollowing c
+result-if false w i c budget = refused InvalidInstance c
+
+unfoldable pub search-result : Instance → Checkpoint → ℕ → SearchResult
+search-result i c budget = result-if (valid i) (well-formed c) i c budget

@@ -1,0 +1,72 @@
+-- Where a search stands within a call: the terms in which the inner functions' contracts are stated.
+use mathlib.Core.Bool.{true}
+use mathlib.Core.List.{List, [], _∷_}
+use mathlib.Core.Path.{_≡_}
+use Prim.Native.Nat.{ℕ}
+use lib.ListN.{length, getD}
+use Rattle.model.specs.Branching.{Branch, first, second, choice, path-domains}
+use Rattle.model.specs.Domains.{Domains}
+use Rattle.model.specs.Order.{WellFormed}
+use Rattle.model.specs.Problem.{Problem, Precedence}
+use Rattle.model.specs.Propagate.{Slot, propagate}
+use Rattle.model.specs.Run.{look}
+use Rattle.model.specs.Search as S
+use Rattle.domains.specs.Shape.{shape-problem}
+use Rattle.domains.specs.declared.Place.{Place}
+use Rattle.search.specs.Checkpoints.{branches-of}
+use Rattle.search.specs.declared.Outlook.{Outlook}
+use Rattle.search.specs.declared.Outlook.the-variants.{Conflict, Complete, Fork}
+use Rattle.search.specs.declared.Replay.{Replay}
+use Rattle.search.specs.declared.Snapshot.{Snapshot}
+
+abbrev pub slot-of : Place → Slot
+slot-of c = record { axis = c .axis; u = c .u; v = c .v }
+
+-- domains that propagation makes those of the path
+pub record Ready (p : Problem) (k : Domains) (path : List Branch) : Type 0 where
+  pub well-formed : WellFormed k
+  pub same : propagate p k ≡ path-domains p path
+
+-- what is seen of a path, and what its domains are where they are consistent
+abbrev pub Looked : Problem → List Branch → Domains → Outlook → Type 0
+Looked p path k Conflict = look p path ≡ S.conflict
+Looked p path k Complete = (look p path ≡ S.complete) × (k ≡ path-domains p path)
+Looked p path k (Fork c) = (look p path ≡ S.fork) × (k ≡ path-domains p path) × (choice (path-domains p path) ≡ slot-of c)
+
+-- domains k made j, with r seen
+pub record Seen (n : ℕ) (sizes capacity : List ℕ) (k j : Domains) (r : Outlook) : Type 0 where
+  pub well-formed : WellFormed j
+  pub looked : (os : List Precedence) (path : List Branch) → Ready (shape-problem n sizes capacity os) k path → Looked (shape-problem n sizes capacity os) path j r
+
+-- the domains of a branching point, and where they branch
+pub record Kept (p : Problem) (s : Snapshot) (path : List Branch) : Type 0 where
+  pub domains : s .domains ≡ path-domains p path
+  pub place : choice (path-domains p path) ≡ slot-of (s .place)
+
+-- each shorter beginning of the path has its snapshot, at the number of its branches
+abbrev pub Saved : Problem → List Snapshot → List Branch → Type 0
+Saved p levels [] = Unit {0}
+Saved p levels (b ∷ path) = ((d : Snapshot) → Kept p (getD levels (length path) d) path) × Saved p levels path
+
+-- the search stands at an open path
+pub record Standing (p : Problem) (levels : List Snapshot) (k : Domains) (path : List Branch) : Type 0 where
+  pub room : length levels ≡ 270
+  pub forks : S.Forking (look p) path
+  pub saved : Saved p levels path
+  pub ready : Ready p k path
+
+-- "drop the trailing second turns"
+abbrev pub without-seconds : List Branch → List Branch
+without-seconds [] = []
+without-seconds (second ∷ path) = without-seconds path
+without-seconds (first ∷ path) = first ∷ path
+
+-- the branches of a path in an array, and how many they are
+pub record Holds (path : List Branch) (bs : List ℕ) (n : ℕ) : Type 0 where
+  pub many : n ≡ length path
+  pub values : bs ≡ branches-of path
+
+-- a path that was gone along from the root
+pub record Replayed (p : Problem) (path : List Branch) (r : Replay) : Type 0 where
+  pub verdict : r .follows ≡ S.forking (look p) path
+  pub stands : r .follows ≡ true → Standing p (r .levels) (r .domains) path

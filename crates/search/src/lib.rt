@@ -1,0 +1,128 @@
+// One call of the search: with a budget of steps, from a checkpoint to the next.
+ghost use mathlib.Core.Path.{_≡_};
+ghost use mathlib.Core.Bool.{true};
+ghost use Rattle.instance.specs.Valid.{valid};
+ghost use Rattle.instance.specs.Meaning.{problem-of};
+ghost use Rattle.search.specs.Checkpoints.{Bits, path-of};
+ghost use Rattle.search.specs.Results.{search-result, followed, answer-number};
+ghost use Rattle.model.specs.Search as S;
+use domains::Place;
+use instance::Checkpoint;
+use instance::Instance;
+use instance::Packing;
+use instance::Status;
+use refusal::Refusal;
+
+mod path;
+mod results;
+mod steps;
+
+pub enum Answer {
+    Packed,
+    Infeasible,
+    BudgetSpent,
+    Refused(Refusal),
+}
+
+pub struct SearchResult {
+    pub answer: Answer,
+    pub steps: u32,
+    pub checkpoint: Checkpoint,
+    pub packing: Packing,
+}
+
+// What the domains of a path show.
+enum Outlook {
+    Conflict,
+    Complete,
+    Fork(Place),
+}
+
+// A branching point on the path: its domains, and where they branch.
+struct Snapshot {
+    pub domains: [u8; 135],
+    pub place: Place,
+}
+
+// Whether each shorter beginning of a path is a branching point; then these with their snapshots, and the domains at the path's end.
+struct Replay {
+    pub follows: bool,
+    pub levels: [Snapshot; 270],
+    pub domains: [u8; 135],
+}
+
+impl Answer {
+    // 0 spent, 1 placed, 2 none, 100 plus the number of a refusal.
+    pub fn number(self) -> u8
+        ensures { λ r. ⌜ r ≡ answer-number self ⌝ }
+    {
+        match self {
+            Answer::BudgetSpent => 0,
+            Answer::Packed => 1,
+            Answer::Infeasible => 2,
+            Answer::Refused(e) => 100 + e.number(),
+        }
+    }
+}
+
+// One call: the answer, the steps taken, the checkpoint that they lead to and, where packed, the packing.
+pub fn search(instance: Instance, checkpoint: Checkpoint, budget: u32) -> SearchResult
+    ensures { λ r. ⌜ r ≡ search-result instance checkpoint budget ⌝ }
+{
+    if !instance.is_valid() {
+        return results::refused(Refusal::InvalidInstance, checkpoint);
+    }
+    if !path::is_well_formed(checkpoint) {
+        return results::refused(Refusal::NotFollowing, checkpoint);
+    }
+    let status = checkpoint.status;
+    match status {
+        Status::Open => resume(instance, checkpoint, budget),
+        Status::Infeasible => results::infeasible(0),
+        Status::Packed => repeat(instance, checkpoint, budget),
+    }
+}
+
+// The call on an open checkpoint.
+fn resume(instance: Instance, checkpoint: Checkpoint, budget: u32) -> SearchResult
+    requires { ⌜ valid instance ≡ true ⌝ }
+    requires { ⌜ Bits (checkpoint .length) (checkpoint .branches) ⌝ }
+    ensures { λ r. ⌜ r ≡ followed (problem-of instance) budget checkpoint (S.open-at (path-of (checkpoint .length) (checkpoint .branches))) ⌝ }
+{
+    let length = checkpoint.length;
+    let given = checkpoint.branches;
+    let start = steps::replay(instance, given, length);
+    if !start.follows {
+        return results::refused(Refusal::NotFollowing, checkpoint);
+    }
+    let branches = path::path_branches(given, length);
+    steps::run(instance, start, branches, length, budget)
+}
+
+// The call on a packed checkpoint.
+fn repeat(instance: Instance, checkpoint: Checkpoint, budget: u32) -> SearchResult
+    requires { ⌜ valid instance ≡ true ⌝ }
+    requires { ⌜ Bits (checkpoint .length) (checkpoint .branches) ⌝ }
+    ensures { λ r. ⌜ r ≡ followed (problem-of instance) budget checkpoint (S.packed-at (path-of (checkpoint .length) (checkpoint .branches))) ⌝ }
+{
+    let length = checkpoint.length;
+    let given = checkpoint.branches;
+    let start = steps::replay(instance, given, length);
+    if !start.follows {
+        return results::refused(Refusal::NotFollowing, checkpoint);
+    }
+    let shape = domains::layout::shape_of(instance);
+    let n = shape.items;
+    let sizes = shape.sizes;
+    let capacity = shape.capacity;
+    let mut k = start.domains;
+    match steps::look(&mut k, n, &sizes, &capacity) {
+        Outlook::Complete => {
+            let branches = path::path_branches(given, length);
+            let packing = domains::starts::starts_of(&k, n, &sizes, &capacity);
+            results::packed(0, branches, length, packing)
+        }
+        Outlook::Conflict => results::refused(Refusal::NotFollowing, checkpoint),
+        Outlook::Fork(_) => results::refused(Refusal::NotFollowing, checkpoint),
+    }
+}
