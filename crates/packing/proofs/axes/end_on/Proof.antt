@@ -1,5 +1,6 @@
 -- `packing::axes::end_on` meets its contract.
 use mathlib.Core.Path.{ap₂}
+use Prim.Native.Nat.{_+_}
 use Rattle.packing.specs.Parts.{end-of}
 use borrow.Author.Needs.{needs}
 use Rattle.packing.proofs.axes.end_on.Statement.{statement}
