@@ -69,13 +69,13 @@ impl Domains {
     /// "A piece above the hall's measure, or a pair and axis with all three struck"
     pub fn is_inconsistent(&self, instance: &Instance) -> bool {
         let too_large = instance.items.iter().any(|size| (0..3).any(|axis| size[axis] > instance.container[axis]));
-        let nothing_left = (0..3).any(|axis| self.pairs().iter().any(|&(u, v)| self.relations_left(axis, u, v) == 0));
+        let nothing_left = self.pairs().any(|(u, v)| (0..3).any(|axis| self.relations_left(axis, u, v) == 0));
         too_large || nothing_left
     }
 
     /// "u, v with u < v in the sequence (0,1), (0,2), (1,2), (0,3), up to (8,9)"
-    pub fn pairs(&self) -> Vec<(usize, usize)> {
-        (0..self.n).flat_map(|v| (0..v).map(move |u| (u, v))).collect()
+    pub fn pairs(&self) -> impl Iterator<Item = (usize, usize)> {
+        (0..self.n).flat_map(|v| (0..v).map(move |u| (u, v)))
     }
 
     /// "Overlap known on two axes of a pair: strike it on the third"
@@ -91,27 +91,19 @@ impl Domains {
         changed
     }
 
-    /// Every three distinct items.
-    fn triples(&self) -> Vec<(usize, usize, usize)> {
-        let mut triples = Vec::new();
-        for u in 0..self.n {
-            for v in 0..self.n {
-                for w in 0..self.n {
-                    if u != v && v != w && u != w {
-                        triples.push((u, v, w));
-                    }
-                }
-            }
-        }
-        triples
-    }
-
     /// "u before v and v before w known: strike all but u before w"
     fn rule_2(&mut self, axis: usize) -> bool {
         let mut changed = false;
-        for (u, v, w) in self.triples() {
-            if self.before_fixed(axis, u, v) && self.before_fixed(axis, v, w) {
-                changed |= self.keep_before(axis, u, w);
+        for u in 0..self.n {
+            for v in (0..self.n).filter(|&v| v != u) {
+                if !self.before_fixed(axis, u, v) {
+                    continue;
+                }
+                for w in (0..self.n).filter(|&w| w != u && w != v) {
+                    if self.before_fixed(axis, v, w) {
+                        changed |= self.keep_before(axis, u, w);
+                    }
+                }
             }
         }
         changed
@@ -121,13 +113,18 @@ impl Domains {
     /// "u before v""
     fn rule_3(&mut self, axis: usize) -> bool {
         let mut changed = false;
-        for (u, v, w) in self.triples() {
-            if !self.may_precede(axis, u, w) {
-                if self.before_fixed(axis, u, v) {
-                    changed |= self.remove_before(axis, v, w);
+        for u in 0..self.n {
+            for w in (0..self.n).filter(|&w| w != u) {
+                if self.may_precede(axis, u, w) {
+                    continue;
                 }
-                if self.before_fixed(axis, v, w) {
-                    changed |= self.remove_before(axis, u, v);
+                for v in (0..self.n).filter(|&v| v != u && v != w) {
+                    if self.before_fixed(axis, u, v) {
+                        changed |= self.remove_before(axis, v, w);
+                    }
+                    if self.before_fixed(axis, v, w) {
+                        changed |= self.remove_before(axis, u, v);
+                    }
                 }
             }
         }
@@ -137,17 +134,20 @@ impl Domains {
     /// "ab, bc, cd, da known to overlap and overlap struck for ac: strike all but overlap for bd"
     fn rule_4(&mut self, axis: usize) -> bool {
         let mut changed = false;
-        for (a, b, c) in self.triples() {
-            let two_sides = self.overlap_fixed(axis, a, b) && self.overlap_fixed(axis, b, c);
-            if !two_sides || self.may_overlap(axis, a, c) {
-                continue;
-            }
-            for d in 0..self.n {
-                if d == a || d == b || d == c {
+        for a in 0..self.n {
+            for c in (0..self.n).filter(|&c| c != a) {
+                if self.may_overlap(axis, a, c) {
                     continue;
                 }
-                if self.overlap_fixed(axis, c, d) && self.overlap_fixed(axis, d, a) {
-                    changed |= self.keep_overlap(axis, b, d);
+                for b in (0..self.n).filter(|&b| b != a && b != c) {
+                    if !(self.overlap_fixed(axis, a, b) && self.overlap_fixed(axis, b, c)) {
+                        continue;
+                    }
+                    for d in (0..self.n).filter(|&d| d != a && d != b && d != c) {
+                        if self.overlap_fixed(axis, c, d) && self.overlap_fixed(axis, d, a) {
+                            changed |= self.keep_overlap(axis, b, d);
+                        }
+                    }
                 }
             }
         }

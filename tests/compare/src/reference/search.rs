@@ -41,7 +41,7 @@ pub fn look(instance: &Instance, domains: &Domains) -> Look {
         return Look::Inconsistent;
     }
     // "take the first pair in number order that has no known "before", and its first axis of x, y, t with more than one word left"
-    let undecided = domains.pairs().into_iter().find(|&(u, v)| {
+    let undecided = domains.pairs().find(|&(u, v)| {
         !(0..3).any(|axis| domains.before_fixed(axis, u, v) || domains.before_fixed(axis, v, u))
     });
     match undecided {
