@@ -1,11 +1,13 @@
 // Functions on values, callable on bytes and numbers: the comparison in tests/ reaches reading, writing, records and clearance
 // through them. Nothing else uses this crate.
 ghost use mathlib.Core.Path.{_≡_};
-ghost use lib.ListN.{length, getD};
+ghost use lib.ListN.{length};
+
 ghost use Rattle.instance.specs.Decode.{decode, read-result};
+ghost use Rattle.instance.specs.Values.{origin-packing};
 ghost use Rattle.instance.specs.Record.{item-record, item-record-code};
 
-ghost use Rattle.exports.specs.Exports.{read-number, read-place, rewritten-length};
+ghost use Rattle.exports.specs.Exports.{read-number, read-place, rewritten-length, rewrite-length, rewrite-room, with-item, sheet-clearance, clearance-integer, clearance-number, byte-at};
 use instance::Instance;
 use instance::Packing;
 use instance::Position;
@@ -56,7 +58,10 @@ fn written(answer: WriteAnswer) -> usize
 
 // Reads a sheet and writes it again: how many bytes, 0 where one of the two is refused.
 #[no_mangle]
-pub extern "C" fn exports_rewrite(sheet: &[u8], room: &mut [u8]) -> usize {
+pub extern "C" fn exports_rewrite(sheet: &[u8], room: &mut [u8]) -> usize
+    ensures { λ r. ⌜ r ≡ rewrite-length (read-result (decode (now (sheet .entry))) .answer) (read-result (decode (now (sheet .entry))) .instance) (length (now (room .entry))) ⌝ }
+    ensures { λ _. ⌜ now (room .exit) ≡ rewrite-room (read-result (decode (now (sheet .entry))) .answer) (read-result (decode (now (sheet .entry))) .instance) (now (room .entry)) ⌝ }
+{
     let result = Instance::read(sheet);
     let answer = result.answer;
     let instance = result.instance;
@@ -86,7 +91,7 @@ pub extern "C" fn exports_record_place(sheet: &[u8], k: usize) -> usize
 // Byte i of item k's record; 256 past its end.
 #[no_mangle]
 pub extern "C" fn exports_record_byte(sheet: &[u8], k: usize, i: usize) -> u32
-    ensures { λ r. ⌜ r ≡ getD (item-record (now (sheet .entry)) k) i 256 ⌝ }
+    ensures { λ r. ⌜ r ≡ byte-at (item-record (now (sheet .entry)) k) i ⌝ }
 {
     let record = instance::label::item_record(sheet, k);
     if record.len() <= i {
@@ -96,7 +101,9 @@ pub extern "C" fn exports_record_byte(sheet: &[u8], k: usize, i: usize) -> u32
 }
 
 // A packing with item k at a position.
-fn placed(packing: Packing, k: usize, position: Position) -> Packing {
+fn placed(packing: Packing, k: usize, position: Position) -> Packing
+    ensures { λ r. ⌜ r ≡ with-item packing k position ⌝ }
+{
     let mut positions = packing.positions;
     if k < 10 {
         positions[k] = position;
@@ -107,18 +114,20 @@ fn placed(packing: Packing, k: usize, position: Position) -> Packing {
 fn clearance_of(
     sheet: &[u8],
     u: usize,
-    at_u: Position,
+    first: Position,
     v: usize,
-    at_v: Position,
+    second: Position,
     axis: u8,
-) -> ClearanceAnswer {
+) -> ClearanceAnswer
+    ensures { λ r. ⌜ r ≡ sheet-clearance (read-result (decode (now (sheet .entry))) .answer) (read-result (decode (now (sheet .entry))) .instance) (with-item (with-item origin-packing u first) v second) u v axis ⌝ }
+{
     let result = Instance::read(sheet);
     let answer = result.answer;
     let instance = result.instance;
     match answer {
         ReadAnswer::Refused(e) => ClearanceAnswer::Refused(e),
         ReadAnswer::Read => {
-            let packing = placed(placed(Packing::origin(), u, at_u), v, at_v);
+            let packing = placed(placed(Packing::origin(), u, first), v, second);
             packing::clearance(instance, packing, u, v, axis)
         }
     }
@@ -138,17 +147,17 @@ pub extern "C" fn exports_clearance(
     vt: u16,
     axis: u8,
 ) -> i32 {
-    let at_u = Position {
+    let first = Position {
         x: ux,
         y: uy,
         t: ut,
     };
-    let at_v = Position {
+    let second = Position {
         x: vx,
         y: vy,
         t: vt,
     };
-    match clearance_of(sheet, u, at_u, v, at_v, axis) {
+    match clearance_of(sheet, u, first, v, second, axis) {
         ClearanceAnswer::Clearance(n) => n,
         ClearanceAnswer::Refused(_) => 0,
     }

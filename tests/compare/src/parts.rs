@@ -20,7 +20,11 @@ pub fn reading(report: &mut Report, kind: &'static str, sheet: &[u8]) {
     let plan = vec![0; 6 * read.as_ref().map_or(1, |instance| instance.items.len())];
     check(report, sheet, &plan);
     if read.is_err() {
-        search(report, "search calls on refused sheets", sheet, &[0; NOTE_BYTES], 3, &[9, 8, 7, 6], &plan);
+        // "the sheet's refusals come first", also where a length is wrong
+        let (note, steps) = ([0; NOTE_BYTES + 1], [9, 8, 7, 6, 5]);
+        let wrong = sheet.len() % 4;
+        let (note, steps) = (&note[..NOTE_BYTES + (wrong & 1)], &steps[..4 + (wrong >> 1)]);
+        search(report, "search calls on refused sheets", sheet, note, 3, steps, &plan);
     }
 }
 
