@@ -39,6 +39,9 @@ abbrev pub rewrite-room : ReadAnswer → Instance → List ℕ → List ℕ
 rewrite-room R.Read i room = written-room i room
 rewrite-room (R.Refused e) i room = room
 
+abbrev pub position-at : ℕ → ℕ → ℕ → Position
+position-at x y t = record { x = x; y = y; t = t }
+
 abbrev pub item-put : Packing → ℕ → Position → Packing
 item-put q k x = record { positions = set (q .positions) k x }
 

@@ -7,7 +7,7 @@ ghost use Rattle.instance.specs.Decode.{decode, read-result};
 ghost use Rattle.instance.specs.Values.{origin-packing};
 ghost use Rattle.instance.specs.Record.{item-record, item-record-code};
 
-ghost use Rattle.exports.specs.Exports.{read-number, read-place, rewritten-length, rewrite-length, rewrite-room, with-item, sheet-clearance, clearance-integer, clearance-number, byte-at};
+ghost use Rattle.exports.specs.Exports.{read-number, read-place, rewritten-length, rewrite-length, rewrite-room, position-at, with-item, sheet-clearance, clearance-integer, clearance-number, byte-at};
 use instance::Instance;
 use instance::Packing;
 use instance::Position;
@@ -146,7 +146,9 @@ pub extern "C" fn exports_clearance(
     vy: u16,
     vt: u16,
     axis: u8,
-) -> i32 {
+) -> i32
+    ensures { λ r. ⌜ r ≡ clearance-integer (sheet-clearance (read-result (decode (now (sheet .entry))) .answer) (read-result (decode (now (sheet .entry))) .instance) (with-item (with-item origin-packing u (position-at ux uy ut)) v (position-at vx vy vt)) u v axis) ⌝ }
+{
     let first = Position {
         x: ux,
         y: uy,
@@ -165,7 +167,9 @@ pub extern "C" fn exports_clearance(
 
 // The number of its refusal; 0 where it is not refused.
 #[no_mangle]
-pub extern "C" fn exports_clearance_number(sheet: &[u8], u: usize, v: usize, axis: u8) -> u32 {
+pub extern "C" fn exports_clearance_number(sheet: &[u8], u: usize, v: usize, axis: u8) -> u32
+    ensures { λ r. ⌜ r ≡ clearance-number (sheet-clearance (read-result (decode (now (sheet .entry))) .answer) (read-result (decode (now (sheet .entry))) .instance) (with-item (with-item origin-packing u (position-at 0 0 0)) v (position-at 0 0 0)) u v axis) ⌝ }
+{
     let origin = Position { x: 0, y: 0, t: 0 };
     match clearance_of(sheet, u, origin, v, origin, axis) {
         ClearanceAnswer::Clearance(_) => 0,

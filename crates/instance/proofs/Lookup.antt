@@ -40,7 +40,7 @@ was-refused (got i at rest) result q h = let z : _≡_ {A = ℕ} 0 1 = cc in abs
 was-refused (refused e) result q h = cc
 
 -- the arrays of an instance that was read are full
-made-room : (s : List ℕ) {i : Instance} {at : ℕ} {rest : List ℕ} → Bytes s → decode s ≡ got i at rest → length (i .items) ≡ 10
+pub made-room : (s : List ℕ) {i : Instance} {at : ℕ} {rest : List ℕ} → Bytes s → decode s ≡ got i at rest → length (i .items) ≡ 10
 unfolding instance-of
 made-room s {i} b h =
     let t = taken-apart s b h in

@@ -1,48 +1,56 @@
+-- The sheet's refusal, or the answer for the two items at their positions.
+use mathlib.Core.Path.{_≡_, refl, sym, ap, _∙_}
+use Prim.Native.Nat.{ℕ}
 use borrow.Author.Needs.{needs}
+use Rattle.refusal.specs.declared.Refusal.{Refusal}
+use Rattle.instance.specs.declared.Packing.{Packing}
+use Rattle.instance.specs.declared.ReadResult.{ReadResult}
+use Rattle.instance.specs.declared.ReadAnswer.the-variants as R
+use Rattle.packing.specs.declared.ClearanceAnswer.{ClearanceAnswer}
+use Rattle.packing.specs.declared.ClearanceAnswer.the-variants as C
+use Rattle.packing.specs.Clearance.{clearance-answer}
+use Rattle.exports.specs.Exports.{with-item, sheet-clearance}
 use Rattle.exports.proofs.clearance_of.Statement.{statement}
 use Rattle.exports.proofs.clearance_of.Tie as tie
-use Rattle.exports.proofs.clearance_of.Reads as reads
-use Rattle.exports.proofs.clearance_of.Lts as lts
-use Rattle.exports.proofs.placed.Reads as placed-reads
-use Rattle.instance.proofs.Instance.read.Reads as read-reads
-use Rattle.instance.proofs.Packing.origin.Reads as origin-reads
-use Rattle.packing.proofs.clearance.Reads as clearance-reads
 
--- src/lib.rt:124:9
+refused : (r r′ : ReadResult) → r ≡ r′ → (e : Refusal) → r .answer ≡ R.Refused e → (q : Packing) (u v a : ℕ) → C.Refused e ≡ sheet-clearance (r′ .answer) (r′ .instance) q u v a
+refused r r′ same e h q u v a = rw (sym same, h) refl
+
+given : (r r′ : ReadResult) → r ≡ r′ → r .answer ≡ R.Read → (q : Packing) (u v a : ℕ) → clearance-answer (r .instance) q u v a ≡ sheet-clearance (r′ .answer) (r′ .instance) q u v a
+given r r′ same h q u v a = rw (sym same, h) refl
+
 read-requires : tie.Need-read-requires
 read-requires c κs = search needs
 
--- src/lib.rt:128:29
 enum-known-answer : tie.Need-enum-known-answer
 enum-known-answer c = search needs
 
--- src/lib.rt:130:41
 enum-told : tie.Need-enum-told
 enum-told c = search needs
 
--- src/lib.rt:130:41
 origin-requires : tie.Need-origin-requires
 origin-requires c κs = search needs
 
--- src/lib.rt:130:34
 placed-requires : tie.Need-placed-requires
 placed-requires c κs = search needs
 
--- src/lib.rt:130:17
 placed-requires-2 : tie.Need-placed-requires-2
 placed-requires-2 c κs = search needs
 
--- src/lib.rt:131:13
 clearance-requires : tie.Need-clearance-requires
 clearance-requires c κs = search needs
 
--- src/lib.rt:114:1
 returns : tie.Need-returns
-returns c = ?
+returns c = refused _ _ (c .before .before .before .before .read .ensures) _ (c .before .answer .given .1) _ _ _ _
 
--- src/lib.rt:114:1
 returns-2 : tie.Need-returns-2
-returns-2 c = ?
+returns-2 c =
+    let a = c .before .before .before .before .before .before .before .before .before .args in
+    let p = c .before .placed2 .ensures ∙ ap (λ q. with-item q (a .v) (a .second)) (c .before .before .placed .ensures ∙ ap (λ q. with-item q (a .u) (a .first)) (c .before .before .before .origin .ensures)) in
+    let r = c .before .before .before .before .before .before .before .read .result in
+    c .clearance .ensures .0
+    ∙ ap (λ q. clearance-answer (r .instance) q (a .u) (a .v) (a .axis)) p
+    ∙ given r _ (c .before .before .before .before .before .before .before .read .ensures) (c .before .before .before .before .enum-told .given .1) _ (a .u) (a .v) (a .axis)
 
 pub clearance-of-spec : {M : Type 1} → statement M
 clearance-of-spec =

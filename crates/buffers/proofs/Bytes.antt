@@ -1,0 +1,157 @@
+-- Laws of words, positions and steps as bytes.
+use mathlib.Core.List.{List, [], _∷_, _++_, map, append-nil}
+use mathlib.Core.Path.{_≡_, refl, sym, ap, _∙_}
+use Prim.Native.Nat.{ℕ, zero, suc, _+_, _*_, _/_, _%_, _≤_, _<_}
+use native.Mathlib.Decide.{ℕ-discrete, decLt}
+use native.Mathlib.Omega.{arith}
+use native.Mathlib.Nat.{add-zero}
+use native.Mathlib.Numerals.{add-one}
+use lib.ListN.{length, getD, take, drop, set, replicate, length-set, length-map, drop-of-length-le, List·getD-eq-default}
+use lib.Seq.{sets, ext-getD, length-take-le, take-suc, getD-set-same, getD-set-other, getD-append-add, getD-take}
+use Rattle.records.specs.Bytes.{row-bytes}
+use Rattle.records.proofs.Writers.{sets-front, sets-append, row-next}
+use Rattle.instance.specs.declared.Packing.{Packing}
+use Rattle.instance.specs.declared.Position.{Position}
+use Rattle.instance.specs.Values.{origin}
+use Rattle.buffers.specs.Bytes.{word-bytes, word-at, position-bytes, packing-bytes, position-at, packing-in, step-bytes, steps-in}
+
+-- a word and the steps come back from their bytes
+pub word-back : (v : ℕ) → v % 256 + 256 * (v / 256) ≡ v
+word-back v = omega arith
+
+pub steps-back : (m : ℕ) → steps-in (step-bytes m) ≡ m
+unfolding steps-in step-bytes
+steps-back m = omega arith
+
+pub steps-length : (m : ℕ) → length (step-bytes m) ≡ 4
+unfolding step-bytes
+steps-length m = refl
+
+-- bytes that fill the whole buffer
+pub fills : (bs out : List ℕ) → length out ≡ length bs → sets out 0 bs ≡ bs
+fills bs out h =
+    let l : length out ≤ length bs = omega arith in
+    sets-front bs out (omega arith) ∙ rw (drop-of-length-le out l) (append-nil bs)
+
+-- one byte more of a row that is stored from a place on
+pub sets-next : (l s : List ℕ) (at i : ℕ) → i < length s → set (sets l at (take i s)) (at + i) (getD s i 0) ≡ sets l at (take (i + 1) s)
+sets-next l s at i h =
+    let e : at + length (take i s) ≡ at + i = rw (length-take-le i s (omega arith)) in
+    let a = sets-append (take i s) (getD s i 0 ∷ []) l at in
+    rw (add-one, take-suc s i 0 h, ← a, e)
+
+pub steps-fill : (m : ℕ) (out : List ℕ) → length out ≡ 4 → sets out 0 (m % 256 ∷ m / 256 % 256 ∷ m / 65536 % 256 ∷ m / 16777216 ∷ []) ≡ step-bytes m
+unfolding step-bytes
+steps-fill m out h = fills (m % 256 ∷ m / 256 % 256 ∷ m / 65536 % 256 ∷ m / 16777216 ∷ []) out h
+
+-- an array's length, as a value of a struct has it
+pub length-mapped : {A B : Type 0} (f : A → B) (l : List A) (n : ℕ) → length (map f l) ≡ n → length l ≡ n
+length-mapped f l n e = sym (length-map l f) ∙ e
+
+-- positions one after the other
+pub positions-length : (ps : List Position) → length (row-bytes position-bytes ps) ≡ 6 * length ps
+unfolding row-bytes
+positions-length [] = refl
+positions-length (p ∷ ps) = omega (arith, positions-length ps)
+
+pub packing-length : (n : ℕ) (q : Packing) → n ≤ length (q .positions) → length (packing-bytes n q) ≡ 6 * n
+unfolding packing-bytes
+packing-length n q h = positions-length (take n (q .positions)) ∙ ap (λ (k : ℕ). 6 * k) (length-take-le n (q .positions) h)
+
+pub position-run : (p : Position) (l : List ℕ) (at : ℕ)
+    → sets (sets (sets l at (word-bytes (p .x))) (at + 2) (word-bytes (p .y))) (at + 4) (word-bytes (p .t)) ≡ sets l at (position-bytes p)
+position-run p l at =
+    let e : at + 4 ≡ at + 2 + 2 = omega arith in
+    rw e (sets-append (word-bytes (p .y)) (word-bytes (p .t)) (sets l at (word-bytes (p .x))) (at + 2)
+    ∙ sets-append (word-bytes (p .x)) (word-bytes (p .y) ++ word-bytes (p .t)) l at)
+
+-- one position more
+pub positions-next : (ps : List Position) (l : List ℕ) (u : ℕ) → u < length ps
+    → sets (sets l 0 (row-bytes position-bytes (take u ps))) (6 * u) (position-bytes (getD ps u origin)) ≡ sets l 0 (row-bytes position-bytes (take (u + 1) ps))
+positions-next ps l u h =
+    let e : 0 + length (row-bytes position-bytes (take u ps)) ≡ 6 * u = omega (arith, positions-length (take u ps), length-take-le u ps (omega arith)) in
+    rw (row-next position-bytes ps u origin h, ← e) (sets-append (row-bytes position-bytes (take u ps)) (position-bytes (getD ps u origin)) l 0)
+
+pub packing-fills : (n : ℕ) (q : Packing) (out : List ℕ) → n ≤ length (q .positions) → length out ≡ 6 * n
+    → sets out 0 (row-bytes position-bytes (take n (q .positions))) ≡ packing-bytes n q
+unfolding packing-bytes
+packing-fills n q out h l = fills (packing-bytes n q) out (l ∙ sym (packing-length n q h))
+
+-- the ten positions of a packing
+entry : (f : ℕ → Position) (u : ℕ) → u < 10 → getD (map f (0 ∷ 1 ∷ 2 ∷ 3 ∷ 4 ∷ 5 ∷ 6 ∷ 7 ∷ 8 ∷ 9 ∷ [])) u origin ≡ f u
+entry f zero h = refl
+entry f (suc zero) h = refl
+entry f (suc (suc zero)) h = refl
+entry f (suc (suc (suc zero))) h = refl
+entry f (suc (suc (suc (suc zero)))) h = refl
+entry f (suc (suc (suc (suc (suc zero))))) h = refl
+entry f (suc (suc (suc (suc (suc (suc zero)))))) h = refl
+entry f (suc (suc (suc (suc (suc (suc (suc zero))))))) h = refl
+entry f (suc (suc (suc (suc (suc (suc (suc (suc zero)))))))) h = refl
+entry f (suc (suc (suc (suc (suc (suc (suc (suc (suc zero))))))))) h = refl
+entry f (suc (suc (suc (suc (suc (suc (suc (suc (suc (suc u)))))))))) h = absurd (omega arith)
+
+-- what the bytes do not give is 0
+pub position-past : (s : List ℕ) (u : ℕ) → length s ≤ 6 * u → position-at s u ≡ origin
+position-past s u h =
+    let z : (k : ℕ) → length s ≤ k → getD s k 0 ≡ 0 = λ k l. List·getD-eq-default s 0 l in
+    rw (z (6 * u) h, z (6 * u + 1) (omega arith), z (6 * u + 2) (omega arith), z (6 * u + 2 + 1) (omega arith), z (6 * u + 4) (omega arith), z (6 * u + 4 + 1) (omega arith))
+
+-- the first u positions are read, with 0 past them
+pub record ReadTo (s : List ℕ) (ps : List Position) (u : ℕ) : Type 0 where
+  pub room : length ps ≡ 10
+  pub there : (v : ℕ) → v < u → getD ps v origin ≡ position-at s v
+  pub blank : (v : ℕ) → u ≤ v → getD ps v origin ≡ origin
+
+pub read-none : (s : List ℕ) → ReadTo s (replicate 10 origin) 0
+read-none s = record { room = refl; there = λ v h. absurd (omega arith); blank = λ v h. blank-at 10 v }
+  where
+    blank-at : (n v : ℕ) → getD (replicate n origin) v origin ≡ origin
+    blank-at zero v = refl
+    blank-at (suc n) zero = refl
+    blank-at (suc n) (suc v) = blank-at n v
+
+pub read-next : {s : List ℕ} {ps : List Position} {u : ℕ} (p : Position) → ReadTo s ps u → u < 10 → p ≡ position-at s u → ReadTo s (set ps u p) (u + 1)
+read-next {s} {ps} {u} p ρ h e = record {
+  room = length-set ps u p ∙ ρ .room;
+  there = λ v l. go v l (ℕ-discrete v u);
+  blank = λ v l. let d : v ≡ u → ⊥ = λ q. omega arith in getD-set-other ps u v p origin d ∙ ρ .blank v (omega arith);
+}
+  where
+    go : (v : ℕ) → v < u + 1 → Dec (v ≡ u) → getD (set ps u p) v origin ≡ position-at s v
+    go v l (yes q) = rw q (getD-set-same ps u p origin (omega (arith, ρ .room)) ∙ e)
+    go v l (no d) = getD-set-other ps u v p origin d ∙ ρ .there v (omega arith)
+
+pub read-all : (s : List ℕ) (ps : List Position) (n : ℕ) → ReadTo s ps n → length s ≡ 6 * n → record { positions = ps } ≡ packing-in s
+unfolding packing-in
+read-all s ps n ρ l =
+    ap (λ (k : List Position). record { positions = k })
+    (ext-getD origin ps _ (ρ .room) (λ u h. at u (decLt u n) ∙ sym (entry (position-at s) u (omega (arith, ρ .room)))))
+  where
+    at : (u : ℕ) → Dec (u < n) → getD ps u origin ≡ position-at s u
+    at u (yes h) = ρ .there u h
+    at u (no h) = ρ .blank u (omega arith) ∙ sym (position-past s u (omega arith))
+
+-- positions come back from their bytes
+pub position-back : (ps : List Position) (u : ℕ) → u < length ps → position-at (row-bytes position-bytes ps) u ≡ getD ps u origin
+unfolding row-bytes
+position-back [] u h = absurd (omega arith)
+position-back (p ∷ ps) zero h = rw (word-back (p .x), word-back (p .y), word-back (p .t))
+position-back (p ∷ ps) (suc u) h =
+    let rest = row-bytes position-bytes ps in
+    let next : (k : ℕ) → getD (position-bytes p ++ rest) (6 * suc u + k) 0 ≡ getD rest (6 * u + k) 0 =
+    λ k. let e : 6 * suc u + k ≡ 6 + (6 * u + k) = omega arith in rw e (getD-append-add (position-bytes p) rest (6 * u + k) 0) in
+    let word : (k : ℕ) → word-at (position-bytes p ++ rest) (6 * suc u + k) ≡ word-at rest (6 * u + k) =
+    λ k.
+    let a : 6 * suc u + k + 1 ≡ 6 * suc u + (k + 1) = omega arith in
+    let b : 6 * u + k + 1 ≡ 6 * u + (k + 1) = omega arith in
+    rw (a, b, next k, next (k + 1)) in
+    let x : word-at (position-bytes p ++ rest) (6 * suc u) ≡ word-at rest (6 * u) = simp add-zero at (word 0) in
+    (λ i. record { x = x i; y = word 2 i; t = word 4 i }) ∙ position-back ps u (omega arith)
+
+pub packing-back : (n u : ℕ) (q : Packing) → n ≤ length (q .positions) → n ≤ 10 → u < n → getD (packing-in (packing-bytes n q) .positions) u origin ≡ getD (q .positions) u origin
+unfolding packing-in packing-bytes
+packing-back n u q l m h =
+    entry (position-at (row-bytes position-bytes (take n (q .positions)))) u (omega arith)
+    ∙ position-back (take n (q .positions)) u (omega (arith, length-take-le n (q .positions) l))
+    ∙ getD-take n (q .positions) u origin h

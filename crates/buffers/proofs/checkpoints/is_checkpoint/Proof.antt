@@ -1,0 +1,45 @@
+use Prim.Native.Nat.{_≤_, _<_}
+use native.Mathlib.Omega.{arith}
+use lib.ListN.{getD}
+use borrow.Author.Tests.{lt-ltb, le-ltb}
+use Rattle.buffers.specs.Checkpoints.{is-checkpoint}
+use borrow.Author.Needs.{needs}
+use Rattle.buffers.proofs.checkpoints.is_checkpoint.Statement.{statement}
+use Rattle.buffers.proofs.checkpoints.is_checkpoint.Tie as tie
+
+shared-slice-read-if1 : tie.Need-shared-slice-read-if1
+shared-slice-read-if1 c = search needs
+
+returns : tie.Need-returns
+unfolding is-checkpoint
+returns c = let h : 3 ≤ getD (c .before .before .before .args .note .now) 0 0 = omega arith in rw (le-ltb _ _ h)
+
+word-at-requires : tie.Need-word-at-requires
+word-at-requires c κs = search needs
+
+cast-zero-from : tie.Need-cast-zero-from
+cast-zero-from c = search needs
+
+add-zero-from : tie.Need-add-zero-from
+add-zero-from c = search needs
+
+zero-from-requires : tie.Need-zero-from-requires
+zero-from-requires c κs = search needs
+
+returns-2 : tie.Need-returns-2
+unfolding is-checkpoint
+returns-2 c =
+    let h : getD (c .before .before .before .before .before .args .note .now) 0 0 < 3 = omega arith in
+    rw (c .zero-from .ensures, c .before .word-at .ensures, lt-ltb _ _ h)
+
+pub is-checkpoint-spec : {M : Type 1} → statement M
+is-checkpoint-spec =
+    tie.close
+    (tie.spec
+    shared-slice-read-if1
+    returns
+    word-at-requires
+    cast-zero-from
+    add-zero-from
+    zero-from-requires
+    returns-2)

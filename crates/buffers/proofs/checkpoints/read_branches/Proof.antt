@@ -1,0 +1,60 @@
+use Rattle.buffers.proofs.CheckpointBytes.{branches-next, branches-read}
+use mathlib.Core.Path.{_≡_, refl, _∙_}
+use Prim.Native.Nat.{_+_, _-_, _≤_, _<_}
+use native.Mathlib.Omega.{arith}
+use lib.ListN.{length, take, drop, replicate, length-set}
+use lib.Seq.{sets}
+use borrow.Author.Needs.{needs}
+use Rattle.buffers.proofs.checkpoints.read_branches.Statement.{statement}
+use Rattle.buffers.proofs.checkpoints.read_branches.Tie as tie
+
+abbrev Inv-loop : tie.InvT-loop
+Inv-loop note branches₀ i₀ branches i = (i ≤ 270) × (branches ≡ sets branches₀ 0 (take i (drop 3 note))) × (length branches ≡ 270)
+
+abbrev μ-loop : tie.MeasureT-loop
+μ-loop note branches₀ i₀ branches i = 270 - i
+
+loop-holds : tie.Need-loop-holds Inv-loop μ-loop
+loop-holds c = (omega arith, refl, refl)
+
+add-branches : tie.Need-add-branches Inv-loop μ-loop
+add-branches c = omega arith
+
+shared-slice-read-branches : tie.Need-shared-slice-read-branches Inv-loop μ-loop
+shared-slice-read-branches c = omega arith
+
+array-write-branches : tie.Need-array-write-branches Inv-loop μ-loop
+array-write-branches c = omega arith
+
+add-i : tie.Need-add-i Inv-loop μ-loop
+add-i c = omega arith
+
+loop-less : tie.Need-loop-less Inv-loop μ-loop
+loop-less c = omega arith
+
+loop-again : tie.Need-loop-again Inv-loop μ-loop
+loop-again c =
+    let l = c .before .before .loop in
+    let note = c .before .before .before .args .note .now in
+    (omega arith, rw (l .inv .1) (branches-next note (replicate 270 0) (l .i) (omega arith) (omega arith)), simp length-set (l .inv .2))
+
+returns : tie.Need-returns Inv-loop μ-loop
+returns c =
+    let l = c .before .loop in
+    let e : l .i ≡ 270 = omega arith in
+    l .inv .1 ∙ rw e (branches-read (c .before .before .args .note .now) (replicate 270 0) (omega arith) refl)
+
+pub read-branches-spec : {M : Type 1} → statement M
+read-branches-spec =
+    tie.close
+    (tie.spec
+    Inv-loop
+    μ-loop
+    loop-holds
+    add-branches
+    shared-slice-read-branches
+    array-write-branches
+    add-i
+    loop-less
+    loop-again
+    returns)

@@ -1,0 +1,67 @@
+use mathlib.Core.Path.{_≡_, refl, _∙_}
+use Prim.Native.Nat.{_+_, _-_, _≤_, _<_}
+use native.Mathlib.Omega.{arith}
+use lib.ListN.{length, take, length-set}
+use lib.Seq.{sets, take-all}
+use borrow.Author.Needs.{needs}
+use Rattle.buffers.proofs.Bytes.{sets-next}
+use Rattle.buffers.proofs.checkpoints.write_branches.Statement.{statement}
+use Rattle.buffers.proofs.checkpoints.write_branches.Tie as tie
+
+abbrev Inv-loop : tie.InvT-loop
+Inv-loop out₀ branches i₀ out i = (i ≤ 270) × (out ≡ sets out₀ 3 (take i branches)) × (length out ≡ length out₀)
+
+abbrev μ-loop : tie.MeasureT-loop
+μ-loop out₀ branches i₀ out i = 270 - i
+
+loop-holds : tie.Need-loop-holds Inv-loop μ-loop
+loop-holds c = (omega arith, refl, refl)
+
+array-read-out : tie.Need-array-read-out Inv-loop μ-loop
+array-read-out c = omega arith
+
+add-out : tie.Need-add-out Inv-loop μ-loop
+add-out c = omega arith
+
+slice-write-out : tie.Need-slice-write-out Inv-loop μ-loop
+slice-write-out c = omega arith
+
+add-i : tie.Need-add-i Inv-loop μ-loop
+add-i c = omega arith
+
+loop-less : tie.Need-loop-less Inv-loop μ-loop
+loop-less c = omega arith
+
+loop-again : tie.Need-loop-again Inv-loop μ-loop
+loop-again c =
+    let l = c .before .loop in
+    let a = c .before .before .args in
+    let h : length (a .t2) ≡ 270 = search needs in
+    (omega arith, rw (l .inv .1) (sets-next (a .out .now) (a .t2) 3 (l .i) (omega arith)), simp length-set (l .inv .2))
+
+same-length : tie.Need-same-length Inv-loop μ-loop
+same-length c = c .before .loop .inv .2
+
+returns : tie.Need-returns Inv-loop μ-loop
+returns c =
+    let l = c .before .loop in
+    let a = c .before .before .args in
+    let h : length (a .t2) ≡ 270 = search needs in
+    let e : l .i ≡ 270 = omega arith in
+    rw (l .inv .1, e, take-all 270 (a .t2) (omega arith))
+
+pub write-branches-spec : {M : Type 1} → statement M
+write-branches-spec =
+    tie.close
+    (tie.spec
+    Inv-loop
+    μ-loop
+    loop-holds
+    array-read-out
+    add-out
+    slice-write-out
+    add-i
+    loop-less
+    loop-again
+    same-length
+    returns)

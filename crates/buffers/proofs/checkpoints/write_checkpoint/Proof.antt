@@ -1,0 +1,43 @@
+use mathlib.Core.Path.{_≡_}
+use native.Mathlib.Omega.{arith}
+use lib.ListN.{length, length-set}
+use Rattle.buffers.proofs.CheckpointBytes.{checkpoint-fills}
+use borrow.Author.Needs.{needs}
+use Rattle.buffers.proofs.checkpoints.write_checkpoint.Statement.{statement}
+use Rattle.buffers.proofs.checkpoints.write_checkpoint.Tie as tie
+
+status-byte-requires : tie.Need-status-byte-requires
+status-byte-requires c κs = search needs
+
+slice-write-out : tie.Need-slice-write-out
+slice-write-out c = search needs
+
+cast-write-word : tie.Need-cast-write-word
+cast-write-word c = search needs
+
+write-word-requires : tie.Need-write-word-requires
+write-word-requires c κs = simp length-set (omega arith)
+
+write-branches-requires : tie.Need-write-branches-requires
+write-branches-requires c κs = omega (arith, simp length-set at (c .before .before .before .write-word .kept .0))
+
+same-length : tie.Need-same-length
+same-length c = omega (arith, c .before .before .write-branches .kept .0, simp length-set at (c .before .before .before .before .before .before .write-word .kept .0))
+
+returns : tie.Need-returns
+returns c =
+    let a = c .before .before .before .before .before .before .before .before .before .before .before .before .args in
+    let l : length (a .checkpoint .branches) ≡ 270 = search needs in
+    rw (c .before .before .write-branches .ensures, c .before .before .before .before .before .before .write-word .ensures, c .before .before .before .before .before .before .before .before .before .status-byte .ensures) (checkpoint-fills (a .checkpoint) (a .out .now) (omega arith) l)
+
+pub write-checkpoint-spec : {M : Type 1} → statement M
+write-checkpoint-spec =
+    tie.close
+    (tie.spec
+    status-byte-requires
+    slice-write-out
+    cast-write-word
+    write-word-requires
+    write-branches-requires
+    same-length
+    returns)

@@ -1,0 +1,55 @@
+use mathlib.Core.Path.{_≡_, refl, _∙_}
+use Prim.Native.Nat.{_+_, _-_, _≤_, _<_}
+use native.Mathlib.Omega.{arith}
+use borrow.Author.Needs.{needs}
+use Rattle.buffers.proofs.Bytes.{ReadTo, read-none, read-next, read-all}
+use Rattle.buffers.proofs.positions.read_packing.Statement.{statement}
+use Rattle.buffers.proofs.positions.read_packing.Tie as tie
+
+abbrev Inv-loop : tie.InvT-loop
+Inv-loop s n positions₀ u₀ positions u = (u ≤ n) × ReadTo s positions u
+
+abbrev μ-loop : tie.MeasureT-loop
+μ-loop s n positions₀ u₀ positions u = n - u
+
+loop-holds : tie.Need-loop-holds Inv-loop μ-loop
+loop-holds c = (omega arith, read-none (c .before .args .s .now))
+
+read-position-requires : tie.Need-read-position-requires Inv-loop μ-loop
+read-position-requires c κs = (omega arith, omega arith)
+
+mul-positions : tie.Need-mul-positions Inv-loop μ-loop
+mul-positions c = search needs
+
+array-set-from-positions : tie.Need-array-set-from-positions Inv-loop μ-loop
+array-set-from-positions c = omega arith
+
+add-u : tie.Need-add-u Inv-loop μ-loop
+add-u c = omega arith
+
+loop-less : tie.Need-loop-less Inv-loop μ-loop
+loop-less c = omega arith
+
+loop-again : tie.Need-loop-again Inv-loop μ-loop
+loop-again c = (omega arith, read-next (c .read-position .result) (c .before .before .loop .inv .1) (omega arith) (c .read-position .ensures))
+
+returns : tie.Need-returns Inv-loop μ-loop
+returns c =
+    let l = c .before .loop in
+    let e : l .u ≡ c .before .before .before .args .n = omega arith in
+    read-all (c .before .before .before .args .s .now) (l .positions) (l .u) (l .inv .1) (omega arith)
+
+pub read-packing-spec : {M : Type 1} → statement M
+read-packing-spec =
+    tie.close
+    (tie.spec
+    Inv-loop
+    μ-loop
+    loop-holds
+    read-position-requires
+    mul-positions
+    array-set-from-positions
+    add-u
+    loop-less
+    loop-again
+    returns)

@@ -1,0 +1,75 @@
+use mathlib.Core.Path.{_≡_, refl, sym, _∙_}
+use Prim.Native.Nat.{_+_, _-_, _≤_, _<_}
+use native.Mathlib.Omega.{arith}
+use lib.ListN.{length, take}
+use lib.Seq.{sets}
+use borrow.Author.Needs.{needs}
+use Rattle.records.specs.Bytes.{row-bytes}
+use Rattle.records.proofs.Writers.{row-none}
+use Rattle.buffers.specs.Bytes.{position-bytes}
+use Rattle.buffers.proofs.Bytes.{length-mapped, positions-next, packing-fills}
+use Rattle.buffers.proofs.positions.write_packing.Statement.{statement}
+use Rattle.buffers.proofs.positions.write_packing.Tie as tie
+
+abbrev Inv-loop : tie.InvT-loop
+Inv-loop out₀ n positions u₀ out u = (u ≤ n) × (out ≡ sets out₀ 0 (row-bytes position-bytes (take u positions))) × (length out ≡ length out₀)
+
+abbrev μ-loop : tie.MeasureT-loop
+μ-loop out₀ n positions u₀ out u = n - u
+
+loop-holds : tie.Need-loop-holds Inv-loop μ-loop
+loop-holds c = (omega arith, rw (row-none position-bytes) refl, refl)
+
+mul-write-position : tie.Need-mul-write-position Inv-loop μ-loop
+mul-write-position c = omega arith
+
+mul-write-position-2 : tie.Need-mul-write-position-2 Inv-loop μ-loop
+mul-write-position-2 c = search needs
+
+array-copy-out-write-position : tie.Need-array-copy-out-write-position Inv-loop μ-loop
+array-copy-out-write-position c = omega arith
+
+write-position-requires : tie.Need-write-position-requires Inv-loop μ-loop
+write-position-requires c κs = omega arith
+
+add-u : tie.Need-add-u Inv-loop μ-loop
+add-u c = omega arith
+
+loop-less : tie.Need-loop-less Inv-loop μ-loop
+loop-less c = omega arith
+
+loop-again : tie.Need-loop-again Inv-loop μ-loop
+loop-again c =
+    let l = c .before .before .before .before .before .before .loop in
+    let a = c .before .before .before .before .before .before .before .before .before .args in
+    let w = c .before .before .write-position in
+    let h : length (a .packing .positions) ≡ 10 = search length-mapped in
+    (omega arith, rw (w .ensures, l .inv .1) (positions-next (a .packing .positions) (a .out .now) (l .u) (omega arith)), omega (arith, w .kept .0))
+
+same-length : tie.Need-same-length Inv-loop μ-loop
+same-length c = c .before .loop .inv .2
+
+returns : tie.Need-returns Inv-loop μ-loop
+returns c =
+    let l = c .before .loop in
+    let a = c .before .before .before .before .args in
+    let h : length (a .packing .positions) ≡ 10 = search length-mapped in
+    let e : l .u ≡ a .n = omega arith in
+    l .inv .1 ∙ rw e (packing-fills (a .n) (a .packing) (a .out .now) (omega arith) (omega arith))
+
+pub write-packing-spec : {M : Type 1} → statement M
+write-packing-spec =
+    tie.close
+    (tie.spec
+    Inv-loop
+    μ-loop
+    loop-holds
+    mul-write-position
+    mul-write-position-2
+    array-copy-out-write-position
+    write-position-requires
+    add-u
+    loop-less
+    loop-again
+    same-length
+    returns)

@@ -1,0 +1,106 @@
+// Note bytes: status, length of the path, 270 branches.
+ghost use mathlib.Core.Path.{_≡_};
+ghost use Prim.Native.Nat.{_+_, _≤_};
+ghost use lib.ListN.{length, drop};
+ghost use lib.Seq.{sets};
+ghost use Rattle.buffers.specs.Checkpoints.{status-byte, status-of, checkpoint-bytes, checkpoint-in, all-zero, is-checkpoint};
+use crate::words;
+use instance::Checkpoint;
+use instance::Status;
+
+fn status_byte(status: Status) -> u8
+    ensures { λ r. ⌜ r ≡ status-byte status ⌝ }
+{
+    match status {
+        Status::Open => 0,
+        Status::Infeasible => 1,
+        Status::Packed => 2,
+    }
+}
+
+fn status_of(b: u8) -> Status
+    ensures { λ r. ⌜ r ≡ status-of b ⌝ }
+{
+    if b == 0 {
+        return Status::Open;
+    }
+    if b == 1 {
+        return Status::Infeasible;
+    }
+    Status::Packed
+}
+
+// Whether every byte from a place on is 0.
+fn zero_from(s: &[u8], from: usize) -> bool
+    ensures { λ r. ⌜ r ≡ all-zero (drop from (now (s .entry))) ⌝ }
+{
+    let mut i = from;
+    while i < s.len() {
+        if s[i] != 0 {
+            return false;
+        }
+        i = i + 1;
+    }
+    true
+}
+
+// Whether the bytes hold a checkpoint: a status of the three, and 0 past the path's length.
+pub fn is_checkpoint(note: &[u8]) -> bool
+    requires { ⌜ length (now note) ≡ 273 ⌝ }
+    ensures { λ r. ⌜ r ≡ is-checkpoint (now (note .entry)) ⌝ }
+{
+    if 2 < note[0] {
+        return false;
+    }
+    zero_from(note, 3 + words::word_at(note, 1) as usize)
+}
+
+fn read_branches(note: &[u8]) -> [u8; 270]
+    requires { ⌜ length (now note) ≡ 273 ⌝ }
+    ensures { λ r. ⌜ r ≡ drop 3 (now (note .entry)) ⌝ }
+{
+    let mut branches = [0u8; 270];
+    let mut i: usize = 0;
+    while i < 270 {
+        branches[i] = note[3 + i];
+        i = i + 1;
+    }
+    branches
+}
+
+pub fn read_checkpoint(note: &[u8]) -> Checkpoint
+    requires { ⌜ length (now note) ≡ 273 ⌝ }
+    ensures { λ r. ⌜ r ≡ checkpoint-in (now (note .entry)) ⌝ }
+{
+    let status = status_of(note[0]);
+    let branches = read_branches(note);
+    let length = words::word_at(note, 1) as usize;
+    Checkpoint {
+        status,
+        length,
+        branches,
+    }
+}
+
+fn write_branches(out: &mut [u8], branches: [u8; 270])
+    requires { ⌜ length (now out) ≡ 273 ⌝ }
+    ensures { λ _. ⌜ now (out .exit) ≡ sets (now (out .entry)) 3 branches ⌝ }
+{
+    let mut i: usize = 0;
+    while i < 270 {
+        out[3 + i] = branches[i];
+        i = i + 1;
+    }
+}
+
+// The bytes of a checkpoint, which fill the buffer.
+pub fn write_checkpoint(out: &mut [u8], checkpoint: Checkpoint)
+    requires { ⌜ (length (now out) ≡ 273) × (checkpoint .length ≤ 270) ⌝ }
+    ensures { λ _. ⌜ now (out .exit) ≡ checkpoint-bytes checkpoint ⌝ }
+{
+    let status = checkpoint.status;
+    let branches = checkpoint.branches;
+    out[0] = status_byte(status);
+    words::write_word(out, 1, checkpoint.length as u16);
+    write_branches(out, branches);
+}

@@ -1,0 +1,51 @@
+use native.Mathlib.Omega.{arith}
+use Rattle.instance.specs.Decode.{decode}
+use Rattle.instance.proofs.Inverse.{read-written}
+use Rattle.instance.proofs.Lookup.{was-read, was-refused}
+use Rattle.c_api.specs.Calls.{check-code}
+use borrow.Author.Needs.{needs}
+use Rattle.c_api.proofs.hallplan_check.Statement.{statement}
+use Rattle.c_api.proofs.hallplan_check.Tie as tie
+
+read-requires : tie.Need-read-requires
+read-requires c κs = search needs
+
+enum-known-answer : tie.Need-enum-known-answer
+enum-known-answer c = search needs
+
+refusal-code-requires : tie.Need-refusal-code-requires
+refusal-code-requires c κs = search needs
+
+enum-told : tie.Need-enum-told
+enum-told c = search needs
+
+check-instance-requires : tie.Need-check-instance-requires
+check-instance-requires c κs =
+    let s = c .before .before .before .before .before .before .args .sheet .now in
+    let w = was-read (decode s) (c .before .before .before .read .result) (c .before .before .before .read .ensures) (c .enum-told .given .1) in
+    read-written s (λ k. omega (arith, c .before .before .before .before .before .shared-slice-known .given k)) (w .was) .1
+
+returns : tie.Need-returns
+unfolding check-code
+returns c =
+    let s = c .before .before .before .before .before .before .before .before .args .sheet .now in
+    rw (c .refusal-code .ensures, was-refused (decode s) (c .before .before .before .before .before .read .result) (c .before .before .before .before .before .read .ensures) (c .before .before .answer .given .1))
+
+returns-2 : tie.Need-returns-2
+unfolding check-code
+returns-2 c =
+    let s = c .before .before .before .before .before .before .before .args .sheet .now in
+    let w = was-read (decode s) (c .before .before .before .before .read .result) (c .before .before .before .before .read .ensures) (c .before .enum-told .given .1) in
+    rw (c .check-instance .ensures, w .was)
+
+pub hallplan-check-spec : {M : Type 1} → statement M
+hallplan-check-spec =
+    tie.close
+    (tie.spec
+    read-requires
+    enum-known-answer
+    refusal-code-requires
+    enum-told
+    check-instance-requires
+    returns
+    returns-2)

@@ -1,0 +1,65 @@
+use native.Mathlib.Omega.{arith}
+use mathlib.Core.Path.{refl}
+use Rattle.instance.specs.Decode.{decode}
+use Rattle.instance.proofs.Inverse.{read-written}
+use Rattle.instance.proofs.Lookup.{was-read, was-refused}
+use Rattle.search.specs.Results.{refused}
+use Rattle.c_api.specs.Calls.{search-call}
+use borrow.Author.Needs.{needs}
+use Rattle.c_api.proofs.hallplan_search.Statement.{statement}
+use Rattle.c_api.proofs.hallplan_search.Tie as tie
+
+read-requires : tie.Need-read-requires
+read-requires c κs = search needs
+
+enum-known-answer : tie.Need-enum-known-answer
+enum-known-answer c = search needs
+
+refusal-code-requires : tie.Need-refusal-code-requires
+refusal-code-requires c κs = search needs
+
+enum-told : tie.Need-enum-told
+enum-told c = search needs
+
+search-instance-requires : tie.Need-search-instance-requires
+search-instance-requires c κs =
+    let s = c .before .before .before .before .before .before .before .before .before .before .before .args .sheet .now in
+    let w = was-read (decode s) (c .before .before .before .before .before .before .read .result) (c .before .before .before .before .before .before .read .ensures) (c .before .before .before .enum-told .given .1) in
+    read-written s (λ k. omega (arith, c .before .before .before .before .before .before .before .before .before .before .shared-slice-known .given k)) (w .was) .1
+
+returns : tie.Need-returns
+unfolding search-call refused
+returns c =
+    let s = c .before .before .before .before .before .before .before .before .before .before .args .sheet .now in
+    rw (was-refused (decode s) (c .before .before .before .before .before .read .result) (c .before .before .before .before .before .read .ensures) (c .before .before .answer .given .1)) (c .refusal-code .ensures, (refl, (refl, refl)))
+
+same-length : tie.Need-same-length
+same-length c = search needs
+
+same-length-2 : tie.Need-same-length-2
+same-length-2 c = search needs
+
+same-length-3 : tie.Need-same-length-3
+same-length-3 c = search needs
+
+returns-2 : tie.Need-returns-2
+unfolding search-call
+returns-2 c =
+    let s = c .before .before .before .before .before .before .before .before .before .before .before .before .before .before .before .before .before .before .args .sheet .now in
+    let w = was-read (decode s) (c .before .before .before .before .before .before .before .before .before .before .before .before .before .read .result) (c .before .before .before .before .before .before .before .before .before .before .before .before .before .read .ensures) (c .before .before .before .before .before .before .before .before .before .before .enum-told .given .1) in
+    rw (w .was) (c .before .before .before .before .before .before .search-instance .ensures)
+
+pub hallplan-search-spec : {M : Type 1} → statement M
+hallplan-search-spec =
+    tie.close
+    (tie.spec
+    read-requires
+    enum-known-answer
+    refusal-code-requires
+    enum-told
+    search-instance-requires
+    returns
+    same-length
+    same-length-2
+    same-length-3
+    returns-2)

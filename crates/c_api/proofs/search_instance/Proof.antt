@@ -1,0 +1,106 @@
+use mathlib.Core.Path.{_≡_, refl, sym, ap, _∙_}
+use lib.ListN.{length}
+use borrow.Author.Tests.{not-true, not-false}
+use Rattle.instance.proofs.Sheets.{valid-says}
+use Rattle.search.proofs.Sound.{length-mapped}
+use Rattle.search.specs.Results.{refused, search-result}
+use Rattle.instance.specs.declared.Checkpoint.{Checkpoint}
+use Rattle.c_api.proofs.Outcomes.{Lengths, lengths-say, wrong-lengths, no-checkpoint, as-searched, path-fits}
+use mathlib.Core.Bool.{true}
+use Rattle.c_api.specs.Calls.{lengths-fit}
+use borrow.Author.Needs.{needs}
+use Rattle.c_api.proofs.search_instance.Statement.{statement}
+use Rattle.c_api.proofs.search_instance.Tie as tie
+
+long : (c : tie.Start) → length (c .args .instance .items) ≡ 10
+long c = search length-mapped
+
+-- the lengths are right, from where they were tested on
+fit : (c : tie.Else1) → let a = c .before .before .before .before .before .args in
+    lengths-fit (a .instance) (length (a .note .now)) (length (a .steps .now)) (length (a .plan .now)) ≡ true
+fit c = sym (c .before .lengths-fit .ensures) ∙ not-false _ (c .if1 .left)
+
+right : (c : tie.Else1) → let a = c .before .before .before .before .before .args in
+    Lengths (a .instance) (length (a .note .now)) (length (a .steps .now)) (length (a .plan .now))
+right c =
+    let a = c .before .before .before .before .before .args in
+    lengths-say (a .instance) (length (a .note .now)) (length (a .steps .now)) (length (a .plan .now)) (fit c)
+
+lengths-fit-requires : tie.Need-lengths-fit-requires
+lengths-fit-requires c κs = search needs
+
+refusal-code-requires : tie.Need-refusal-code-requires
+refusal-code-requires c κs = search needs
+
+returns : tie.Need-returns
+unfolding refused
+returns c =
+    let a = c .before .before .before .before .before .before .args in
+    let l = sym (c .before .before .lengths-fit .ensures) ∙ not-true _ (c .before .if1 .taken) in
+    rw (wrong-lengths (a .instance) (a .note .now) (a .allowance) _ _ l) (c .refusal-code .ensures, (refl, (refl, refl)))
+
+is-checkpoint-requires : tie.Need-is-checkpoint-requires
+is-checkpoint-requires c κs = right (c .before) .note-is
+
+refusal-code-requires-2 : tie.Need-refusal-code-requires-2
+refusal-code-requires-2 c κs = search needs
+
+same-length : tie.Need-same-length
+same-length c = search needs
+
+returns-2 : tie.Need-returns-2
+unfolding refused
+returns-2 c =
+    let a = c .before .before .before .before .before .before .before .before .before .args in
+    let k = sym (c .before .before .is-checkpoint .ensures) ∙ not-true _ (c .before .if2 .taken) in
+    rw (no-checkpoint (a .instance) (a .note .now) (a .allowance) _ _ (fit (c .before .before .before .before)) k) (c .refusal-code2 .ensures, (refl, (refl, refl)))
+
+read-checkpoint-requires : tie.Need-read-checkpoint-requires
+read-checkpoint-requires c κs = right (c .before .before .before .before) .note-is
+
+search-requires : tie.Need-search-requires
+search-requires c κs = search needs
+
+hand-over-requires : tie.Need-hand-over-requires
+hand-over-requires c κs =
+    let a = c .before .before .before .before .before .before .before .before .before .before .before .before .before .before .args in
+    let l = right (c .before .before .before .before .before .before .before .before .before) in (
+      rw (c .before .before .before .search .ensures) (path-fits (a .instance) (c .before .before .before .before .before .before .before .before .before .before .before .before .before .before .pre) (long (c .before .before .before .before .before .before .before .before .before .before .before .before .before .before)) (c .before .before .before .before .read-checkpoint .result) (a .allowance)),
+      (l .note-is, l .steps-are, l .plan-is, valid-says (a .instance) (c .before .before .before .before .before .before .before .before .before .before .before .before .before .before .pre) .items-few),
+    )
+
+same-length-2 : tie.Need-same-length-2
+same-length-2 c = search needs
+
+same-length-3 : tie.Need-same-length-3
+same-length-3 c = search needs
+
+same-length-4 : tie.Need-same-length-4
+same-length-4 c = search needs
+
+returns-3 : tie.Need-returns-3
+returns-3 c =
+    let a = c .before .before .before .before .before .before .before .before .before .before .before .before .before .before .before .before .before .before .before .before .before .args in
+    let k = sym (c .before .before .before .before .before .before .before .before .before .before .before .before .before .before .is-checkpoint .ensures) ∙ not-false _ (c .before .before .before .before .before .before .before .before .before .before .before .before .before .if2 .left) in
+    let e = as-searched (a .instance) (a .note .now) (a .allowance) (length (a .steps .now)) (length (a .plan .now)) (fit (c .before .before .before .before .before .before .before .before .before .before .before .before .before .before .before .before)) k
+    ∙ sym (c .before .before .before .before .before .before .before .before .before .before .search .ensures ∙ ap (λ (x : Checkpoint). search-result (a .instance) x (a .allowance)) (c .before .before .before .before .before .before .before .before .before .before .before .read-checkpoint .ensures)) in
+    rw e (c .before .before .before .before .before .before .hand-over .ensures)
+
+pub search-instance-spec : {M : Type 1} → statement M
+search-instance-spec =
+    tie.close
+    (tie.spec
+    lengths-fit-requires
+    refusal-code-requires
+    returns
+    is-checkpoint-requires
+    refusal-code-requires-2
+    same-length
+    returns-2
+    read-checkpoint-requires
+    search-requires
+    hand-over-requires
+    same-length-2
+    same-length-3
+    same-length-4
+    returns-3)

@@ -1,0 +1,113 @@
+-- What check and search return and leave in the lent buffers (document 01, "Refusals": "The planning screen, written in C, ..").
+use mathlib.Core.Bool.{Bool, true, false, _&&_}
+use mathlib.Core.List.{List}
+use Prim.Native.Nat.{ℕ, _*_, _≤_}
+use lib.Dec.{eqb}
+use lib.ListN.{length}
+use Rattle.refusal.specs.declared.Refusal.the-variants.{BadArgument, NotFollowing}
+use Rattle.records.specs.Reading.{Read, got, refused}
+use Rattle.instance.specs.Decode.{decode}
+use Rattle.instance.specs.declared.Instance.{Instance}
+use Rattle.packing.specs.Check.{check-answer, check-number}
+use Rattle.packing.specs.declared.CheckAnswer.{CheckAnswer}
+use Rattle.packing.specs.declared.CheckAnswer.the-variants as K
+use Rattle.search.specs.Results as R
+use Rattle.search.specs.declared.Answer.{Answer}
+use Rattle.search.specs.declared.Answer.the-variants.{Packed, Infeasible, BudgetSpent, Refused}
+use Rattle.search.specs.declared.SearchResult.{SearchResult}
+use Rattle.buffers.specs.Bytes.{packing-bytes, packing-in, step-bytes}
+use Rattle.buffers.specs.Checkpoints.{checkpoint-bytes, checkpoint-in, is-checkpoint}
+
+-- 8: "plan bytes not 6 for each piece"
+abbrev pub plan-fits : Instance → ℕ → Bool
+plan-fits i plan = eqb plan (6 * i .«item_count»)
+
+-- 8: "note bytes not 273; step bytes not 4"
+abbrev pub lengths-fit : Instance → ℕ → ℕ → ℕ → Bool
+lengths-fit i note steps plan = eqb note 273 && (eqb steps 4 && plan-fits i plan)
+
+-- Check
+
+abbrev pub checked-if : Bool → Instance → List ℕ → CheckAnswer
+checked-if true i plan = check-answer i (packing-in plan)
+checked-if false i plan = K.Refused BadArgument
+
+-- "the sheet's refusals come first"
+abbrev pub checked : Read Instance → List ℕ → CheckAnswer
+checked (refused e) plan = K.Refused e
+checked (got i at rest) plan = checked-if (plan-fits i (length plan)) i plan
+
+-- "Check returns 0 no, 1 yes, 100 plus the number for a refusal"
+unfoldable pub check-code : List ℕ → List ℕ → ℕ
+check-code sheet plan = check-number (checked (decode sheet) plan)
+
+-- Search
+
+-- "8 before 10"
+abbrev pub searched-if : Bool → Bool → Instance → List ℕ → ℕ → SearchResult
+searched-if false b i note budget = R.refused BadArgument (checkpoint-in note)
+searched-if true false i note budget = R.refused NotFollowing (checkpoint-in note)
+searched-if true true i note budget = R.search-result i (checkpoint-in note) budget
+
+-- the call on a sheet that reads as i, with so many step bytes and plan bytes
+unfoldable pub instance-searched : Instance → List ℕ → ℕ → ℕ → ℕ → SearchResult
+instance-searched i note budget steps plan = searched-if (lengths-fit i (length note) steps plan) (is-checkpoint note) i note budget
+
+-- "or a refusal as check does": the sheet's first
+abbrev pub searched : Read Instance → List ℕ → ℕ → ℕ → ℕ → SearchResult
+searched (refused e) note budget steps plan = R.refused e (checkpoint-in note)
+searched (got i at rest) note budget steps plan = instance-searched i note budget steps plan
+
+-- "Every refusal leaves lent buffers untouched"
+abbrev pub rewritten : Answer → List ℕ → List ℕ → List ℕ
+rewritten BudgetSpent old new = new
+rewritten Packed old new = new
+rewritten Infeasible old new = new
+rewritten (Refused e) old new = old
+
+-- "and the plan bytes only when placed"
+abbrev pub when-packed : Answer → List ℕ → List ℕ → List ℕ
+when-packed BudgetSpent old new = old
+when-packed Packed old new = new
+when-packed Infeasible old new = old
+when-packed (Refused e) old new = old
+
+-- "It rewrites the note and 4 bytes of steps"
+abbrev pub note-of : SearchResult → List ℕ → List ℕ
+note-of r note = rewritten (r .answer) note (checkpoint-bytes (r .checkpoint))
+
+abbrev pub steps-of : SearchResult → List ℕ → List ℕ
+steps-of r steps = rewritten (r .answer) steps (step-bytes (r .steps))
+
+-- what is to be written has a path that a note has room for
+abbrev pub PathFits : Answer → ℕ → Type 0
+PathFits BudgetSpent length = length ≤ 270
+PathFits Packed length = length ≤ 270
+PathFits Infeasible length = length ≤ 270
+PathFits (Refused e) length = Unit {0}
+
+-- n is the number of items
+abbrev pub plan-of : ℕ → SearchResult → List ℕ → List ℕ
+plan-of n r plan = when-packed (r .answer) plan (packing-bytes n (r .packing))
+
+abbrev pub items-in : Read Instance → ℕ
+items-in (refused e) = 0
+items-in (got i at rest) = i .«item_count»
+
+-- the call with these bytes lent, as a value
+module _ (sheet note : List ℕ) (allowance : ℕ) (steps plan : List ℕ) where
+  unfoldable pub search-call : SearchResult
+  search-call = searched (decode sheet) note allowance (length steps) (length plan)
+
+  -- "It returns 0 spent, 1 placed, 2 none, or a refusal as check does"
+  abbrev pub search-code : ℕ
+  search-code = R.answer-number (search-call .answer)
+
+  abbrev pub note-after : List ℕ
+  note-after = note-of search-call note
+
+  abbrev pub steps-after : List ℕ
+  steps-after = steps-of search-call steps
+
+  abbrev pub plan-after : List ℕ
+  plan-after = plan-of (items-in (decode sheet)) search-call plan

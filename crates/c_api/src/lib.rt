@@ -1,0 +1,157 @@
+// Check and search for a C program: numbers and byte slices.
+ghost use mathlib.Core.Path.{_≡_};
+ghost use mathlib.Core.Bool.{true};
+ghost use Prim.Native.Nat.{_+_, _*_, _≤_};
+ghost use lib.ListN.{length};
+ghost use Rattle.refusal.specs.Numbers.{number-of};
+ghost use Rattle.instance.specs.Valid.{valid};
+ghost use Rattle.packing.specs.Check.{check-number};
+ghost use Rattle.search.specs.Results.{answer-number};
+ghost use Rattle.c_api.specs.Calls.{lengths-fit, checked-if, plan-fits, check-code, instance-searched, note-of, steps-of, plan-of, PathFits, search-code, note-after, steps-after, plan-after};
+use buffers::checkpoints;
+use buffers::positions;
+use buffers::words;
+use instance::Instance;
+use instance::ReadAnswer;
+use packing::CheckAnswer;
+use refusal::Refusal;
+use search::Answer;
+use search::SearchResult;
+
+// Whether the plan fits the sheet: 0 no, 1 yes, 100 plus the number of a refusal.
+#[no_mangle]
+pub extern "C" fn hallplan_check(sheet: &[u8], plan: &[u8]) -> u32
+    ensures { λ r. ⌜ r ≡ check-code (now (sheet .entry)) (now (plan .entry)) ⌝ }
+{
+    let read = Instance::read(sheet);
+    let answer = read.answer;
+    let instance = read.instance;
+    match answer {
+        ReadAnswer::Refused(e) => refusal_code(e),
+        ReadAnswer::Read => check_instance(instance, plan),
+    }
+}
+
+// One call of the search: 0 spent, 1 placed, 2 none, 100 plus the number of a refusal.
+#[no_mangle]
+pub extern "C" fn hallplan_search(
+    sheet: &[u8],
+    note: &mut [u8],
+    allowance: u32,
+    steps: &mut [u8],
+    plan: &mut [u8],
+) -> u32
+    ensures { λ r. ⌜ r ≡ search-code (now (sheet .entry)) (now (note .entry)) allowance (now (steps .entry)) (now (plan .entry)) ⌝ }
+    ensures { λ _. ⌜ now (note .exit) ≡ note-after (now (sheet .entry)) (now (note .entry)) allowance (now (steps .entry)) (now (plan .entry)) ⌝ }
+    ensures { λ _. ⌜ now (steps .exit) ≡ steps-after (now (sheet .entry)) (now (note .entry)) allowance (now (steps .entry)) (now (plan .entry)) ⌝ }
+    ensures { λ _. ⌜ now (plan .exit) ≡ plan-after (now (sheet .entry)) (now (note .entry)) allowance (now (steps .entry)) (now (plan .entry)) ⌝ }
+{
+    let read = Instance::read(sheet);
+    let answer = read.answer;
+    let instance = read.instance;
+    match answer {
+        ReadAnswer::Refused(e) => refusal_code(e),
+        ReadAnswer::Read => search_instance(instance, note, allowance, steps, plan),
+    }
+}
+
+fn refusal_code(e: Refusal) -> u32
+    ensures { λ r. ⌜ r ≡ 100 + number-of e ⌝ }
+{
+    100 + words::code(e.number())
+}
+
+// The check on a sheet that reads as the instance.
+fn check_instance(instance: Instance, plan: &[u8]) -> u32
+    requires { ⌜ valid instance ≡ true ⌝ }
+    ensures { λ r. ⌜ r ≡ check-number (checked-if (plan-fits instance (length (now (plan .entry)))) instance (now (plan .entry))) ⌝ }
+{
+    let n = instance.item_count;
+    if plan.len() != 6 * n {
+        return refusal_code(Refusal::BadArgument);
+    }
+    let packing = positions::read_packing(plan, n);
+    match packing::check(instance, packing) {
+        CheckAnswer::NotFeasible => 0,
+        CheckAnswer::Feasible => 1,
+        CheckAnswer::Refused(e) => refusal_code(e),
+    }
+}
+
+// Whether the lent buffers are as long as they must be.
+fn lengths_fit(instance: Instance, note: usize, steps: usize, plan: usize) -> bool
+    requires { ⌜ valid instance ≡ true ⌝ }
+    ensures { λ r. ⌜ r ≡ lengths-fit instance note steps plan ⌝ }
+{
+    if note != 273 {
+        return false;
+    }
+    if steps != 4 {
+        return false;
+    }
+    plan == 6 * instance.item_count
+}
+
+// The search on a sheet that reads as the instance.
+fn search_instance(
+    instance: Instance,
+    note: &mut [u8],
+    allowance: u32,
+    steps: &mut [u8],
+    plan: &mut [u8],
+) -> u32
+    requires { ⌜ valid instance ≡ true ⌝ }
+    ensures { λ r. ⌜ r ≡ answer-number (instance-searched instance (now (note .entry)) allowance (length (now (steps .entry))) (length (now (plan .entry))) .answer) ⌝ }
+    ensures { λ _. ⌜ now (note .exit) ≡ note-of (instance-searched instance (now (note .entry)) allowance (length (now (steps .entry))) (length (now (plan .entry)))) (now (note .entry)) ⌝ }
+    ensures { λ _. ⌜ now (steps .exit) ≡ steps-of (instance-searched instance (now (note .entry)) allowance (length (now (steps .entry))) (length (now (plan .entry)))) (now (steps .entry)) ⌝ }
+    ensures { λ _. ⌜ now (plan .exit) ≡ plan-of (instance .«item_count») (instance-searched instance (now (note .entry)) allowance (length (now (steps .entry))) (length (now (plan .entry)))) (now (plan .entry)) ⌝ }
+{
+    if !lengths_fit(instance, note.len(), steps.len(), plan.len()) {
+        return refusal_code(Refusal::BadArgument);
+    }
+    if !checkpoints::is_checkpoint(note) {
+        return refusal_code(Refusal::NotFollowing);
+    }
+    let checkpoint = checkpoints::read_checkpoint(note);
+    let result = search::search(instance, checkpoint, allowance);
+    hand_over(result, instance.item_count, note, steps, plan)
+}
+
+// The result's number; its bytes in the lent buffers, where it is not refused.
+fn hand_over(
+    result: SearchResult,
+    n: usize,
+    note: &mut [u8],
+    steps: &mut [u8],
+    plan: &mut [u8],
+) -> u32
+    requires { ⌜ PathFits (result .answer) (result .checkpoint .length) ⌝ }
+    requires { ⌜ (length (now note) ≡ 273) × (length (now steps) ≡ 4) × (length (now plan) ≡ 6 * n) × (n ≤ 10) ⌝ }
+    ensures { λ r. ⌜ r ≡ answer-number (result .answer) ⌝ }
+    ensures { λ _. ⌜ now (note .exit) ≡ note-of result (now (note .entry)) ⌝ }
+    ensures { λ _. ⌜ now (steps .exit) ≡ steps-of result (now (steps .entry)) ⌝ }
+    ensures { λ _. ⌜ now (plan .exit) ≡ plan-of n result (now (plan .entry)) ⌝ }
+{
+    let answer = result.answer;
+    let checkpoint = result.checkpoint;
+    let packing = result.packing;
+    match answer {
+        Answer::BudgetSpent => {
+            checkpoints::write_checkpoint(note, checkpoint);
+            words::write_steps(steps, result.steps);
+            0
+        }
+        Answer::Packed => {
+            checkpoints::write_checkpoint(note, checkpoint);
+            words::write_steps(steps, result.steps);
+            positions::write_packing(plan, packing, n);
+            1
+        }
+        Answer::Infeasible => {
+            checkpoints::write_checkpoint(note, checkpoint);
+            words::write_steps(steps, result.steps);
+            2
+        }
+        Answer::Refused(e) => refusal_code(e),
+    }
+}
