@@ -2,11 +2,9 @@
 // through them. Nothing else uses this crate.
 ghost use mathlib.Core.Path.{_≡_};
 ghost use lib.ListN.{length};
-
 ghost use Rattle.instance.specs.Decode.{decode, read-result};
 ghost use Rattle.instance.specs.Values.{origin-packing};
 ghost use Rattle.instance.specs.Record.{item-record, item-record-code};
-
 ghost use Rattle.exports.specs.Exports.{read-number, read-place, rewritten-length, rewrite-length, rewrite-room, position-at, with-item, sheet-clearance, clearance-integer, clearance-number, byte-at};
 use instance::Instance;
 use instance::Packing;

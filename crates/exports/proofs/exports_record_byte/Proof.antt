@@ -1,3 +1,4 @@
+-- Within the record its byte, past its end 256.
 use mathlib.Core.Path.{_≡_, sym, ap, _∙_}
 use mathlib.Core.Bool.{Bool, cond}
 use mathlib.Core.List.{List}
