@@ -55,10 +55,18 @@ fn one_case(report: &mut Report, seed: u64, case: u64) {
     let mut random = Random::new(seed, case);
     report.context = format!("seed {seed} case {case}");
     let large = case % 41 == 40;
-    let items = if large { random.between(7, 10) } else { random.between(1, 6) };
-    report.count(if large { LARGE } else { SMALL });
+    let items = match case % 100 {
+        99 => 0,
+        _ if large => random.between(7, 10),
+        _ => random.between(1, 6),
+    };
+    report.count(match items {
+        0 => "instances of no items",
+        1..=6 => SMALL,
+        _ => LARGE,
+    });
     let instance = random::instance(&mut random, items);
-    parts::everything(report, &mut random, &instance, if large { 60 } else { 400 });
+    parts::everything(report, &mut random, &instance, if items > 6 { 60 } else { 400 });
 }
 
 fn main() {

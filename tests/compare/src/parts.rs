@@ -299,6 +299,14 @@ pub fn plans(report: &mut Report, random: &mut Random, sheet: &[u8], instance: &
             candidates.push(moved);
         }
     }
+    if let Some((Status::Packed, packed)) = &run.end {
+        // The last first: as good but for the orders.
+        let mut reversed = bytes::positions_of(packed);
+        for (position, size) in reversed.iter_mut().zip(&instance.items) {
+            position[packing::TIME] = instance.container[packing::TIME] - position[packing::TIME] - size[packing::TIME];
+        }
+        candidates.push(plan_bytes(&reversed));
+    }
     let mut positions = vec![[0u32; 3]; items];
     for (item, position) in positions.iter_mut().enumerate() {
         for axis in 0..3 {

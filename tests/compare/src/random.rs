@@ -88,10 +88,23 @@ pub fn instance(random: &mut Random, items: usize) -> Instance {
             *u = (*u + turn) % items;
             *v = (*v + turn) % items;
         }
-        precedences.sort();
-        precedences.dedup();
     }
-    let yard_number = if random.one_in(4) { random.between(1, 65535) as u32 } else { 0 };
+    if random.one_in(10) {
+        // Many orders, up to all there are.
+        let percent = random.pick(&[20, 60, 100]);
+        let circles = random.one_in(3);
+        for u in 0..items {
+            for v in 0..items {
+                if (u < v || circles && u != v) && random.below(100) < percent {
+                    precedences.push((u, v));
+                }
+            }
+        }
+    }
+    precedences.sort();
+    precedences.dedup();
+    let any = random.between(1, 65535) as u32;
+    let yard_number = random.pick(&[0, 0, 0, 0, 0, 1, 2, 256, 65535, any]);
     if random.one_in(40) {
         // Large measures: the same problem in other units.
         let factor = 65535 / sizes.iter().chain([&container]).flatten().max().expect("the container's");
