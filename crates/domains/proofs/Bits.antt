@@ -1,33 +1,17 @@
--- Numbers as the code computes them: a domain's bits, and where a domain stands.
-use mathlib.Core.Bool.{Bool, true, false, cond, _&&_}
-use mathlib.Core.Path.{_≡_, refl, sym, _∙_}
-use Prim.Native.Nat.{ℕ, _-_, _*_, _/_, _%_, _≤_, _<_}
-use native.Mathlib.Nat.{one-mul, zero-mul}
+-- Numbers as the code computes them: lengths, and how many domains there are.
+use mathlib.Core.Bool.{_&&_}
+use mathlib.Core.Path.{_≡_, refl, _∙_}
+use Prim.Native.Nat.{ℕ, _*_, _≤_}
 use native.Mathlib.Omega.{arith}
-use lib.Dec.{eqb, ltb, leb}
+use lib.Dec.{leb}
 use lib.ListN.{length, length-set}
-use borrow.Author.Tests.{eqb-true, eqb-false, ltb-true, leb-true}
-use Rattle.model.specs.Domains.{Domains, odd, remove-overlap, remove-before, fix-before}
-use Rattle.model.specs.Below.{all-below}
+use borrow.Author.Tests.{leb-true}
+use Rattle.model.specs.Domains.{Domains, remove-overlap, remove-before, fix-before}
 use Rattle.model.proofs.Below.{all-at, and-both}
+use Rattle.relations.proofs.Bits.{remove-before-long}
 use Rattle.domains.specs.Propagated.{domain-count}
 
--- a bit's part of a domain
-pub weigh : (x c : ℕ) → cond (odd x) c 0 ≡ x % 2 * c
-weigh x c = go (eqb (x % 2) 1) refl
-  where
-    go : (b : Bool) → eqb (x % 2) 1 ≡ b → cond b c 0 ≡ x % 2 * c
-    go true e = rw (eqb-true (x % 2) 1 e) (sym (one-mul c))
-    go false e = let z : x % 2 ≡ 0 = omega (arith, eqb-false (x % 2) 1 e) in rw z (sym (zero-mul c))
-
-pub square-small : (v : ℕ) → v < 10 → v * (v - 1) < 100
-square-small v h = ltb-true _ 100 (all-at 10 (λ v. ltb (v * (v - 1)) 100) refl v h)
-
--- a removal keeps the length
-pub remove-before-long : (k : Domains) (a u v : ℕ) → length (remove-before k a u v) ≡ length k
-unfolding remove-before
-remove-before-long k a u v = length-set k _ _
-
+-- removals keep the length
 pub fix-before-long : (k : Domains) (a u v : ℕ) → length (fix-before k a u v) ≡ length k
 unfolding fix-before remove-overlap
 fix-before-long k a u v = length-set (remove-before k a v u) _ _ ∙ remove-before-long k a v u

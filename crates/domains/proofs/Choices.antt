@@ -5,19 +5,18 @@ use mathlib.Core.Path.{_≡_, refl, sym, _∙_, ap}
 use Prim.Native.Nat.{ℕ, _+_, _*_, _≤_, _<_}
 use native.Mathlib.Omega.{arith}
 use lib.Dec.{eqb, ltb}
-use lib.ListN.{getD, length}
-use borrow.Author.Tests.{eqb-true, lt-ltb, ltb-true, not-true, not-false}
+use lib.ListN.{getD}
+use borrow.Author.Tests.{eqb-true, lt-ltb, ltb-true, not-true}
 use Rattle.model.specs.Below.{all-below}
 use Rattle.model.specs.Problem.{Problem}
 use Rattle.model.specs.Domains.{Domains, Pair, pairs, pair-number}
 use Rattle.model.specs.Branching.{separated, packed, undecided, choice-axis, choice}
-use Rattle.model.specs.Order.{Rising}
 use Rattle.model.proofs.Below.{all-at, all-of, and-both, clash, First}
 use Rattle.model.proofs.Slots.{no-pair, pair-of, pairs-count, pairs-rise, pairs-sorted, pair-number-small, pair-at-number}
-use Rattle.model.proofs.Fork.{unseparated-pair, choice-pair-is, choice-axis-is}
+use Rattle.model.proofs.Fork.{unseparated-pair, choice-pair-is}
 use Rattle.domains.specs.Choice.{PairTable, separated-on, open-pair, Chosen}
 use Rattle.domains.specs.declared.Branching.the-variants.{Packed, At}
-use Rattle.domains.proofs.Tests.{some-axis}
+use Rattle.relations.proofs.Tests.{some-axis}
 
 -- One computed test of a whole table
 abbrev right : List ℕ → ℕ → Bool

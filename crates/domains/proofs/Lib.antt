@@ -1,5 +1,4 @@
 pub mod Bits
-pub mod Tests
 pub mod Sums
 pub mod Worked
 pub mod Totals

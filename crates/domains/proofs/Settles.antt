@@ -2,33 +2,34 @@
 use mathlib.Core.Bool.{Bool, true, false, not, _&&_, _||_, false≢true}
 use mathlib.Core.List.{List}
 use mathlib.Core.Logic.{_⊎_, inl, inr}
-use mathlib.Core.Path.{_≡_, refl, sym, _∙_, ap, subst}
+use mathlib.Core.Path.{_≡_, refl, sym, _∙_, ap}
 use Prim.Native.Nat.{ℕ, _+_, _*_, _/_, _%_, _≤_, _<_}
 use native.Mathlib.Omega.{arith}
 use lib.Dec.{eqb, ltb}
 use lib.ListN.{getD}
 use borrow.Author.Tests.{eqb-true, eqb-false, ltb-true, ltb-false, lt-ltb, not-true}
-use Rattle.model.specs.Below.{some-below, all-below}
+use Rattle.model.specs.Below.{all-below}
 use Rattle.model.specs.Problem as M
-use Rattle.model.specs.Domains.{Domains, domain, overlap-bit, before-bit, after-bit, index, pairs, pair-number, may-overlap, may-before, fixed-before}
-use Rattle.model.specs.Rules.{joined, rule2, rule3, rule4, rule5, asks-overlap, asks-before}
-use Rattle.model.specs.Propagate.{Slot, slots, propagate}
+use Rattle.model.specs.Domains.{Domains, domain, overlap-bit, before-bit, after-bit, index, pairs, pair-number, may-overlap, may-before}
+use Rattle.model.specs.Rules.{joined, rule2, rule3, rule4, rule5, asks-before}
+use Rattle.model.specs.Propagate.{slots, propagate}
 use Rattle.model.specs.Branching.{empty, inconsistent}
 use Rattle.model.specs.Order.{Proper, Rising, WellFormed, Between, AtRest}
-use Rattle.model.proofs.Below.{all-at, some-at, some-of, none-at, and-intro, and-both, or-case, or-left, or-right, clash}
+use Rattle.model.proofs.Below.{all-at, some-at, some-of, none-at, and-intro, and-both, or-case, or-left, or-right}
 use Rattle.model.proofs.Order.{domain-bits}
 use Rattle.model.proofs.Slots.{proper-sym, slot-of, slot-indexed}
 use Rattle.model.proofs.Domains.{overlap-up, before-up, before-down}
-use Rattle.model.proofs.Asks.{ask-d2-overlap, ask-c2}
+use Rattle.model.proofs.Asks.{ask-d2-overlap}
 use Rattle.model.proofs.Consistent.{large-inconsistent, empty-inconsistent, consistent-of, before-transitive}
 use Rattle.model.proofs.Propagate.{between-start, between-rest, between-inconsistent}
 use Rattle.domains.specs.Shape.{shape-problem, size-at, capacity-at}
-use Rattle.domains.specs.Sweep.{Worked, Anything, RulesRest, ChainsRest, Everywhere, Asked, exceeds, through}
-use Rattle.domains.specs.Chains.{greatest, Ordered, Exact}
+use Rattle.domains.specs.Sweep.{Worked, Anything, RulesRest, ChainsRest, Everywhere, Asked, exceeds}
+use Rattle.relations.specs.Parts.{through}
+use Rattle.domains.specs.Chains.{Ordered, Exact}
 use Rattle.domains.specs.Propagated.{Propagated, Settled, domain-count, has-empty, has-large, large-at}
 use Rattle.domains.proofs.Bits.{domain-count-small}
 use Rattle.domains.proofs.Shapes.{size-at-is, capacity-at-is}
-use Rattle.domains.proofs.Tests.{rule2-is}
+use Rattle.relations.proofs.Tests.{rule2-is}
 
 -- The domains of n items come first: computed tests over all of them
 all-counted : all-below 11 (λ n. all-below (domain-count n) (λ i. ltb (slot-of i .v) n)) ≡ true

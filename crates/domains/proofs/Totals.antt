@@ -1,9 +1,9 @@
 -- Tables of chains: rounds over the items come to the greatest chains.
-use mathlib.Core.Bool.{Bool, true, false, cond, false≢true}
+use mathlib.Core.Bool.{Bool, true, false, false≢true}
 use mathlib.Core.Logic.{_⊎_, inl, inr}
 use mathlib.Core.List.{List, [], _∷_}
 use mathlib.Core.Path.{_≡_, refl, sym, _∙_, ap, ap₂}
-use Prim.Native.Nat.{ℕ, zero, suc, _+_, _*_, _/_, _%_, _≤_, _<_, max}
+use Prim.Native.Nat.{ℕ, zero, suc, _+_, _*_, _/_, _%_, _≤_, _<_}
 use native.Mathlib.Nat.{le-refl, le-trans, le-antisymm, eq-or-lt-of-le}
 use native.Mathlib.Numerals.{add-one}
 use native.Mathlib.Decide.{decLt}
@@ -16,7 +16,6 @@ use Rattle.model.specs.Rules.{joined}
 use Rattle.model.proofs.Domains.{fixed-distinct}
 use Rattle.model.proofs.Chains.{greatest-ending-size, greatest-starting-size, greatest-ending-rounds, greatest-starting-rounds, greatest-ending-step, greatest-starting-step}
 use Rattle.domains.specs.Shape.{shape-problem, size-at}
-use Rattle.domains.specs.Sweep.{Table}
 use Rattle.domains.specs.Chains.{linked, longer, extend, totals, on-axis, entry, Extended, greatest, Ordered, Exact}
 
 longer-ge : (b : Bool) (best x : ℕ) → best ≤ longer b best x

@@ -7,19 +7,20 @@ use Prim.Native.Nat.{ℕ, _+_, _*_, _/_, _%_, _≤_, _<_}
 use native.Mathlib.Nat.{eq-or-lt-of-le}
 use native.Mathlib.Omega.{arith}
 use lib.Dec.{eqb}
-use borrow.Author.Tests.{eqb-true, eqb-false}
+use borrow.Author.Tests.{eqb-false}
 use Rattle.model.specs.Problem.{Problem}
 use Rattle.model.specs.Propagate.{sum}
 use Rattle.model.specs.Domains.{Domains, may-overlap, may-before, remove-overlap, remove-before}
 use Rattle.model.specs.Rules.{rule2, rule3, rule4, rule5, asks-overlap, asks-before}
-use Rattle.model.specs.Order.{Proper, WellFormed, _⊑_, Between}
+use Rattle.model.specs.Order.{Proper, WellFormed, _⊑_}
 use Rattle.model.proofs.Below.{clash, or-left, or-mono}
 use Rattle.model.proofs.Monotone.{asks-before-mono}
 use Rattle.model.proofs.Order.{below-refl, below-trans, below-eq}
 use Rattle.model.proofs.Slots.{proper-wide}
 use Rattle.model.proofs.Domains.{before-removed, overlap-removed}
 use Rattle.model.proofs.Removal.{between-before, between-overlap, remove-before-less, remove-overlap-less, remove-before-well-formed, remove-overlap-well-formed}
-use Rattle.domains.specs.Sweep.{Worked, Anything, Everywhere, AtNumber, Asked, early-before}
+use Rattle.domains.specs.Sweep.{Worked, Anything, Everywhere, AtNumber, Asked}
+use Rattle.relations.specs.Parts.{early-before}
 use Rattle.domains.proofs.Sums.{below-sum, below-same}
 
 abbrev pub Upto : (ℕ → Domains → Type 0) → ℕ → Domains → Type 0
@@ -109,18 +110,18 @@ unchanged {p} {A} {k} {j} w f e = let q = below-same j k (f .well-formed) w (f .
 pub goes-on : {p : Problem} {A B : Domains → Type 0} {k j i : Domains} → WellFormed k → Worked p A k j → Worked p B j i → Worked p Anything k i
 goes-on {p} w f g = worked-then p w f g Anything (λ a b. tt)
 
-pub turn-less : {p : Problem} {A : Domains → Type 0} {k j : Domains} (changed : Bool) → changed ≡ true → WellFormed k → Worked p A k j
+pub sweep-less : {p : Problem} {A : Domains → Type 0} {k j : Domains} (changed : Bool) → changed ≡ true → WellFormed k → Worked p A k j
     → sum j + cond (not (eqb (sum j) (sum k))) 1 0 < sum k + cond changed 1 0
-turn-less {p} {A} {k} {j} changed e w f = rw e (go (eqb (sum j) (sum k)) refl)
+sweep-less {p} {A} {k} {j} changed e w f = rw e (go (eqb (sum j) (sum k)) refl)
   where
     go : (b : Bool) → eqb (sum j) (sum k) ≡ b → sum j + cond (not b) 1 0 < sum k + 1
     go true q = omega (arith, below-sum j k (f .well-formed) w (f .less))
     go false q = omega (arith, below-sum j k (f .well-formed) w (f .less), eqb-false (sum j) (sum k) q)
 
 -- the same where domains were worked on before
-pub turn-on : {p q : Problem} {A B : Domains → Type 0} {k j i : Domains} (changed : Bool) → changed ≡ true → WellFormed k → Worked p A k j → Worked q B j i
+pub sweeps-less : {p q : Problem} {A B : Domains → Type 0} {k j i : Domains} (changed : Bool) → changed ≡ true → WellFormed k → Worked p A k j → Worked q B j i
     → sum i + cond (not (eqb (sum i) (sum j))) 1 0 < sum k + cond changed 1 0
-turn-on {k = k} {j = j} changed e w f g = rw e (omega (arith, turn-less true refl (f .well-formed) g, below-sum j k (f .well-formed) w (f .less)))
+sweeps-less {k = k} {j = j} changed e w f g = rw e (omega (arith, sweep-less true refl (f .well-formed) g, below-sum j k (f .well-formed) w (f .less)))
 
 -- a problem of n items: what rules 1 to 4 do depends on nothing else
 abbrev pub bare : ℕ → Problem

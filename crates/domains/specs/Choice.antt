@@ -34,7 +34,7 @@ Chosen k n Packed = (p : Problem) → p .items ≡ n → packed p k ≡ true
 Chosen k n (At c) =
     (choice k ≡ record { axis = c .axis; u = c .u; v = c .v }) × Rising n (c .axis) (c .u) (c .v) × ((p : Problem) → p .items ≡ n → packed p k ≡ false)
 
--- a turn as a Boolean: whether it is the second
+-- a branch as a Boolean: whether it is the second
 abbrev pub branch-of : Bool → Branch
 branch-of true = second
 branch-of false = first

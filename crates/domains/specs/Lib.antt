@@ -1,4 +1,3 @@
-pub mod Access
 pub mod Shape
 pub mod Choice
 pub mod Sweep

@@ -1,49 +1,15 @@
 -- What a sweep over the relations does: it removes only what some rule asks for, and where it changes nothing, nothing is asked for.
-use mathlib.Core.Bool.{Bool, true, false, not, _&&_, _||_}
+use mathlib.Core.Bool.{Bool, true, false}
 use mathlib.Core.List.{List}
 use mathlib.Core.Path.{_≡_}
-use Prim.Native.Nat.{ℕ, _+_, _*_, _/_, _%_, _≤_, _<_}
-use lib.Dec.{eqb, ltb}
+use Prim.Native.Nat.{ℕ, _+_, _*_, _/_, _%_, _≤_}
+use lib.Dec.{ltb}
 use lib.ListN.{getD, length}
-use Rattle.model.specs.Below.{some-below}
 use Rattle.model.specs.Problem.{Problem}
-use Rattle.model.specs.Domains.{Domains, may-overlap, may-before, fixed-before, fixed-overlap}
-use Rattle.model.specs.Rules.{rule2, rule3, rule4, asks-overlap, asks-before}
+use Rattle.model.specs.Domains.{Domains, may-overlap, may-before}
+use Rattle.model.specs.Rules.{asks-overlap, asks-before}
 use Rattle.model.specs.Order.{Proper, WellFormed, _⊑_, Between}
-
--- What each rule asks of one further item
-module _ (k : Domains) (a u v : ℕ) where
-  -- 1, of the axis b
-  abbrev pub other-overlaps : ℕ → Bool
-  other-overlaps b = eqb b a || fixed-overlap k b u v
-
-  -- 2
-  abbrev pub through : ℕ → Bool
-  through w = fixed-before k a u w && fixed-before k a w v
-
-  -- 3
-  abbrev pub blocked-before : ℕ → Bool
-  blocked-before w = fixed-before k a w u && not (may-before k a w v)
-
-  abbrev pub blocked-after : ℕ → Bool
-  blocked-after w = fixed-before k a v w && not (may-before k a u w)
-
-  abbrev pub blocked : ℕ → Bool
-  blocked w = blocked-before w || blocked-after w
-
-  -- 4
-  abbrev pub beside : ℕ → Bool
-  beside x = fixed-overlap k a x u && fixed-overlap k a v x
-
-  abbrev pub across : ℕ → ℕ → Bool
-  across x y = (fixed-overlap k a u y && fixed-overlap k a y v) && not (may-overlap k a x y)
-
-abbrev pub around : Domains → ℕ → ℕ → ℕ → ℕ → ℕ → Bool
-around k n a u v x = beside k a u v x && some-below n (across k a u v x)
-
--- rules 2 to 4 ask to remove "u before v"
-abbrev pub early-before : Problem → Domains → ℕ → ℕ → ℕ → Bool
-early-before p k a u v = rule2 p k a v u || (rule3 p k a u v || rule4 p k a u v)
+use Rattle.relations.specs.Parts.{early-before}
 
 -- the tables say that the greatest chains around "u before v" are together longer than the container
 abbrev pub exceeds : List ℕ → List ℕ → List ℕ → ℕ → ℕ → ℕ → Bool
@@ -85,6 +51,14 @@ AtNumber n A i k = Proper n (i / 100) (i / 10 % 10) (i % 10) → A (i / 100) (i 
 -- what the tables find too long, rule 5 asks to remove
 abbrev pub Asked : Problem → Domains → List ℕ → List ℕ → List ℕ → Type 0
 Asked p k capacity ends starts = (a u v : ℕ) → Proper (p .items) a u v → exceeds capacity ends starts a u v ≡ true → asks-before p k a u v ≡ true
+
+-- what a sweep by rules 1 to 4 does, for every problem of n items: A where nothing changes
+abbrev pub ByRules : ℕ → (Problem → Domains → Type 0) → Domains → Domains → Type 0
+ByRules n A k j = WellFormed j × ((p : Problem) → p .items ≡ n → Worked p (A p) k j)
+
+-- and a sweep by tables that rule 5 agrees with
+abbrev pub ByTables : ℕ → List ℕ → List ℕ → List ℕ → (Domains → Type 0) → Domains → Domains → Type 0
+ByTables n capacity ends starts A k j = WellFormed j × ((p : Problem) → p .items ≡ n → Asked p k capacity ends starts → Worked p A k j)
 
 -- a table of chains: a number for each axis and item, at axis * 10 + item, far below 2 ^ 32
 pub record Table (t : List ℕ) : Type 0 where

@@ -1,18 +1,18 @@
 // Where the search branches, and what a branch removes.
 ghost use mathlib.Core.Path.{_≡_};
-ghost use Prim.Native.Nat.{_<_, _≤_};
+ghost use Prim.Native.Nat.{_≤_};
 ghost use Rattle.model.specs.Branching as B;
 ghost use Rattle.model.specs.Order.{WellFormed, Rising};
-ghost use Rattle.domains.specs.Access.{InRange};
+ghost use Rattle.relations.specs.Access.{InRange};
 ghost use Rattle.domains.specs.Choice.{PairTable, Chosen, Branched, separated-on, open-pair};
 use crate::Branching;
 use crate::Place;
-use crate::access::fix_overlap;
-use crate::access::fixed_before;
-use crate::access::may_before;
-use crate::access::may_overlap;
-use crate::access::remove_before;
-use crate::access::remove_overlap;
+use relations::access::fix_overlap;
+use relations::access::fixed_before;
+use relations::access::may_before;
+use relations::access::may_overlap;
+use relations::access::remove_before;
+use relations::access::remove_overlap;
 
 // The pairs in number order: u, v with u < v.
 const PAIRS: [u8; 90] = [

@@ -2,11 +2,10 @@
 ghost use mathlib.Core.Path.{_≡_};
 ghost use Prim.Native.Nat.{ℕ, _<_, _≤_, _+_, _*_};
 ghost use lib.ListN.{length, getD};
-ghost use Rattle.domains.specs.Access.{InRange};
-ghost use Rattle.domains.specs.Sweep.{Table};
+ghost use Rattle.relations.specs.Access.{InRange};
 ghost use Rattle.domains.specs.Chains.{Known, linked, longer, extend, on-axis, entry, Extended, Exact};
-use crate::access::fixed_before;
 use crate::layout::size_of;
+use relations::access::fixed_before;
 
 fn widen(x: u16) -> u32
     ensures { λ r. ⌜ (r ≡ x) × (r ≤ 65535) ⌝ }

@@ -1,10 +1,7 @@
 // An instance's measures as arrays.
 ghost use mathlib.Core.Path.{_≡_};
-ghost use mathlib.Core.List.{map};
 ghost use Prim.Native.Nat.{_<_};
 ghost use lib.ListN.{length};
-ghost use Rattle.instance.specs.Meaning.{problem-of, precedence-of};
-ghost use Rattle.instance.specs.Valid.{precedences-of};
 ghost use Rattle.domains.specs.Shape.{Copied, Laid, size-at};
 use crate::Shape;
 use instance::Instance;

@@ -1,11 +1,9 @@
 // The domains of all pairs and axes in one array: their accessors, propagation, greatest chains, and where the search branches.
-pub mod access;
 pub mod branch;
 pub mod chains;
 pub mod layout;
 pub mod opening;
 pub mod propagation;
-pub mod rules;
 pub mod starts;
 pub mod sweep;
 

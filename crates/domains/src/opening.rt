@@ -10,10 +10,10 @@ ghost use Rattle.instance.specs.Valid.{valid};
 ghost use Rattle.instance.specs.Meaning.{problem-of, precedence-of};
 ghost use Rattle.model.specs.Domains.{full-domains};
 ghost use Rattle.model.specs.Branching as B;
-use crate::access::fix_before;
 use instance::Instance;
 use records::Precedence;
 use records::Previous;
+use relations::access::fix_before;
 
 // All but "u before v" on t is removed for each of the first m precedences u, v.
 fn fixed(precedences: [Precedence; 90], m: usize, n: usize) -> [u8; 135]

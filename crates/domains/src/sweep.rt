@@ -1,21 +1,19 @@
 // Sweeps over all relations: each that a rule asks for is removed.
 ghost use mathlib.Core.Path.{_≡_};
-ghost use Prim.Native.Nat.{_<_, _≤_};
-ghost use Rattle.model.specs.Problem.{Problem};
-ghost use Rattle.model.specs.Order.{Proper, WellFormed};
-ghost use Rattle.domains.specs.Access.{InRange};
-ghost use Rattle.domains.specs.Sweep.{Items, Worked, RulesRest, BeforeRests, OverlapRests, ChainsRest, Everywhere, AtNumber, Asked, Tables, exceeds};
-use crate::access::may_before;
-use crate::access::may_overlap;
-use crate::access::remove_before;
-use crate::access::remove_overlap;
-use crate::rules::asks_before;
-use crate::rules::asks_overlap;
+ghost use Prim.Native.Nat.{_<_};
+ghost use Rattle.model.specs.Order.{Proper};
+ghost use Rattle.domains.specs.Sweep.{Items, ByRules, ByTables, RulesRest, BeforeRests, OverlapRests, ChainsRest, Everywhere, AtNumber, Tables, exceeds};
+use relations::access::may_before;
+use relations::access::may_overlap;
+use relations::access::remove_before;
+use relations::access::remove_overlap;
+use relations::rules::asks_before;
+use relations::rules::asks_overlap;
 
 // "u before v", by rules 2 to 4.
 fn apply_before(k: &mut [u8; 135], n: usize, a: usize, u: usize, v: usize)
     requires { ⌜ Items (now k) n × Proper n a u v ⌝ }
-    ensures { λ _. ⌜ WellFormed (now (k .exit)) × ((p : Problem) → p .items ≡ n → Worked p (BeforeRests p a u v) (now (k .entry)) (now (k .exit))) ⌝ }
+    ensures { λ _. ⌜ ByRules n (λ p. BeforeRests p a u v) (now (k .entry)) (now (k .exit)) ⌝ }
 {
     if !may_before(k, a, u, v) {
         return;
@@ -29,7 +27,7 @@ fn apply_before(k: &mut [u8; 135], n: usize, a: usize, u: usize, v: usize)
 // "u and v overlap", by rules 1 and 2.
 fn apply_overlap(k: &mut [u8; 135], n: usize, a: usize, u: usize, v: usize)
     requires { ⌜ Items (now k) n × Proper n a u v ⌝ }
-    ensures { λ _. ⌜ WellFormed (now (k .exit)) × ((p : Problem) → p .items ≡ n → Worked p (OverlapRests p a u v) (now (k .entry)) (now (k .exit))) ⌝ }
+    ensures { λ _. ⌜ ByRules n (λ p. OverlapRests p a u v) (now (k .entry)) (now (k .exit)) ⌝ }
 {
     if !may_overlap(k, a, u, v) {
         return;
@@ -40,10 +38,10 @@ fn apply_overlap(k: &mut [u8; 135], n: usize, a: usize, u: usize, v: usize)
     remove_overlap(k, a, u, v);
 }
 
-// The axis and the two items that a number below 300 stands for.
+// Rules 1 to 4 for the axis and the two items that a number below 300 stands for.
 fn apply_rules(k: &mut [u8; 135], n: usize, i: usize)
     requires { ⌜ Items (now k) n × (i < 300) ⌝ }
-    ensures { λ _. ⌜ WellFormed (now (k .exit)) × ((p : Problem) → p .items ≡ n → Worked p (AtNumber n (RulesRest p) i) (now (k .entry)) (now (k .exit))) ⌝ }
+    ensures { λ _. ⌜ ByRules n (λ p. AtNumber n (RulesRest p) i) (now (k .entry)) (now (k .exit)) ⌝ }
 {
     let a = i / 100;
     let u = i / 10 % 10;
@@ -64,7 +62,7 @@ fn apply_rules(k: &mut [u8; 135], n: usize, i: usize)
 // Rules 1 to 4, once for every two items on every axis.
 pub fn sweep_rules(k: &mut [u8; 135], n: usize)
     requires { ⌜ Items (now k) n ⌝ }
-    ensures { λ _. ⌜ WellFormed (now (k .exit)) × ((p : Problem) → p .items ≡ n → Worked p (Everywhere n (RulesRest p)) (now (k .entry)) (now (k .exit))) ⌝ }
+    ensures { λ _. ⌜ ByRules n (λ p. Everywhere n (RulesRest p)) (now (k .entry)) (now (k .exit)) ⌝ }
 {
     let mut i: usize = 0;
     while i < 300 {
@@ -95,7 +93,7 @@ fn widen(x: u16) -> u32
     x as u32
 }
 
-// Rule 5 by tables of chains.
+// Rule 5 by tables of chains, likewise.
 fn apply_chains(
     k: &mut [u8; 135],
     n: usize,
@@ -105,7 +103,7 @@ fn apply_chains(
     starts: &[u32; 30],
 )
     requires { ⌜ Items (now k) n × Tables (now capacity) (now ends) (now starts) × (i < 300) ⌝ }
-    ensures { λ _. ⌜ WellFormed (now (k .exit)) × ((p : Problem) → p .items ≡ n → Asked p (now (k .entry)) (now (capacity .entry)) (now (ends .entry)) (now (starts .entry)) → Worked p (AtNumber n (ChainsRest (now (capacity .entry)) (now (ends .entry)) (now (starts .entry))) i) (now (k .entry)) (now (k .exit))) ⌝ }
+    ensures { λ _. ⌜ ByTables n (now (capacity .entry)) (now (ends .entry)) (now (starts .entry)) (AtNumber n (ChainsRest (now (capacity .entry)) (now (ends .entry)) (now (starts .entry))) i) (now (k .entry)) (now (k .exit)) ⌝ }
 {
     let a = i / 100;
     let u = i / 10 % 10;
@@ -128,6 +126,7 @@ fn apply_chains(
     remove_before(k, a, u, v);
 }
 
+// Rule 5 by tables of chains, once for every two items on every axis.
 pub fn sweep_chains(
     k: &mut [u8; 135],
     n: usize,
@@ -136,7 +135,7 @@ pub fn sweep_chains(
     starts: &[u32; 30],
 )
     requires { ⌜ Items (now k) n × Tables (now capacity) (now ends) (now starts) ⌝ }
-    ensures { λ _. ⌜ WellFormed (now (k .exit)) × ((p : Problem) → p .items ≡ n → Asked p (now (k .entry)) (now (capacity .entry)) (now (ends .entry)) (now (starts .entry)) → Worked p (Everywhere n (ChainsRest (now (capacity .entry)) (now (ends .entry)) (now (starts .entry)))) (now (k .entry)) (now (k .exit))) ⌝ }
+    ensures { λ _. ⌜ ByTables n (now (capacity .entry)) (now (ends .entry)) (now (starts .entry)) (Everywhere n (ChainsRest (now (capacity .entry)) (now (ends .entry)) (now (starts .entry)))) (now (k .entry)) (now (k .exit)) ⌝ }
 {
     let mut i: usize = 0;
     while i < 300 {

@@ -1,5 +1,6 @@
+-- `c_api::check_instance` meets its contract.
 use native.Mathlib.Omega.{arith}
-use mathlib.Core.Path.{_≡_, sym, ap, _∙_}
+use mathlib.Core.Path.{sym, ap, _∙_}
 use borrow.Author.Tests.{ne-eqb}
 use Rattle.instance.proofs.Sheets.{valid-says}
 use Rattle.packing.specs.Check.{check-number}

@@ -1,3 +1,4 @@
+-- `c_api::hallplan_check` meets its contract.
 use native.Mathlib.Omega.{arith}
 use Rattle.instance.specs.Decode.{decode}
 use Rattle.instance.proofs.Inverse.{read-written}

@@ -1,3 +1,4 @@
+-- `c_api::hallplan_search` meets its contract.
 use native.Mathlib.Omega.{arith}
 use mathlib.Core.Path.{refl}
 use Rattle.instance.specs.Decode.{decode}

@@ -1,3 +1,4 @@
+-- `c_api::hand_over` meets its contract.
 use mathlib.Core.Path.{refl}
 use borrow.Author.Needs.{needs}
 use Rattle.c_api.proofs.hand_over.Statement.{statement}

@@ -1,3 +1,4 @@
+-- `c_api::lengths_fit` meets its contract.
 use native.Mathlib.Omega.{arith}
 use borrow.Author.Tests.{eq-eqb, ne-eqb}
 use Rattle.instance.proofs.Sheets.{valid-says}

@@ -1,3 +1,4 @@
+-- `c_api::search_instance` meets its contract.
 use mathlib.Core.Path.{_≡_, refl, sym, ap, _∙_}
 use lib.ListN.{length}
 use borrow.Author.Tests.{not-true, not-false}

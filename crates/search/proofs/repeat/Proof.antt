@@ -1,3 +1,4 @@
+-- `search::repeat` meets its contract.
 use mathlib.Core.List.{List, map}
 use mathlib.Core.Path.{_≡_, sym, _∙_}
 use lib.ListN as L

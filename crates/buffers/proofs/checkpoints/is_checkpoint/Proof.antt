@@ -1,3 +1,4 @@
+-- `buffers::checkpoints::is_checkpoint` meets its contract.
 use Prim.Native.Nat.{_≤_, _<_}
 use native.Mathlib.Omega.{arith}
 use lib.ListN.{getD}

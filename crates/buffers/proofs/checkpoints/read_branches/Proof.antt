@@ -1,10 +1,10 @@
+-- `buffers::checkpoints::read_branches` meets its contract.
 use Rattle.buffers.proofs.CheckpointBytes.{branches-next, branches-read}
 use mathlib.Core.Path.{_≡_, refl, _∙_}
-use Prim.Native.Nat.{_+_, _-_, _≤_, _<_}
+use Prim.Native.Nat.{_-_, _≤_}
 use native.Mathlib.Omega.{arith}
 use lib.ListN.{length, take, drop, replicate, length-set}
 use lib.Seq.{sets}
-use borrow.Author.Needs.{needs}
 use Rattle.buffers.proofs.checkpoints.read_branches.Statement.{statement}
 use Rattle.buffers.proofs.checkpoints.read_branches.Tie as tie
 

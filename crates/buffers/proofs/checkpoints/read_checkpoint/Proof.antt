@@ -1,3 +1,4 @@
+-- `buffers::checkpoints::read_checkpoint` meets its contract.
 use Rattle.buffers.specs.Checkpoints.{checkpoint-in}
 use borrow.Author.Needs.{needs}
 use Rattle.buffers.proofs.checkpoints.read_checkpoint.Statement.{statement}

@@ -1,3 +1,4 @@
+-- `buffers::checkpoints::status_of` meets its contract.
 use Rattle.buffers.proofs.CheckpointBytes.{status-other}
 use borrow.Author.Needs.{needs}
 use Rattle.buffers.proofs.checkpoints.status_of.Statement.{statement}

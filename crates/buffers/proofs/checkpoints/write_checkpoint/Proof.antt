@@ -1,3 +1,4 @@
+-- `buffers::checkpoints::write_checkpoint` meets its contract.
 use mathlib.Core.Path.{_≡_}
 use native.Mathlib.Omega.{arith}
 use lib.ListN.{length, length-set}

@@ -1,3 +1,4 @@
+-- `buffers::positions::read_position` meets its contract.
 use borrow.Author.Needs.{needs}
 use Rattle.buffers.proofs.positions.read_position.Statement.{statement}
 use Rattle.buffers.proofs.positions.read_position.Tie as tie

@@ -1,3 +1,4 @@
+-- `buffers::positions::write_position` meets its contract.
 use Rattle.buffers.proofs.Bytes.{position-run}
 use borrow.Author.Needs.{needs}
 use Rattle.buffers.proofs.positions.write_position.Statement.{statement}

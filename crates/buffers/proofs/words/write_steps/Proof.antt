@@ -1,3 +1,4 @@
+-- `buffers::words::write_steps` meets its contract.
 use Rattle.buffers.proofs.Bytes.{steps-fill}
 use borrow.Author.Needs.{needs}
 use Rattle.buffers.proofs.words.write_steps.Statement.{statement}

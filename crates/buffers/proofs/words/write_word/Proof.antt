@@ -1,3 +1,4 @@
+-- `buffers::words::write_word` meets its contract.
 use native.Mathlib.Omega.{arith}
 use native.Mathlib.Numerals.{add-one}
 use lib.ListN.{length-set}

@@ -1,23 +1,15 @@
+-- `domains::branch::apply_branch` meets its contract.
 use Rattle.model.proofs.Removal.{fix-overlap-well-formed, remove-overlap-well-formed, remove-before-well-formed}
 use borrow.Author.Needs.{needs}
 use Rattle.domains.proofs.branch.apply_branch.Statement.{statement}
 use Rattle.domains.proofs.branch.apply_branch.Tie as tie
-use Rattle.domains.proofs.branch.apply_branch.Reads as reads
-use Rattle.domains.proofs.branch.apply_branch.Lts as lts
-use Rattle.domains.proofs.access.fix_overlap.Reads as fix-overlap-reads
-use Rattle.domains.proofs.access.may_overlap.Reads as may-overlap-reads
-use Rattle.domains.proofs.access.remove_before.Reads as remove-before-reads
-use Rattle.domains.proofs.access.remove_overlap.Reads as remove-overlap-reads
 
--- src/branch.rt:203:8
 may-overlap-requires : tie.Need-may-overlap-requires
 may-overlap-requires c κs = search needs
 
--- src/branch.rt:205:13
 fix-overlap-requires : tie.Need-fix-overlap-requires
 fix-overlap-requires c κs = search needs
 
--- src/branch.rt:206:13
 returns : tie.Need-returns
 returns c =
     let p = c .before .before .before .before .before .before .args .place in
@@ -27,11 +19,9 @@ returns c =
       well-formed = rw (c .fix-overlap .ensures) (fix-overlap-well-formed k (p .axis) (p .u) (p .v) (c .before .before .before .before .before .before .pre .0));
     }
 
--- src/branch.rt:208:9
 remove-overlap-requires : tie.Need-remove-overlap-requires
 remove-overlap-requires c κs = search needs
 
--- src/branch.rt:209:9
 returns-2 : tie.Need-returns-2
 returns-2 c =
     let p = c .before .before .before .before .before .before .args .place in
@@ -41,11 +31,9 @@ returns-2 c =
       well-formed = rw (c .remove-overlap .ensures) (remove-overlap-well-formed k (p .axis) (p .u) (p .v) (c .before .before .before .before .before .before .pre .0));
     }
 
--- src/branch.rt:212:9
 remove-before-requires : tie.Need-remove-before-requires
 remove-before-requires c κs = search needs
 
--- src/branch.rt:213:9
 returns-3 : tie.Need-returns-3
 returns-3 c =
     let p = c .before .before .before .before .before .before .args .place in
@@ -55,11 +43,9 @@ returns-3 c =
       well-formed = rw (c .remove-before .ensures) (remove-before-well-formed k (p .axis) (p .u) (p .v) (c .before .before .before .before .before .before .pre .0));
     }
 
--- src/branch.rt:215:5
 remove-before-requires-2 : tie.Need-remove-before-requires-2
 remove-before-requires-2 c κs = search needs
 
--- src/branch.rt:196:1
 returns-4 : tie.Need-returns-4
 returns-4 c =
     let p = c .before .before .before .before .before .before .args .place in

@@ -1,24 +1,18 @@
+-- `domains::branch::branching` meets its contract.
 use borrow.Author.Needs.{needs}
 use native.Mathlib.Omega.{arith}
 use mathlib.Core.Bool.{false}
-use mathlib.Core.Path.{_≡_, refl, sym, _∙_, ap, subst}
-use Prim.Native.Nat.{ℕ, _*_, _-_, _≤_, _<_}
-use lib.ListN.{getD}
-use Rattle.model.specs.Branching.{undecided, choice-axis}
+use mathlib.Core.Path.{_≡_, refl, sym, _∙_}
+use Prim.Native.Nat.{ℕ, _-_, _≤_, _<_}
+use Rattle.model.specs.Branching.{undecided}
 use Rattle.model.proofs.Fork.{choice-axis-is}
 use Rattle.model.proofs.Slots.{pair-of}
-use Rattle.domains.specs.declared.Branching.{Branching}
-use Rattle.domains.specs.declared.Branching.the-variants.{Packed, At}
-use Rattle.domains.specs.Choice.{PairTable, Chosen, open-pair}
-use Rattle.domains.proofs.Tests.{None, none-yet, none-more}
+use Rattle.domains.specs.declared.Branching.the-variants.{Packed}
+use Rattle.domains.specs.Choice.{open-pair}
+use Rattle.relations.proofs.Tests.{none-yet, none-more}
 use Rattle.domains.proofs.Choices.{pair-bounds, packed-of, chosen-at, axis-none}
 use Rattle.domains.proofs.branch.branching.Statement.{statement}
 use Rattle.domains.proofs.branch.branching.Tie as tie
-use Rattle.domains.proofs.branch.branching.Reads as reads
-use Rattle.domains.proofs.branch.branching.Lts as lts
-use Rattle.domains.proofs.branch.is_open.Reads as is-open-reads
-use Rattle.domains.proofs.branch.pair_table.Reads as pair-table-reads
-use Rattle.domains.proofs.branch.undecided.Reads as undecided-reads
 
 abbrev Inv-loop : tie.InvT-loop
 Inv-loop k n number u v a₀ a = (a ≤ 3) × ((b : ℕ) → b < a → undecided k b u v ≡ false)
@@ -32,81 +26,63 @@ Inv-found k n pairs answer₀ number₀ answer number = (number ≤ 45) × (answ
 abbrev μ-found : tie.MeasureT-found
 μ-found k n pairs answer₀ number₀ answer number = 45 - number
 
--- src/branch.rt:176:17
 pair-table-requires : tie.Need-pair-table-requires Inv-loop μ-loop Inv-found μ-found
 pair-table-requires c κs = search needs
 
--- src/branch.rt:178:5
 found-holds : tie.Need-found-holds Inv-loop μ-loop Inv-found μ-found
 found-holds c = let a = c .before .args in (omega arith, refl, none-yet (λ j. open-pair (a .k .now) (a .n) (pair-of j .u) (pair-of j .v)))
 
--- src/branch.rt:179:23
 mul-u : tie.Need-mul-u Inv-loop μ-loop Inv-found μ-found
 mul-u c = search needs
 
--- src/branch.rt:179:17
 array-read-u : tie.Need-array-read-u Inv-loop μ-loop Inv-found μ-found
 array-read-u c = search needs
 
--- src/branch.rt:179:17
 cast-u : tie.Need-cast-u Inv-loop μ-loop Inv-found μ-found
 cast-u c = omega (arith, pair-bounds (c .before .before .pair-table .result) (c .before .before .pair-table .ensures) (c .before .found .number) (c .found-test .taken))
 
--- src/branch.rt:180:23
 mul-v : tie.Need-mul-v Inv-loop μ-loop Inv-found μ-found
 mul-v c = search needs
 
--- src/branch.rt:180:23
 add-v : tie.Need-add-v Inv-loop μ-loop Inv-found μ-found
 add-v c = search needs
 
--- src/branch.rt:180:17
 array-read-v : tie.Need-array-read-v Inv-loop μ-loop Inv-found μ-found
 array-read-v c = search needs
 
--- src/branch.rt:180:17
 cast-v : tie.Need-cast-v Inv-loop μ-loop Inv-found μ-found
 cast-v c = omega (arith, pair-bounds (c .before .before .pair-table .result) (c .before .before .pair-table .ensures) (c .before .found .number) (c .found-test .taken))
 
--- src/branch.rt:181:12
 is-open-requires : tie.Need-is-open-requires Inv-loop μ-loop Inv-found μ-found
 is-open-requires c κs =
     let b = pair-bounds (c .before .before .pair-table .result) (c .before .before .pair-table .ensures) (c .before .found .number) (c .found-test .taken) in
     record { long = c .before .before .before .pre .0 .long; axis = omega arith; item-u = b .0; item-v = b .1 }
 
--- src/branch.rt:182:13
 loop-holds : tie.Need-loop-holds Inv-loop μ-loop Inv-found μ-found
 loop-holds c = (omega arith, λ b l. absurd (omega arith))
 
--- src/branch.rt:183:20
 undecided-requires : tie.Need-undecided-requires Inv-loop μ-loop Inv-found μ-found
 undecided-requires c κs =
     let b = pair-bounds (c .before .before .before .before .before .before .pair-table .result) (c .before .before .before .before .before .before .pair-table .ensures) (c .before .before .before .before .before .found .number) (c .before .before .before .before .found-test .taken) in
     record { long = c .before .before .before .before .before .before .before .pre .0 .long; axis = c .loop-test .taken; item-u = b .0; item-v = b .1 }
 
--- src/branch.rt:182:17
 add-a : tie.Need-add-a Inv-loop μ-loop Inv-found μ-found
 add-a c = search needs
 
--- src/branch.rt:182:13
 loop-less : tie.Need-loop-less Inv-loop μ-loop Inv-found μ-found
 loop-less c = search needs
 
--- src/branch.rt:182:13
 loop-again : tie.Need-loop-again Inv-loop μ-loop Inv-found μ-found
 loop-again c =
     let a = c .before .before .before .before .before .before .before .before .before .args in
     (omega arith, none-more (λ b. undecided (a .k .now) b _ _) (c .before .before .before .loop .a) (c .before .before .before .loop .inv .1) (sym (c .before .undecided .ensures) ∙ c .if2 .left))
 
--- src/branch.rt:178:17
 add-number : tie.Need-add-number Inv-loop μ-loop Inv-found μ-found
 add-number c = search needs
 
--- src/branch.rt:178:5
 found-less : tie.Need-found-less Inv-loop μ-loop Inv-found μ-found
 found-less c = search needs
 
--- src/branch.rt:178:5
 found-again : tie.Need-found-again Inv-loop μ-loop Inv-found μ-found
 found-again c =
     let a = c .before .before .before .before .before .args in
@@ -117,14 +93,12 @@ found-again c =
           (rw (← (e .0), ← (e .1)) (sym (c .before .is-open .ensures) ∙ c .if1 .left)),
     )
 
--- src/branch.rt:172:1
 returns : tie.Need-returns Inv-loop μ-loop Inv-found μ-found
 returns c =
     let a = c .before .before .before .args in
     let l = c .before .found in
     rw (l .inv .1) (packed-of (a .k .now) (a .n) (c .before .before .before .pre .1) (λ j h. l .inv .2 j (omega arith)))
 
--- src/branch.rt:172:1
 returns-2 : tie.Need-returns-2 Inv-loop μ-loop Inv-found μ-found
 returns-2 c =
     let a = c .before .before .before .before .before .before .before .before .before .args in
@@ -134,7 +108,6 @@ returns-2 c =
     (choice-axis-is (a .k .now) _ _ (c .before .before .before .loop .a) (c .before .before .loop-test .taken) (sym (c .before .undecided .ensures) ∙ c .if2 .taken) (c .before .before .before .loop .inv .1))
     (c .before .before .loop-test .taken)
 
--- src/branch.rt:172:1
 returns-3 : tie.Need-returns-3 Inv-loop μ-loop Inv-found μ-found
 returns-3 c =
     let a = c .before .before .before .before .before .before .before .args in

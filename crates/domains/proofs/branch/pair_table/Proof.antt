@@ -1,12 +1,10 @@
+-- `domains::branch::pair_table` meets its contract.
 use mathlib.Core.Path.{refl}
 use Rattle.model.specs.Domains.{pairs}
 use Rattle.domains.proofs.Choices.{table-right}
 use Rattle.domains.proofs.branch.pair_table.Statement.{statement}
 use Rattle.domains.proofs.branch.pair_table.Tie as tie
-use Rattle.domains.proofs.branch.pair_table.Reads as reads
-use Rattle.domains.proofs.branch.pair_table.Lts as lts
 
--- src/branch.rt:112:1
 returns : tie.Need-returns
 unfolding pairs
 returns c = table-right _ refl

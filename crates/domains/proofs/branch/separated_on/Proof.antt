@@ -1,23 +1,17 @@
+-- `domains::branch::separated_on` meets its contract.
 use borrow.Author.Needs.{needs}
 use Rattle.domains.proofs.branch.separated_on.Statement.{statement}
 use Rattle.domains.proofs.branch.separated_on.Tie as tie
-use Rattle.domains.proofs.branch.separated_on.Reads as reads
-use Rattle.domains.proofs.branch.separated_on.Lts as lts
-use Rattle.domains.proofs.access.fixed_before.Reads as fixed-before-reads
 
--- src/branch.rt:123:8
 fixed-before-requires : tie.Need-fixed-before-requires
 fixed-before-requires c κs = search needs
 
--- src/branch.rt:124:9
 returns : tie.Need-returns
 returns c = rw (← (c .before .fixed-before .ensures), c .if1 .taken)
 
--- src/branch.rt:126:5
 fixed-before-requires-2 : tie.Need-fixed-before-requires-2
 fixed-before-requires-2 c κs = search needs
 
--- src/branch.rt:119:1
 returns-2 : tie.Need-returns-2
 returns-2 c = rw (← (c .before .before .fixed-before .ensures), c .before .if1 .left) (c .fixed-before2 .ensures)
 

@@ -1,49 +1,37 @@
+-- `domains::branch::undecided` meets its contract.
 use Rattle.model.specs.Branching.{undecided}
 use Rattle.domains.proofs.Choices.{or-none}
 use borrow.Author.Needs.{needs}
 use Rattle.domains.proofs.branch.undecided.Statement.{statement}
 use Rattle.domains.proofs.branch.undecided.Tie as tie
-use Rattle.domains.proofs.branch.undecided.Reads as reads
-use Rattle.domains.proofs.branch.undecided.Lts as lts
-use Rattle.domains.proofs.access.may_before.Reads as may-before-reads
-use Rattle.domains.proofs.access.may_overlap.Reads as may-overlap-reads
 
--- src/branch.rt:159:8
 may-overlap-requires : tie.Need-may-overlap-requires
 may-overlap-requires c κs = search needs
 
--- src/branch.rt:160:12
 may-before-requires : tie.Need-may-before-requires
 may-before-requires c κs = search needs
 
--- src/branch.rt:161:13
 returns : tie.Need-returns
 unfolding undecided
 returns c = rw (← (c .before .before .before .may-overlap .ensures), c .before .before .if1 .taken, ← (c .before .may-before .ensures), c .if2 .taken)
 
--- src/branch.rt:163:9
 may-before-requires-2 : tie.Need-may-before-requires-2
 may-before-requires-2 c κs = search needs
 
--- src/branch.rt:163:9
 returns-2 : tie.Need-returns-2
 unfolding undecided
 returns-2 c = rw (← (c .before .before .before .before .may-overlap .ensures), c .before .before .before .if1 .taken, ← (c .before .before .may-before .ensures), c .before .if2 .left, ← (c .may-before2 .ensures)) (or-none (c .may-before2 .result))
 
--- src/branch.rt:165:8
 may-before-requires-3 : tie.Need-may-before-requires-3
 may-before-requires-3 c κs = search needs
 
--- src/branch.rt:166:9
 may-before-requires-4 : tie.Need-may-before-requires-4
 may-before-requires-4 c κs = search needs
 
--- src/branch.rt:166:9
 returns-3 : tie.Need-returns-3
 unfolding undecided
 returns-3 c = rw (← (c .before .before .before .before .may-overlap .ensures), c .before .before .before .if1 .left, ← (c .before .before .may-before3 .ensures), c .before .if3 .taken) (c .may-before4 .ensures)
 
--- src/branch.rt:155:1
 returns-4 : tie.Need-returns-4
 unfolding undecided
 returns-4 c = rw (← (c .before .before .before .may-overlap .ensures), c .before .before .if1 .left, ← (c .before .may-before3 .ensures), c .if3 .left)

@@ -1,18 +1,13 @@
+-- `domains::chains::extended` meets its contract.
 use borrow.Author.Needs.{needs}
 use native.Mathlib.Omega.{arith}
-use mathlib.Core.Path.{_≡_, sym, ap, _∙_}
-use Prim.Native.Nat.{ℕ, _+_, _*_, _-_, _≤_}
+use mathlib.Core.Path.{_≡_, sym, _∙_}
+use Prim.Native.Nat.{_+_, _*_, _-_, _≤_}
 use Rattle.domains.specs.Shape.{size-at}
 use Rattle.domains.specs.Chains.{extend, on-axis}
 use Rattle.domains.proofs.Totals.{extend-none, extend-next, extend-le}
 use Rattle.domains.proofs.chains.extended.Statement.{statement}
 use Rattle.domains.proofs.chains.extended.Tie as tie
-use Rattle.domains.proofs.chains.extended.Reads as reads
-use Rattle.domains.proofs.chains.extended.Lts as lts
-use Rattle.domains.proofs.chains.is_linked.Reads as is-linked-reads
-use Rattle.domains.proofs.chains.widen.Reads as widen-reads
-use Rattle.domains.proofs.chains.with_chain.Reads as with-chain-reads
-use Rattle.domains.proofs.layout.size_of.Reads as size-of-reads
 
 abbrev Inv-loop : tie.InvT-loop
 Inv-loop k n sizes t a u ending size best₀ v₀ best v = (v ≤ n) × (best ≡ extend k sizes ending a (on-axis t a) u v)
@@ -20,59 +15,46 @@ Inv-loop k n sizes t a u ending size best₀ v₀ best v = (v ≤ n) × (best �
 abbrev μ-loop : tie.MeasureT-loop
 μ-loop k n sizes t a u ending size best₀ v₀ best v = n - v
 
--- src/chains.rt:56:22
 size-of-requires : tie.Need-size-of-requires Inv-loop μ-loop
 size-of-requires c κs = search needs
 
--- src/chains.rt:56:9
 widen-requires : tie.Need-widen-requires Inv-loop μ-loop
 widen-requires c κs = search needs
 
--- src/chains.rt:59:5
 loop-holds : tie.Need-loop-holds Inv-loop μ-loop
 loop-holds c =
     let a = c .before .before .args in
     (omega arith, c .widen .ensures .0 ∙ (c .before .size-of .ensures ∙ sym (extend-none (a .k .now) (a .sizes .now) (a .ending) (a .a) (on-axis (a .t .now) (a .a)) (a .u))))
 
--- src/chains.rt:60:13
 is-linked-requires : tie.Need-is-linked-requires Inv-loop μ-loop
 is-linked-requires c κs = search needs
 
--- src/chains.rt:61:47
 mul-with-chain : tie.Need-mul-with-chain Inv-loop μ-loop
 mul-with-chain c = search needs
 
--- src/chains.rt:61:47
 add-with-chain : tie.Need-add-with-chain Inv-loop μ-loop
 add-with-chain c = search needs
 
--- src/chains.rt:61:45
 mul-with-chain-2 : tie.Need-mul-with-chain-2 Inv-loop μ-loop
 mul-with-chain-2 c = search needs
 
--- src/chains.rt:61:45
 element-copy-out-with-chain : tie.Need-element-copy-out-with-chain Inv-loop μ-loop
 element-copy-out-with-chain c = search needs
 
--- src/chains.rt:61:13
 with-chain-requires : tie.Need-with-chain-requires Inv-loop μ-loop
 with-chain-requires c κs = let a = c .before .before .before .before .before .before .args in (c .before .before .before .before .before .before .pre .0 .table .small (a .a * 10 + c .before .before .before .loop .v), c .before .before .before .before .widen .ensures .1)
 
--- src/chains.rt:63:13
 add-v : tie.Need-add-v Inv-loop μ-loop
 add-v c = search needs
 
--- src/chains.rt:59:5
 loop-less : tie.Need-loop-less Inv-loop μ-loop
 loop-less c = search needs
 
--- src/chains.rt:59:5
 loop-again : tie.Need-loop-again Inv-loop μ-loop
 loop-again c =
     let a = c .before .before .before .before .before .before .before .args in
     (omega arith, c .with-chain .ensures ∙ rw (c .before .before .is-linked .ensures, c .before .before .before .before .loop .inv .1, c .before .before .before .before .before .widen .ensures .0, c .before .before .before .before .before .before .size-of .ensures) (sym (extend-next (a .k .now) (a .sizes .now) (a .ending) (a .a) (on-axis (a .t .now) (a .a)) (a .u) (c .before .before .before .before .loop .v))))
 
--- src/chains.rt:44:1
 returns : tie.Need-returns Inv-loop μ-loop
 returns c =
     let a = c .before .before .before .before .args in

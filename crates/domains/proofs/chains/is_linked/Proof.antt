@@ -1,23 +1,17 @@
+-- `domains::chains::is_linked` meets its contract.
 use borrow.Author.Needs.{needs}
 use Rattle.domains.proofs.chains.is_linked.Statement.{statement}
 use Rattle.domains.proofs.chains.is_linked.Tie as tie
-use Rattle.domains.proofs.chains.is_linked.Reads as reads
-use Rattle.domains.proofs.chains.is_linked.Lts as lts
-use Rattle.domains.proofs.access.fixed_before.Reads as fixed-before-reads
 
--- src/chains.rt:23:9
 fixed-before-requires : tie.Need-fixed-before-requires
 fixed-before-requires c κs = search needs
 
--- src/chains.rt:23:9
 returns : tie.Need-returns
 returns c = rw (c .before .if1 .taken) (c .fixed-before .ensures)
 
--- src/chains.rt:25:5
 fixed-before-requires-2 : tie.Need-fixed-before-requires-2
 fixed-before-requires-2 c κs = search needs
 
--- src/chains.rt:18:1
 returns-2 : tie.Need-returns-2
 returns-2 c = rw (c .before .if1 .left) (c .fixed-before2 .ensures)
 

@@ -1,15 +1,13 @@
+-- `domains::chains::round` meets its contract.
 use borrow.Author.Needs.{needs}
 use native.Mathlib.Omega.{arith}
 use mathlib.Core.Path.{_≡_, refl, _∙_}
 use Prim.Native.Nat.{ℕ, _-_, _≤_, _<_}
 use lib.ListN.{getD, length, length-set}
 use Rattle.domains.specs.Chains.{entry, Extended}
-use Rattle.domains.proofs.Tests.{stored-more}
+use Rattle.relations.proofs.Tests.{stored-more}
 use Rattle.domains.proofs.chains.round.Statement.{statement}
 use Rattle.domains.proofs.chains.round.Tie as tie
-use Rattle.domains.proofs.chains.round.Reads as reads
-use Rattle.domains.proofs.chains.round.Lts as lts
-use Rattle.domains.proofs.chains.entry_at.Reads as entry-at-reads
 
 abbrev Inv-loop : tie.InvT-loop
 Inv-loop k n sizes t ending next₀ i₀ next i = (i ≤ 30) × (length next ≡ 30) × ((x : ℕ) → x < i → Extended t (entry k n sizes t ending x) (getD next x 0))
@@ -17,31 +15,24 @@ Inv-loop k n sizes t ending next₀ i₀ next i = (i ≤ 30) × (length next ≡
 abbrev μ-loop : tie.MeasureT-loop
 μ-loop k n sizes t ending next₀ i₀ next i = 30 - i
 
--- src/chains.rt:95:5
 loop-holds : tie.Need-loop-holds Inv-loop μ-loop
 loop-holds c = (omega arith, refl, λ x h. absurd (omega arith))
 
--- src/chains.rt:96:13
 entry-at-requires : tie.Need-entry-at-requires Inv-loop μ-loop
 entry-at-requires c κs = (c .before .before .pre, c .loop-test .taken)
 
--- src/chains.rt:97:9
 mul-next : tie.Need-mul-next Inv-loop μ-loop
 mul-next c = search needs
 
--- src/chains.rt:97:9
 array-write-next : tie.Need-array-write-next Inv-loop μ-loop
 array-write-next c = search needs
 
--- src/chains.rt:98:13
 add-i : tie.Need-add-i Inv-loop μ-loop
 add-i c = search needs
 
--- src/chains.rt:95:5
 loop-less : tie.Need-loop-less Inv-loop μ-loop
 loop-less c = search needs
 
--- src/chains.rt:95:5
 loop-again : tie.Need-loop-again Inv-loop μ-loop
 loop-again c =
     let a = c .before .before .before .args in
@@ -51,7 +42,6 @@ loop-again c =
       stored-more 0 (λ x y. Extended (a .t .now) (entry (a .k .now) (a .n) (a .sizes .now) (a .t .now) (a .ending) x) y) (l .next) (l .i) (c .entry-at .result) (omega arith) (l .inv .2) (c .entry-at .ensures),
     )
 
--- src/chains.rt:89:1
 returns : tie.Need-returns Inv-loop μ-loop
 returns c = λ x h. c .before .loop .inv .2 x (omega arith)
 

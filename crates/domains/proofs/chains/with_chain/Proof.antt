@@ -1,24 +1,19 @@
+-- `domains::chains::with_chain` meets its contract.
 use borrow.Author.Tests.{not-true, not-false}
 use native.Mathlib.Omega.{arith}
 use borrow.Author.Needs.{needs}
 use Rattle.domains.proofs.chains.with_chain.Statement.{statement}
 use Rattle.domains.proofs.chains.with_chain.Tie as tie
-use Rattle.domains.proofs.chains.with_chain.Reads as reads
-use Rattle.domains.proofs.chains.with_chain.Lts as lts
 
--- src/chains.rt:34:9
 returns : tie.Need-returns
 returns c = rw (not-true (c .before .args .beside) (c .if1 .taken))
 
--- src/chains.rt:36:13
 add-x : tie.Need-add-x
 add-x c = search needs
 
--- src/chains.rt:38:9
 returns-2 : tie.Need-returns-2
 returns-2 c = rw (not-false (c .before .before .args .beside) (c .before .if1 .left)) (omega arith)
 
--- src/chains.rt:29:1
 returns-3 : tie.Need-returns-3
 returns-3 c = rw (not-false (c .before .before .args .beside) (c .before .if1 .left)) (omega arith)
 

@@ -1,3 +1,4 @@
+-- `domains::layout::copied` meets its contract.
 use borrow.Author.Needs.{needs}
 use native.Mathlib.Omega.{arith}
 use mathlib.Core.Path.{_≡_, refl}
@@ -7,8 +8,6 @@ use Rattle.domains.specs.Shape.{Copied}
 use Rattle.domains.proofs.Layouts.{copied-next}
 use Rattle.domains.proofs.layout.copied.Statement.{statement}
 use Rattle.domains.proofs.layout.copied.Tie as tie
-use Rattle.domains.proofs.layout.copied.Reads as reads
-use Rattle.domains.proofs.layout.copied.Lts as lts
 
 abbrev Inv-loop : tie.InvT-loop
 Inv-loop items sizes₀ i₀ sizes i = (i ≤ 10) × Copied items sizes i
@@ -16,63 +15,48 @@ Inv-loop items sizes₀ i₀ sizes i = (i ≤ 10) × Copied items sizes i
 abbrev μ-loop : tie.MeasureT-loop
 μ-loop items sizes₀ i₀ sizes i = 10 - i
 
--- src/layout.rt:19:5
 loop-holds : tie.Need-loop-holds Inv-loop μ-loop
 loop-holds c = (omega arith, record { long = refl; at = λ a u ha hu. absurd (omega arith) })
 
--- src/layout.rt:20:20
 mul-item : tie.Need-mul-item Inv-loop μ-loop
 mul-item c = search needs
 
--- src/layout.rt:20:20
 array-copy-out-item : tie.Need-array-copy-out-item Inv-loop μ-loop
 array-copy-out-item c = search needs
 
--- src/layout.rt:22:9
 mul-sizes : tie.Need-mul-sizes Inv-loop μ-loop
 mul-sizes c = search needs
 
--- src/layout.rt:22:9
 array-write-sizes : tie.Need-array-write-sizes Inv-loop μ-loop
 array-write-sizes c = search needs
 
--- src/layout.rt:23:15
 add-sizes : tie.Need-add-sizes Inv-loop μ-loop
 add-sizes c = search needs
 
--- src/layout.rt:23:9
 mul-sizes-2 : tie.Need-mul-sizes-2 Inv-loop μ-loop
 mul-sizes-2 c = search needs
 
--- src/layout.rt:23:9
 array-write-sizes-2 : tie.Need-array-write-sizes-2 Inv-loop μ-loop
 array-write-sizes-2 c = search needs
 
--- src/layout.rt:24:15
 add-sizes-2 : tie.Need-add-sizes-2 Inv-loop μ-loop
 add-sizes-2 c = search needs
 
--- src/layout.rt:24:9
 mul-sizes-3 : tie.Need-mul-sizes-3 Inv-loop μ-loop
 mul-sizes-3 c = search needs
 
--- src/layout.rt:24:9
 array-write-sizes-3 : tie.Need-array-write-sizes-3 Inv-loop μ-loop
 array-write-sizes-3 c = search needs
 
--- src/layout.rt:25:13
 add-i : tie.Need-add-i Inv-loop μ-loop
 add-i c = search needs
 
--- src/layout.rt:19:5
 loop-less : tie.Need-loop-less Inv-loop μ-loop
 loop-less c = search needs
 
--- src/layout.rt:19:5
 loop-again : tie.Need-loop-again Inv-loop μ-loop
 loop-again c = let l = c .before .before .before .loop in (omega arith, copied-next (c .before .before .before .before .args .t1) (l .sizes) (l .i) (c .before .before .loop-test .taken) (l .inv .1))
 
--- src/layout.rt:14:1
 returns : tie.Need-returns Inv-loop μ-loop
 returns c =
     let l = c .before .loop in

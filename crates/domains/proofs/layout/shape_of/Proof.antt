@@ -1,17 +1,13 @@
+-- `domains::layout::shape_of` meets its contract.
 use mathlib.Core.Path.{refl}
 use Rattle.domains.proofs.Layouts.{laid-out}
 use borrow.Author.Needs.{needs}
 use Rattle.domains.proofs.layout.shape_of.Statement.{statement}
 use Rattle.domains.proofs.layout.shape_of.Tie as tie
-use Rattle.domains.proofs.layout.shape_of.Reads as reads
-use Rattle.domains.proofs.layout.shape_of.Lts as lts
-use Rattle.domains.proofs.layout.copied.Reads as copied-reads
 
--- src/layout.rt:37:9
 copied-requires : tie.Need-copied-requires
 copied-requires c κs = search needs
 
--- src/layout.rt:31:1
 returns : tie.Need-returns
 returns c = let x = c .before .before .before .args .instance in record { means = laid-out x (c .copied .ensures .1) (c .copied .result) (c .copied .ensures .0); count = refl }
 

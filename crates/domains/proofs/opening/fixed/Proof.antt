@@ -1,3 +1,4 @@
+-- `domains::opening::fixed` meets its contract.
 use borrow.Author.Needs.{needs}
 use native.Mathlib.Omega.{arith}
 use mathlib.Core.List.{map}
@@ -11,9 +12,6 @@ use Rattle.domains.proofs.Openings.{stand-proper, fixed-next, fixed-don
 use Rattle.domains.proofs.Bits.{fix-before-long}
 use Rattle.domains.proofs.opening.fixed.Statement.{statement}
 use Rattle.domains.proofs.opening.fixed.Tie as tie
-use Rattle.domains.proofs.opening.fixed.Reads as reads
-use Rattle.domains.proofs.opening.fixed.Lts as lts
-use Rattle.domains.proofs.access.fix_before.Reads as fix-before-reads
 
 abbrev Inv-loop : tie.InvT-loop
 Inv-loop m n precedences k₀ i₀ k i = (i ≤ m) × (length k ≡ 135) × (fix-precedences (map precedence-of (drop i (take m precedences))) k ≡ fix-precedences (map precedence-of (take m precedences)) full-domains)
@@ -21,27 +19,21 @@ Inv-loop m n precedences k₀ i₀ k i = (i ≤ m) × (length k ≡ 135) × (fix
 abbrev μ-loop : tie.MeasureT-loop
 μ-loop m n precedences k₀ i₀ k i = m - i
 
--- src/opening.rt:24:5
 loop-holds : tie.Need-loop-holds Inv-loop μ-loop
 loop-holds c = (omega arith, refl, refl)
 
--- src/opening.rt:25:17
 mul-o : tie.Need-mul-o Inv-loop μ-loop
 mul-o c = search needs
 
--- src/opening.rt:25:17
 array-copy-out-o : tie.Need-array-copy-out-o Inv-loop μ-loop
 array-copy-out-o c = search needs
 
--- src/opening.rt:26:17
 cast-u : tie.Need-cast-u Inv-loop μ-loop
 cast-u c = search needs
 
--- src/opening.rt:27:17
 cast-v : tie.Need-cast-v Inv-loop μ-loop
 cast-v c = search needs
 
--- src/opening.rt:28:9
 fix-before-requires : tie.Need-fix-before-requires Inv-loop μ-loop
 fix-before-requires c κs =
     let a = c .before .before .before .before .before .before .args in
@@ -49,15 +41,12 @@ fix-before-requires c κs =
     let room : a .m ≤ length (a .t1) = omega (arith, c .before .before .before .before .before .before .pre .1) in
     record { long = c .before .before .before .before .before .loop .inv .1; proper = stand-proper (a .n) (a .m) (a .t1) (c .before .before .before .before .before .before .pre .0) room (c .before .before .before .before .before .before .pre .2) (c .before .before .before .before .before .loop .i) (c .before .before .before .before .loop-test .taken) }
 
--- src/opening.rt:29:13
 add-i : tie.Need-add-i Inv-loop μ-loop
 add-i c = search needs
 
--- src/opening.rt:24:5
 loop-less : tie.Need-loop-less Inv-loop μ-loop
 loop-less c = search needs
 
--- src/opening.rt:24:5
 loop-again : tie.Need-loop-again Inv-loop μ-loop
 loop-again c =
     let a = c .before .before .before .before .before .before .before .args in
@@ -69,7 +58,6 @@ loop-again c =
       rw (c .fix-before .ensures) (sym (fixed-next (a .m) (l .i) (a .t1) room (l .k) (c .before .before .before .before .before .loop-test .taken)) ∙ l .inv .2),
     )
 
--- src/opening.rt:18:1
 returns : tie.Need-returns Inv-loop μ-loop
 returns c =
     let a = c .before .before .args in

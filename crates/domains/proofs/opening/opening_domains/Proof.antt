@@ -1,17 +1,13 @@
+-- `domains::opening::opening_domains` meets its contract.
 use Rattle.instance.specs.Meaning.{problem-of}
 use Rattle.model.specs.Branching.{opening-domains}
 use Rattle.domains.proofs.Openings.{valid-parts}
 use Rattle.domains.proofs.opening.opening_domains.Statement.{statement}
 use Rattle.domains.proofs.opening.opening_domains.Tie as tie
-use Rattle.domains.proofs.opening.opening_domains.Reads as reads
-use Rattle.domains.proofs.opening.opening_domains.Lts as lts
-use Rattle.domains.proofs.opening.fixed.Reads as fixed-reads
 
--- src/opening.rt:42:5
 fixed-requires : tie.Need-fixed-requires
 fixed-requires c κs = valid-parts (c .before .args .instance) (c .before .pre)
 
--- src/opening.rt:35:1
 returns : tie.Need-returns
 unfolding opening-domains problem-of
 returns c = c .fixed .ensures

@@ -1,14 +1,12 @@
+-- `domains::propagation::any_large` meets its contract.
 use borrow.Author.Needs.{needs}
 use native.Mathlib.Omega.{arith}
 use mathlib.Core.Path.{sym, _∙_}
 use Prim.Native.Nat.{_-_, _≤_}
 use Rattle.domains.specs.Propagated.{large-at, has-large}
-use Rattle.domains.proofs.Tests.{None, none-yet, none-more, found, none-found}
+use Rattle.relations.proofs.Tests.{None, none-yet, none-more, found, none-found}
 use Rattle.domains.proofs.propagation.any_large.Statement.{statement}
 use Rattle.domains.proofs.propagation.any_large.Tie as tie
-use Rattle.domains.proofs.propagation.any_large.Reads as reads
-use Rattle.domains.proofs.propagation.any_large.Lts as lts
-use Rattle.domains.proofs.propagation.is_large.Reads as is-large-reads
 
 abbrev Inv-loop : tie.InvT-loop
 Inv-loop n sizes capacity i₀ i = (i ≤ 30) × None (large-at n sizes capacity) i
@@ -16,36 +14,29 @@ Inv-loop n sizes capacity i₀ i = (i ≤ 30) × None (large-at n sizes capacity
 abbrev μ-loop : tie.MeasureT-loop
 μ-loop n sizes capacity i₀ i = 30 - i
 
--- src/propagation.rt:68:5
 loop-holds : tie.Need-loop-holds Inv-loop μ-loop
 loop-holds c = let a = c .args in (omega arith, none-yet (large-at (a .n) (a .sizes .now) (a .capacity .now)))
 
--- src/propagation.rt:69:12
 is-large-requires : tie.Need-is-large-requires Inv-loop μ-loop
 is-large-requires c κs = search needs
 
--- src/propagation.rt:70:13
 returns : tie.Need-returns Inv-loop μ-loop
 unfolding has-large
 returns c =
     let a = c .before .before .before .before .args in
     found 30 (large-at (a .n) (a .sizes .now) (a .capacity .now)) (c .before .before .before .loop .i) (c .before .before .loop-test .taken) (sym (c .before .is-large .ensures) ∙ c .if1 .taken)
 
--- src/propagation.rt:72:13
 add-i : tie.Need-add-i Inv-loop μ-loop
 add-i c = search needs
 
--- src/propagation.rt:68:5
 loop-less : tie.Need-loop-less Inv-loop μ-loop
 loop-less c = search needs
 
--- src/propagation.rt:68:5
 loop-again : tie.Need-loop-again Inv-loop μ-loop
 loop-again c =
     let a = c .before .before .before .before .args in
     (omega arith, none-more (large-at (a .n) (a .sizes .now) (a .capacity .now)) (c .before .before .before .loop .i) (c .before .before .before .loop .inv .1) (sym (c .before .is-large .ensures) ∙ c .if1 .left))
 
--- src/propagation.rt:63:1
 returns-2 : tie.Need-returns-2 Inv-loop μ-loop
 unfolding has-large
 returns-2 c =

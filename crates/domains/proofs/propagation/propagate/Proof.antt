@@ -1,24 +1,18 @@
+-- `domains::propagation::propagate` meets its contract.
 use borrow.Author.Tests.{eqb-true, not-false}
-use mathlib.Core.Bool.{true, false, cond, false≢true}
+use mathlib.Core.Bool.{false, cond, false≢true}
 use mathlib.Core.List.{List, []}
 use mathlib.Core.Path.{_≡_, refl, sym, _∙_}
-use Prim.Native.Nat.{ℕ, _+_}
+use Prim.Native.Nat.{_+_}
 use Rattle.model.specs.Problem as M
 use Rattle.model.specs.Propagate.{sum}
 use Rattle.model.specs.Order.{WellFormed}
 use Rattle.domains.specs.Shape.{shape-problem}
 use Rattle.domains.specs.Sweep.{Worked, Anything}
-use Rattle.domains.proofs.Worked.{worked-none, goes-on, unchanged, turn-on}
+use Rattle.domains.proofs.Worked.{worked-none, goes-on, unchanged, sweeps-less}
 use Rattle.domains.proofs.Settles.{Resting, chains-worked, ends-large, ends-empty, ends-rest}
 use Rattle.domains.proofs.propagation.propagate.Statement.{statement}
 use Rattle.domains.proofs.propagation.propagate.Tie as tie
-use Rattle.domains.proofs.propagation.propagate.Reads as reads
-use Rattle.domains.proofs.propagation.propagate.Lts as lts
-use Rattle.domains.proofs.chains.chains.Reads as chains-reads
-use Rattle.domains.proofs.propagation.any_large.Reads as any-large-reads
-use Rattle.domains.proofs.propagation.settle.Reads as settle-reads
-use Rattle.domains.proofs.propagation.total.Reads as total-reads
-use Rattle.domains.proofs.sweep.sweep_chains.Reads as sweep-chains-reads
 
 abbrev Inv-loop : tie.InvT-loop
 Inv-loop k₀ n sizes capacity changed₀ k changed =
@@ -28,29 +22,24 @@ Inv-loop k₀ n sizes capacity changed₀ k changed =
 abbrev μ-loop : tie.MeasureT-loop
 μ-loop k₀ n sizes capacity changed₀ k changed = sum k + cond changed 1 0
 
--- src/propagation.rt:101:8
 any-large-requires : tie.Need-any-large-requires Inv-loop μ-loop
 any-large-requires c κs = (c .pre .sizes-long, c .pre .capacity-long)
 
--- src/propagation.rt:102:9
 returns : tie.Need-returns Inv-loop μ-loop
 returns c =
     let a = c .before .before .args in
     let g = c .before .before .pre in
     λ os. ends-large (a .n) (g .limited) (a .sizes .now) (a .capacity .now) os (a .k .now) (g .well-formed) (sym (c .before .any-large .ensures) ∙ c .if1 .taken)
 
--- src/propagation.rt:105:5
 loop-holds : tie.Need-loop-holds Inv-loop μ-loop
 loop-holds c =
     let a = c .before .before .args in
     let w = c .before .before .pre .well-formed in
     (w, λ os. worked-none (shape-problem (a .n) (a .sizes .now) (a .capacity .now) os) Anything (a .k .now) w tt, λ q. absurd (false≢true (sym q)))
 
--- src/propagation.rt:106:12
 settle-requires : tie.Need-settle-requires Inv-loop μ-loop
 settle-requires c κs = record { well-formed = c .before .before .loop .inv .0; limited = c .before .before .before .before .before .pre .limited }
 
--- src/propagation.rt:107:13
 returns-2 : tie.Need-returns-2 Inv-loop μ-loop
 returns-2 c =
     let a = c .before .before .before .before .before .before .before .args in
@@ -60,26 +49,21 @@ returns-2 c =
     ends-empty (a .n) (g .limited) (a .sizes .now) (a .capacity .now) os (a .k .now) (g .well-formed) _ (goes-on (g .well-formed) (c .before .before .before .before .loop .inv .1 os) (s .worked))
     (sym (s .empty) ∙ c .if2 .taken)
 
--- src/propagation.rt:109:20
 chains-requires : tie.Need-chains-requires Inv-loop μ-loop
 chains-requires c κs = (c .before .before .settle .ensures .0 .long, c .before .before .before .before .before .before .before .before .pre .limited, c .before .before .before .before .before .before .before .before .pre .sizes-long)
 
--- src/propagation.rt:110:22
 chains-requires-2 : tie.Need-chains-requires-2 Inv-loop μ-loop
 chains-requires-2 c κs = (c .before .before .before .before .settle .ensures .0 .long, c .before .before .before .before .before .before .before .before .before .before .pre .limited, c .before .before .before .before .before .before .before .before .before .before .pre .sizes-long)
 
--- src/propagation.rt:111:13
 total-requires : tie.Need-total-requires Inv-loop μ-loop
 total-requires c κs = c .before .before .before .before .before .before .settle .ensures .0 .long
 
--- src/propagation.rt:112:9
 sweep-chains-requires : tie.Need-sweep-chains-requires Inv-loop μ-loop
 sweep-chains-requires c κs = (
   record { well-formed = c .before .before .before .before .before .before .before .before .before .before .settle .ensures .0; limited = c .before .before .before .before .before .before .before .before .before .before .before .before .before .before .before .before .pre .limited },
   record { capacity-long = c .before .before .before .before .before .before .before .before .before .before .before .before .before .before .before .before .pre .capacity-long; ends-table = c .before .before .before .before .before .before .before .chains .ensures .table; starts-table = c .before .before .before .before .before .chains2 .ensures .table },
 )
 
--- src/propagation.rt:113:13
 total-requires-2 : tie.Need-total-requires-2 Inv-loop μ-loop
 total-requires-2 c κs = c .before .sweep-chains .ensures .0 .long
 
@@ -94,14 +78,12 @@ swept c os =
     (c .before .before .before .before .before .before .before .before .before .before .before .before .before .settle .ensures .1 p refl) (c .before .before .before .before .before .before .before .before .before .before .before .before .if2 .left) (c .before .before .before .before .before .before .before .before .before .before .chains .result) (c .before .before .before .before .before .before .before .before .chains2 .result) (c .before .before .before .before .before .before .before .before .before .before .chains .ensures) (c .before .before .before .before .before .before .before .before .chains2 .ensures)
     (c .before .before .sweep-chains .ensures .1 p refl)
 
--- src/propagation.rt:105:5
 loop-less : tie.Need-loop-less Inv-loop μ-loop
 loop-less c =
     let p = shape-problem (c .before .before .before .before .before .before .before .before .before .before .before .before .before .before .before .before .before .before .before .args .n) (c .before .before .before .before .before .before .before .before .before .before .before .before .before .before .before .before .before .before .before .args .sizes .now) (c .before .before .before .before .before .before .before .before .before .before .before .before .before .before .before .before .before .before .before .args .capacity .now) [] in
     rw (c .total2 .ensures, c .before .before .before .before .before .before .total .ensures)
-    (turn-on (c .before .before .before .before .before .before .before .before .before .before .before .before .before .before .before .before .loop .changed) (c .before .before .before .before .before .before .before .before .before .before .before .before .before .before .before .loop-test .taken) (c .before .before .before .before .before .before .before .before .before .before .before .before .before .before .before .before .loop .inv .0) (c .before .before .before .before .before .before .before .before .before .before .before .before .before .settle .ensures .1 p refl .worked) (swept c []))
+    (sweeps-less (c .before .before .before .before .before .before .before .before .before .before .before .before .before .before .before .before .loop .changed) (c .before .before .before .before .before .before .before .before .before .before .before .before .before .before .before .loop-test .taken) (c .before .before .before .before .before .before .before .before .before .before .before .before .before .before .before .before .loop .inv .0) (c .before .before .before .before .before .before .before .before .before .before .before .before .before .settle .ensures .1 p refl .worked) (swept c []))
 
--- src/propagation.rt:105:5
 loop-again : tie.Need-loop-again Inv-loop μ-loop
 loop-again c =
     let a = c .before .before .before .before .before .before .before .before .before .before .before .before .before .before .before .before .before .before .before .args in
@@ -113,7 +95,6 @@ loop-again c =
       λ q os. unchanged (c .before .before .before .before .before .before .before .before .before .before .before .before .before .settle .ensures .0) (swept c os) (sym (c .total2 .ensures) ∙ (eqb-true _ _ (not-false _ q) ∙ c .before .before .before .before .before .before .total .ensures)),
     )
 
--- src/propagation.rt:97:1
 returns-3 : tie.Need-returns-3 Inv-loop μ-loop
 returns-3 c =
     let a = c .before .before .before .before .args in

@@ -1,20 +1,16 @@
+-- `domains::propagation::settle` meets its contract.
 use borrow.Author.Tests.{eqb-true, not-false}
-use mathlib.Core.Bool.{true, false, cond, false≢true}
+use mathlib.Core.Bool.{false, cond, false≢true}
 use mathlib.Core.Path.{_≡_, refl, sym, _∙_}
-use Prim.Native.Nat.{ℕ, _+_}
+use Prim.Native.Nat.{_+_}
 use Rattle.model.specs.Problem.{Problem}
 use Rattle.model.specs.Propagate.{sum}
 use Rattle.model.specs.Order.{WellFormed}
 use Rattle.domains.specs.Sweep.{Worked, Anything, RulesRest, Everywhere}
 use Rattle.domains.specs.Propagated.{has-empty}
-use Rattle.domains.proofs.Worked.{bare, worked-none, goes-on, unchanged, turn-less}
+use Rattle.domains.proofs.Worked.{bare, worked-none, goes-on, unchanged, sweep-less}
 use Rattle.domains.proofs.propagation.settle.Statement.{statement}
 use Rattle.domains.proofs.propagation.settle.Tie as tie
-use Rattle.domains.proofs.propagation.settle.Reads as reads
-use Rattle.domains.proofs.propagation.settle.Lts as lts
-use Rattle.domains.proofs.propagation.any_empty.Reads as any-empty-reads
-use Rattle.domains.proofs.propagation.total.Reads as total-reads
-use Rattle.domains.proofs.sweep.sweep_rules.Reads as sweep-rules-reads
 
 abbrev Inv-loop : tie.InvT-loop
 Inv-loop k₀ n changed₀ k changed =
@@ -24,23 +20,18 @@ Inv-loop k₀ n changed₀ k changed =
 abbrev μ-loop : tie.MeasureT-loop
 μ-loop k₀ n changed₀ k changed = sum k + cond changed 1 0
 
--- src/propagation.rt:84:5
 loop-holds : tie.Need-loop-holds Inv-loop μ-loop
 loop-holds c = let w = c .pre .well-formed in (w, λ p e. worked-none p Anything (c .args .k .now) w tt, λ q. absurd (false≢true (sym q)))
 
--- src/propagation.rt:85:13
 total-requires : tie.Need-total-requires Inv-loop μ-loop
 total-requires c κs = c .before .before .loop .inv .0 .long
 
--- src/propagation.rt:86:9
 sweep-rules-requires : tie.Need-sweep-rules-requires Inv-loop μ-loop
 sweep-rules-requires c κs = record { well-formed = c .before .before .before .before .loop .inv .0; limited = c .before .before .before .before .before .pre .limited }
 
--- src/propagation.rt:87:12
 any-empty-requires : tie.Need-any-empty-requires Inv-loop μ-loop
 any-empty-requires c κs = (c .before .sweep-rules .ensures .0 .long, c .before .before .before .before .before .before .before .pre .limited)
 
--- src/propagation.rt:88:13
 returns : tie.Need-returns Inv-loop μ-loop
 returns c = (
   c .before .before .before .sweep-rules .ensures .0,
@@ -51,17 +42,14 @@ returns c = (
   },
 )
 
--- src/propagation.rt:90:13
 total-requires-2 : tie.Need-total-requires-2 Inv-loop μ-loop
 total-requires-2 c κs = c .before .before .before .before .sweep-rules .ensures .0 .long
 
--- src/propagation.rt:84:5
 loop-less : tie.Need-loop-less Inv-loop μ-loop
 loop-less c =
     rw (c .total2 .ensures, c .before .before .before .before .before .before .before .total .ensures)
-    (turn-less (c .before .before .before .before .before .before .before .before .before .before .loop .changed) (c .before .before .before .before .before .before .before .before .before .loop-test .taken) (c .before .before .before .before .before .before .before .before .before .before .loop .inv .0) (c .before .before .before .before .before .sweep-rules .ensures .1 (bare (c .before .before .before .before .before .before .before .before .before .before .before .args .n)) refl))
+    (sweep-less (c .before .before .before .before .before .before .before .before .before .before .loop .changed) (c .before .before .before .before .before .before .before .before .before .loop-test .taken) (c .before .before .before .before .before .before .before .before .before .before .loop .inv .0) (c .before .before .before .before .before .sweep-rules .ensures .1 (bare (c .before .before .before .before .before .before .before .before .before .before .before .args .n)) refl))
 
--- src/propagation.rt:84:5
 loop-again : tie.Need-loop-again Inv-loop μ-loop
 loop-again c =
     let l = c .before .before .before .before .before .before .before .before .before .before .loop in (
@@ -72,7 +60,6 @@ loop-again c =
           (sym (c .before .before .before .any-empty .ensures) ∙ c .before .before .if1 .left, λ p e. unchanged (l .inv .0) (c .before .before .before .before .before .sweep-rules .ensures .1 p e) s),
     )
 
--- src/propagation.rt:79:1
 returns-2 : tie.Need-returns-2 Inv-loop μ-loop
 returns-2 c =
     let l = c .before .loop in

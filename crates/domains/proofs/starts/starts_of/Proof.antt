@@ -1,4 +1,4 @@
-use borrow.Author.Needs.{needs}
+-- `domains::starts::starts_of` meets its contract.
 use native.Mathlib.Omega.{arith}
 use mathlib.Core.Path.{_≡_, refl, _∙_, ap}
 use Prim.Native.Nat.{ℕ, _-_, _≤_, _<_}
@@ -7,14 +7,10 @@ use lib.Seq.{getD-set-other}
 use Rattle.instance.specs.declared.Position.{Position}
 use Rattle.instance.specs.Meaning.{start, positions-of}
 use Rattle.instance.specs.Values.{origin}
-use Rattle.domains.proofs.Tests.{stored-more}
+use Rattle.relations.proofs.Tests.{stored-more}
 use Rattle.domains.proofs.Packings.{blank-at, position-at, start-of-position, start-is, starts-at}
 use Rattle.domains.proofs.starts.starts_of.Statement.{statement}
 use Rattle.domains.proofs.starts.starts_of.Tie as tie
-use Rattle.domains.proofs.starts.starts_of.Reads as reads
-use Rattle.domains.proofs.starts.starts_of.Lts as lts
-use Rattle.domains.proofs.chains.chains.Reads as chains-reads
-use Rattle.domains.proofs.starts.start_at.Reads as start-at-reads
 
 abbrev Inv-loop : tie.InvT-loop
 Inv-loop k n sizes capacity ends positions₀ u₀ positions u = (u ≤ n) × (length positions ≡ 10) × ((x : ℕ) → x < u → getD positions x origin ≡ position-at ends sizes x) × ((x : ℕ) → u ≤ x → getD positions x origin ≡ origin)
@@ -22,49 +18,39 @@ Inv-loop k n sizes capacity ends positions₀ u₀ positions u = (u ≤ n) × (l
 abbrev μ-loop : tie.MeasureT-loop
 μ-loop k n sizes capacity ends positions₀ u₀ positions u = n - u
 
--- src/starts.rt:35:16
 chains-requires : tie.Need-chains-requires Inv-loop μ-loop
 chains-requires c κs = let g = c .pre .given in (g .well-formed .long, g .limited, g .sizes-long)
 
--- src/starts.rt:38:5
 loop-holds : tie.Need-loop-holds Inv-loop μ-loop
 loop-holds c = (omega arith, refl, λ x h. absurd (omega arith), λ x h. blank-at 10 x)
 
--- src/starts.rt:39:13
 start-at-requires : tie.Need-start-at-requires Inv-loop μ-loop
 start-at-requires c κs =
     let a = c .before .before .before .before .args in
     starts-at (a .k .now) (a .n) (a .sizes .now) (a .capacity .now) (c .before .before .before .chains .result) (c .before .before .before .before .pre) (c .before .before .before .chains .ensures) 0 (c .before .before .loop .u) (omega arith) (c .before .loop-test .taken)
 
--- src/starts.rt:40:13
 start-at-requires-2 : tie.Need-start-at-requires-2 Inv-loop μ-loop
 start-at-requires-2 c κs =
     let a = c .before .before .before .before .before .before .args in
     starts-at (a .k .now) (a .n) (a .sizes .now) (a .capacity .now) (c .before .before .before .before .before .chains .result) (c .before .before .before .before .before .before .pre) (c .before .before .before .before .before .chains .ensures) 1 (c .before .before .before .before .loop .u) (omega arith) (c .before .before .before .loop-test .taken)
 
--- src/starts.rt:41:13
 start-at-requires-3 : tie.Need-start-at-requires-3 Inv-loop μ-loop
 start-at-requires-3 c κs =
     let a = c .before .before .before .before .before .before .before .before .args in
     starts-at (a .k .now) (a .n) (a .sizes .now) (a .capacity .now) (c .before .before .before .before .before .before .before .chains .result) (c .before .before .before .before .before .before .before .before .pre) (c .before .before .before .before .before .before .before .chains .ensures) 2 (c .before .before .before .before .before .before .loop .u) (omega arith) (c .before .before .before .before .before .loop-test .taken)
 
--- src/starts.rt:42:9
 mul-positions : tie.Need-mul-positions Inv-loop μ-loop
 mul-positions c = omega (arith, c .before .before .before .before .before .before .before .before .before .pre .given .limited)
 
--- src/starts.rt:42:9
 array-set-from-positions : tie.Need-array-set-from-positions Inv-loop μ-loop
 array-set-from-positions c = omega (arith, c .before .before .before .before .before .before .before .before .before .pre .given .limited)
 
--- src/starts.rt:43:13
 add-u : tie.Need-add-u Inv-loop μ-loop
 add-u c = omega (arith, c .before .before .before .before .before .before .before .before .before .pre .given .limited)
 
--- src/starts.rt:38:5
 loop-less : tie.Need-loop-less Inv-loop μ-loop
 loop-less c = omega arith
 
--- src/starts.rt:38:5
 loop-again : tie.Need-loop-again Inv-loop μ-loop
 loop-again c =
     let a = c .before .before .before .before .before .before .before .before .before .args in
@@ -78,7 +64,6 @@ loop-again c =
       λ x h. getD-set-other (l .positions) (l .u) x v origin (omega arith) ∙ l .inv .3 x (omega arith),
     )
 
--- src/starts.rt:31:1
 returns : tie.Need-returns Inv-loop μ-loop
 unfolding positions-of
 returns c =

@@ -1,6 +1,7 @@
+-- `domains::sweep::apply_before` meets its contract.
 use borrow.Author.Tests.{not-true, not-false}
 use native.Mathlib.Omega.{arith}
-use mathlib.Core.Path.{_≡_, sym, _∙_}
+use mathlib.Core.Path.{sym, _∙_}
 use Prim.Native.Nat.{_≤_}
 use Rattle.model.specs.Order.{Proper}
 use Rattle.model.proofs.Below.{clash}
@@ -10,39 +11,28 @@ use Rattle.domains.proofs.Worked.{worked-none, worked-before, early-ask
 use borrow.Author.Needs.{needs}
 use Rattle.domains.proofs.sweep.apply_before.Statement.{statement}
 use Rattle.domains.proofs.sweep.apply_before.Tie as tie
-use Rattle.domains.proofs.sweep.apply_before.Reads as reads
-use Rattle.domains.proofs.sweep.apply_before.Lts as lts
-use Rattle.domains.proofs.access.may_before.Reads as may-before-reads
-use Rattle.domains.proofs.access.remove_before.Reads as remove-before-reads
-use Rattle.domains.proofs.rules.asks_before.Reads as asks-before-reads
 
--- src/sweep.rt:20:9
 may-before-requires : tie.Need-may-before-requires
 may-before-requires c κs = search needs
 
--- src/sweep.rt:21:9
 returns : tie.Need-returns
 returns c =
     let a = c .before .before .before .args in
     let w = c .before .before .before .pre .0 .well-formed in
     (w, λ p e. worked-none p (BeforeRests p (a .a) (a .u) (a .v)) (a .k .now) w (λ t. sym (c .before .may-before .ensures) ∙ not-true (c .before .may-before .result) (c .if1 .taken)))
 
--- src/sweep.rt:23:9
 asks-before-requires : tie.Need-asks-before-requires
 asks-before-requires c κs = search needs
 
--- src/sweep.rt:24:9
 returns-2 : tie.Need-returns-2
 returns-2 c =
     let a = c .before .before .before .before .before .before .args in
     let w = c .before .before .before .before .before .before .pre .0 .well-formed in
     (w, λ p e. worked-none p (BeforeRests p (a .a) (a .u) (a .v)) (a .k .now) w (λ t. absurd (clash t (sym (c .before .asks-before .ensures p e) ∙ not-true (c .before .asks-before .result) (c .if2 .taken)))))
 
--- src/sweep.rt:26:5
 remove-before-requires : tie.Need-remove-before-requires
 remove-before-requires c κs = search needs
 
--- src/sweep.rt:16:1
 returns-3 : tie.Need-returns-3
 returns-3 c =
     let a = c .before .before .before .before .before .before .before .before .args in

@@ -1,6 +1,7 @@
+-- `domains::sweep::apply_chains` meets its contract.
 use borrow.Author.Tests.{not-true, not-false}
 use native.Mathlib.Omega.{arith}
-use mathlib.Core.Path.{_≡_, sym, _∙_}
+use mathlib.Core.Path.{sym, _∙_}
 use Prim.Native.Nat.{_≤_, _/_, _%_}
 use Rattle.model.specs.Order.{Proper}
 use Rattle.model.proofs.Below.{clash}
@@ -10,60 +11,46 @@ use Rattle.domains.proofs.Worked.{worked-none, worked-before}
 use borrow.Author.Needs.{needs}
 use Rattle.domains.proofs.sweep.apply_chains.Statement.{statement}
 use Rattle.domains.proofs.sweep.apply_chains.Tie as tie
-use Rattle.domains.proofs.sweep.apply_chains.Reads as reads
-use Rattle.domains.proofs.sweep.apply_chains.Lts as lts
-use Rattle.domains.proofs.access.may_before.Reads as may-before-reads
-use Rattle.domains.proofs.access.remove_before.Reads as remove-before-reads
-use Rattle.domains.proofs.sweep.is_too_long.Reads as is-too-long-reads
 
--- src/sweep.rt:114:9
 returns : tie.Need-returns
 returns c =
     let a = c .before .args in
     let w = c .before .pre .0 .well-formed in
     (w, λ p e asked. worked-none p (AtNumber (a .n) (ChainsRest (a .capacity .now) (a .ends .now) (a .starts .now)) (a .i)) (a .k .now) w (λ s. absurd (omega arith)))
 
--- src/sweep.rt:117:9
 returns-2 : tie.Need-returns-2
 returns-2 c =
     let a = c .before .before .args in
     let w = c .before .before .pre .0 .well-formed in
     (w, λ p e asked. worked-none p (AtNumber (a .n) (ChainsRest (a .capacity .now) (a .ends .now) (a .starts .now)) (a .i)) (a .k .now) w (λ s. absurd (omega arith)))
 
--- src/sweep.rt:120:9
 returns-3 : tie.Need-returns-3
 returns-3 c =
     let a = c .before .before .before .args in
     let w = c .before .before .before .pre .0 .well-formed in
     (w, λ p e asked. worked-none p (AtNumber (a .n) (ChainsRest (a .capacity .now) (a .ends .now) (a .starts .now)) (a .i)) (a .k .now) w (λ s. absurd (s .distinct (c .if3 .taken))))
 
--- src/sweep.rt:122:9
 is-too-long-requires : tie.Need-is-too-long-requires
 is-too-long-requires c κs = search needs
 
--- src/sweep.rt:123:9
 returns-4 : tie.Need-returns-4
 returns-4 c =
     let a = c .before .before .before .before .before .args in
     let w = c .before .before .before .before .before .pre .0 .well-formed in
     (w, λ p e asked. worked-none p (AtNumber (a .n) (ChainsRest (a .capacity .now) (a .ends .now) (a .starts .now)) (a .i)) (a .k .now) w (λ s t. absurd (clash t (sym (c .before .is-too-long .ensures) ∙ not-true (c .before .is-too-long .result) (c .if4 .taken)))))
 
--- src/sweep.rt:125:9
 may-before-requires : tie.Need-may-before-requires
 may-before-requires c κs = search needs
 
--- src/sweep.rt:126:9
 returns-5 : tie.Need-returns-5
 returns-5 c =
     let a = c .before .before .before .before .before .before .before .before .args in
     let w = c .before .before .before .before .before .before .before .before .pre .0 .well-formed in
     (w, λ p e asked. worked-none p (AtNumber (a .n) (ChainsRest (a .capacity .now) (a .ends .now) (a .starts .now)) (a .i)) (a .k .now) w (λ s t. sym (c .before .may-before .ensures) ∙ not-true (c .before .may-before .result) (c .if5 .taken)))
 
--- src/sweep.rt:128:5
 remove-before-requires : tie.Need-remove-before-requires
 remove-before-requires c κs = search needs
 
--- src/sweep.rt:99:1
 returns-6 : tie.Need-returns-6
 returns-6 c =
     let a = c .before .before .before .before .before .before .before .before .before .before .args in

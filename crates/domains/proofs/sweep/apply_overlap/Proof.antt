@@ -1,6 +1,7 @@
+-- `domains::sweep::apply_overlap` meets its contract.
 use borrow.Author.Tests.{not-true, not-false}
 use native.Mathlib.Omega.{arith}
-use mathlib.Core.Path.{_≡_, sym, _∙_}
+use mathlib.Core.Path.{sym, _∙_}
 use Prim.Native.Nat.{_≤_}
 use Rattle.model.specs.Order.{Proper}
 use Rattle.model.proofs.Below.{clash}
@@ -10,39 +11,28 @@ use Rattle.domains.proofs.Worked.{worked-none, worked-overlap}
 use borrow.Author.Needs.{needs}
 use Rattle.domains.proofs.sweep.apply_overlap.Statement.{statement}
 use Rattle.domains.proofs.sweep.apply_overlap.Tie as tie
-use Rattle.domains.proofs.sweep.apply_overlap.Reads as reads
-use Rattle.domains.proofs.sweep.apply_overlap.Lts as lts
-use Rattle.domains.proofs.access.may_overlap.Reads as may-overlap-reads
-use Rattle.domains.proofs.access.remove_overlap.Reads as remove-overlap-reads
-use Rattle.domains.proofs.rules.asks_overlap.Reads as asks-overlap-reads
 
--- src/sweep.rt:34:9
 may-overlap-requires : tie.Need-may-overlap-requires
 may-overlap-requires c κs = search needs
 
--- src/sweep.rt:35:9
 returns : tie.Need-returns
 returns c =
     let a = c .before .before .before .args in
     let w = c .before .before .before .pre .0 .well-formed in
     (w, λ p e. worked-none p (OverlapRests p (a .a) (a .u) (a .v)) (a .k .now) w (λ t. sym (c .before .may-overlap .ensures) ∙ not-true (c .before .may-overlap .result) (c .if1 .taken)))
 
--- src/sweep.rt:37:9
 asks-overlap-requires : tie.Need-asks-overlap-requires
 asks-overlap-requires c κs = search needs
 
--- src/sweep.rt:38:9
 returns-2 : tie.Need-returns-2
 returns-2 c =
     let a = c .before .before .before .before .before .before .args in
     let w = c .before .before .before .before .before .before .pre .0 .well-formed in
     (w, λ p e. worked-none p (OverlapRests p (a .a) (a .u) (a .v)) (a .k .now) w (λ t. absurd (clash t (sym (c .before .asks-overlap .ensures p e) ∙ not-true (c .before .asks-overlap .result) (c .if2 .taken)))))
 
--- src/sweep.rt:40:5
 remove-overlap-requires : tie.Need-remove-overlap-requires
 remove-overlap-requires c κs = search needs
 
--- src/sweep.rt:30:1
 returns-3 : tie.Need-returns-3
 returns-3 c =
     let a = c .before .before .before .before .before .before .before .before .args in

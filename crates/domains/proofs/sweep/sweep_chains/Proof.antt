@@ -1,4 +1,4 @@
-use borrow.Author.Needs.{needs}
+-- `domains::sweep::sweep_chains` meets its contract.
 use native.Mathlib.Omega.{arith}
 use mathlib.Core.Path.{_≡_}
 use Prim.Native.Nat.{_-_, _≤_}
@@ -8,9 +8,6 @@ use Rattle.domains.specs.Sweep.{Worked, ChainsRest, AtNumber, Asked}
 use Rattle.domains.proofs.Worked.{Upto, worked-start, worked-next, worked-everywhere, asked-less}
 use Rattle.domains.proofs.sweep.sweep_chains.Statement.{statement}
 use Rattle.domains.proofs.sweep.sweep_chains.Tie as tie
-use Rattle.domains.proofs.sweep.sweep_chains.Reads as reads
-use Rattle.domains.proofs.sweep.sweep_chains.Lts as lts
-use Rattle.domains.proofs.sweep.apply_chains.Reads as apply-chains-reads
 
 abbrev Inv-loop : tie.InvT-loop
 Inv-loop k₀ n capacity ends starts i₀ k i = (i ≤ 300) × WellFormed k × ((p : Problem) → p .items ≡ n → Asked p k₀ capacity ends starts → Worked p (Upto (AtNumber n (ChainsRest capacity ends starts)) i) k₀ k)
@@ -18,26 +15,21 @@ Inv-loop k₀ n capacity ends starts i₀ k i = (i ≤ 300) × WellFormed k × (
 abbrev μ-loop : tie.MeasureT-loop
 μ-loop k₀ n capacity ends starts i₀ k i = 300 - i
 
--- src/sweep.rt:142:5
 loop-holds : tie.Need-loop-holds Inv-loop μ-loop
 loop-holds c =
     let a = c .args in
     let w = c .pre .0 .well-formed in
     (omega arith, w, λ p e asked. worked-start p (AtNumber (a .n) (ChainsRest (a .capacity .now) (a .ends .now) (a .starts .now))) (a .k .now) w)
 
--- src/sweep.rt:143:9
 apply-chains-requires : tie.Need-apply-chains-requires Inv-loop μ-loop
 apply-chains-requires c κs = (record { well-formed = c .before .before .loop .inv .1; limited = c .before .before .before .pre .0 .limited }, c .before .before .before .pre .1, c .before .loop-test .taken)
 
--- src/sweep.rt:144:13
 add-i : tie.Need-add-i Inv-loop μ-loop
 add-i c = omega arith
 
--- src/sweep.rt:142:5
 loop-less : tie.Need-loop-less Inv-loop μ-loop
 loop-less c = omega arith
 
--- src/sweep.rt:142:5
 loop-again : tie.Need-loop-again Inv-loop μ-loop
 loop-again c =
     let a = c .before .before .before .before .args in
@@ -50,7 +42,6 @@ loop-again c =
           (c .apply-chains .ensures .1 p e (asked-less p (l .k) (a .k .now) (a .capacity .now) (a .ends .now) (a .starts .now) (f .less) asked)),
     )
 
--- src/sweep.rt:131:1
 returns : tie.Need-returns Inv-loop μ-loop
 returns c =
     let a = c .before .before .args in

@@ -1,4 +1,4 @@
-use borrow.Author.Needs.{needs}
+-- `domains::sweep::sweep_rules` meets its contract.
 use native.Mathlib.Omega.{arith}
 use mathlib.Core.Path.{_≡_}
 use Prim.Native.Nat.{_-_, _≤_}
@@ -8,9 +8,6 @@ use Rattle.domains.specs.Sweep.{Worked, RulesRest, AtNumber}
 use Rattle.domains.proofs.Worked.{Upto, worked-start, worked-next, worked-everywhere}
 use Rattle.domains.proofs.sweep.sweep_rules.Statement.{statement}
 use Rattle.domains.proofs.sweep.sweep_rules.Tie as tie
-use Rattle.domains.proofs.sweep.sweep_rules.Reads as reads
-use Rattle.domains.proofs.sweep.sweep_rules.Lts as lts
-use Rattle.domains.proofs.sweep.apply_rules.Reads as apply-rules-reads
 
 abbrev Inv-loop : tie.InvT-loop
 Inv-loop k₀ n i₀ k i = (i ≤ 300) × WellFormed k × ((p : Problem) → p .items ≡ n → Worked p (Upto (AtNumber n (RulesRest p)) i) k₀ k)
@@ -18,25 +15,20 @@ Inv-loop k₀ n i₀ k i = (i ≤ 300) × WellFormed k × ((p : Problem) → p .
 abbrev μ-loop : tie.MeasureT-loop
 μ-loop k₀ n i₀ k i = 300 - i
 
--- src/sweep.rt:70:5
 loop-holds : tie.Need-loop-holds Inv-loop μ-loop
 loop-holds c =
     let w = c .pre .well-formed in
     (omega arith, w, λ p e. worked-start p (AtNumber (c .args .n) (RulesRest p)) (c .args .k .now) w)
 
--- src/sweep.rt:71:9
 apply-rules-requires : tie.Need-apply-rules-requires Inv-loop μ-loop
 apply-rules-requires c κs = (record { well-formed = c .before .before .loop .inv .1; limited = c .before .before .before .pre .limited }, c .before .loop-test .taken)
 
--- src/sweep.rt:72:13
 add-i : tie.Need-add-i Inv-loop μ-loop
 add-i c = omega arith
 
--- src/sweep.rt:70:5
 loop-less : tie.Need-loop-less Inv-loop μ-loop
 loop-less c = omega arith
 
--- src/sweep.rt:70:5
 loop-again : tie.Need-loop-again Inv-loop μ-loop
 loop-again c =
     let l = c .before .before .before .loop in (
@@ -45,7 +37,6 @@ loop-again c =
       λ p e. worked-next p (AtNumber (c .before .before .before .before .args .n) (RulesRest p)) (l .i) (c .before .before .before .before .pre .well-formed) (l .inv .2 p e) (c .apply-rules .ensures .1 p e),
     )
 
--- src/sweep.rt:65:1
 returns : tie.Need-returns Inv-loop μ-loop
 returns c =
     let l = c .before .loop in

@@ -1,3 +1,4 @@
+-- `records::read::read_size` meets its contract.
 use Prim.Native.Nat.{_-_, _≤_}
 use lib.ListN.{length}
 -- `records::read::read_size` meets its contract.
@@ -76,7 +77,7 @@ bit-stands-requires-3 : tie.Need-bit-stands-requires-3
 bit-stands-requires-3 c κs = search needs
 
 read-field-requires-3 : tie.Need-read-field-requires-3
-read-field-requires-3 c κs = 
+read-field-requires-3 c κs =
     let h = first-took (c .before .before .before .before .before .before .before .before) in
     let k = second-took (c .before .before) in
     simp (rest-of, length-drop) (omega arith)
@@ -88,7 +89,7 @@ enum-known-shifts : tie.Need-enum-known-shifts
 enum-known-shifts c = search needs
 
 add-t34 : tie.Need-add-t34
-add-t34 c = 
+add-t34 c =
     let l = rw (c .before .shifts .given .1, rest-of, length-drop) at (c .before .before .before .read-field3 .ensures .1) in
     omega (arith, first-took (c .before .before .before .before .before .before .before .before .before .before .before .before), second-took (c .before .before .before .before .before .before))
 

@@ -1,3 +1,4 @@
+-- `search::path::is_well_formed` meets its contract.
 use borrow.Author.Needs.{needs}
 use borrow.Author.Tests.{le-leb, lt-leb, not-true, not-false}
 use Rattle.search.specs.Checkpoints.{well-formed}

@@ -1,3 +1,4 @@
+-- `search::path::length_allowed` meets its contract.
 use borrow.Author.Needs.{needs}
 use Rattle.search.proofs.path.length_allowed.Statement.{statement}
 use Rattle.search.proofs.path.length_allowed.Tie as tie

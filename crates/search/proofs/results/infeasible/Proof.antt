@@ -1,3 +1,4 @@
+-- `search::results::infeasible` meets its contract.
 use borrow.Author.Needs.{needs}
 use Rattle.search.specs.Checkpoints.{value-of, branches-of}
 use Rattle.search.specs.Results.{infeasible-after}

@@ -1,3 +1,4 @@
+-- `search::results::packed` meets its contract.
 use mathlib.Core.Path.{refl}
 use Rattle.search.specs.Results.{packed-after}
 use Rattle.search.proofs.results.packed.Statement.{statement}

@@ -1,3 +1,4 @@
+-- `search::results::refused` meets its contract.
 use borrow.Author.Needs.{needs}
 use Rattle.search.specs.Results.{refused}
 use Rattle.search.proofs.results.refused.Statement.{statement}

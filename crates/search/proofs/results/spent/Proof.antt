@@ -1,3 +1,4 @@
+-- `search::results::spent` meets its contract.
 use borrow.Author.Needs.{needs}
 use Rattle.search.specs.Results.{spent-after}
 use Rattle.search.proofs.results.spent.Statement.{statement}

@@ -1,3 +1,4 @@
+-- `search::steps::look` meets its contract.
 use borrow.Author.Needs.{needs}
 use Rattle.search.proofs.Seeing.{seen-well-formed, seen-conflict, seen-complete, seen-fork}
 use Rattle.search.proofs.steps.look.Statement.{statement}

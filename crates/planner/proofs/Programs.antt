@@ -1,0 +1,53 @@
+-- Laws of the program's text by what reading the sheet answered.
+use mathlib.Core.Path.{_≡_, refl, sym, ap, _∙_}
+use mathlib.Core.List.{List}
+use Prim.Native.Nat.{ℕ, _≤_}
+use Rattle.refusal.specs.declared.Refusal.{Refusal}
+use Rattle.records.specs.Bounds.{Bytes}
+use Rattle.instance.specs.declared.ReadResult.{ReadResult}
+use Rattle.instance.specs.declared.ReadAnswer.the-variants as A
+use Rattle.instance.specs.Decode.{decode, read-result}
+use Rattle.instance.specs.Values.{opening-checkpoint}
+use Rattle.instance.proofs.Sheets.{valid-says}
+use Rattle.instance.proofs.Inverse.{read-written}
+use Rattle.instance.proofs.Lookup.{was-read, was-refused}
+use Rattle.search.specs.Results.{search-result}
+use Rattle.search.specs.declared.Answer.the-variants as S
+use Rattle.search.specs.declared.SearchResult.{SearchResult}
+use Rattle.report.specs.Text.{packed-text, infeasible-text, spent-text, refused-text}
+use Rattle.planner.specs.Program.{result-text, program-text}
+
+module _ (s : List ℕ) (r : ReadResult) (e : r ≡ read-result (decode s)) where
+  pub text-read : r .answer ≡ A.Read
+      → program-text s ≡ result-text (r .instance .«item_count») (search-result (r .instance) opening-checkpoint 1_000_000)
+  unfolding program-text
+  text-read h = let w = was-read (decode s) r e h in rw (w .was)
+
+  pub text-refused : {f : Refusal} → r .answer ≡ A.Refused f → program-text s ≡ refused-text f
+  unfolding program-text
+  text-refused h = rw (was-refused (decode s) r e h)
+
+  -- an instance that was read has at most ten items
+  pub few-items : Bytes s → r .answer ≡ A.Read → r .instance .«item_count» ≤ 10
+  few-items b h =
+      let w = was-read (decode s) r e h in
+      let v = read-written s b (w .was) in
+      valid-says (r .instance) (v .1) .items-few
+
+-- the text of a result, by its answer
+module _ (n : ℕ) (r : SearchResult) where
+  pub text-packed : r .answer ≡ S.Packed → result-text n r ≡ packed-text (r .steps) (r .packing) n
+  unfolding result-text
+  text-packed h = rw h
+
+  pub text-infeasible : r .answer ≡ S.Infeasible → result-text n r ≡ infeasible-text (r .steps)
+  unfolding result-text
+  text-infeasible h = rw h
+
+  pub text-spent : r .answer ≡ S.BudgetSpent → result-text n r ≡ spent-text (r .steps)
+  unfolding result-text
+  text-spent h = rw h
+
+  pub text-refused-call : {f : Refusal} → r .answer ≡ S.Refused f → result-text n r ≡ refused-text f
+  unfolding result-text
+  text-refused-call h = rw h

@@ -1,0 +1,48 @@
+// The program's work between reading its input and writing its output: from a sheet to the text.
+ghost use mathlib.Core.Path.{_≡_};
+ghost use mathlib.Core.List.{_++_};
+ghost use Prim.Native.Nat.{_≤_};
+ghost use lib.ListN.{length, drop};
+ghost use Rattle.planner.specs.Program.{result-text, program-text};
+use instance::Instance;
+use instance::ReadAnswer;
+use search::Answer;
+use search::SearchResult;
+
+// The steps of the program's one call.
+pub const BUDGET: u32 = 1_000_000;
+
+// The text of a call's result, for an instance of n items.
+pub fn result_text(out: &mut [u8], n: usize, result: SearchResult) -> usize
+    requires { ⌜ (n ≤ 10) × (218 ≤ length (now out)) ⌝ }
+    ensures { λ r. ⌜ (r ≡ length (result-text n result)) × (r ≤ 218) ⌝ }
+    ensures { λ _. ⌜ now (out .exit) ≡ result-text n result ++ drop (length (result-text n result)) (now (out .entry)) ⌝ }
+{
+    let steps = result.steps;
+    let packing = result.packing;
+    let answer = result.answer;
+    match answer {
+        Answer::Packed => report::packed(out, steps, packing, n),
+        Answer::Infeasible => report::infeasible(out, steps),
+        Answer::BudgetSpent => report::spent(out, steps),
+        Answer::Refused(e) => report::refused(out, e),
+    }
+}
+
+// The text of a sheet.
+pub fn sheet_text(out: &mut [u8], sheet: &[u8]) -> usize
+    requires { ⌜ 218 ≤ length (now out) ⌝ }
+    ensures { λ r. ⌜ (r ≡ length (program-text (now (sheet .entry)))) × (r ≤ 218) ⌝ }
+    ensures { λ _. ⌜ now (out .exit) ≡ program-text (now (sheet .entry)) ++ drop (length (program-text (now (sheet .entry)))) (now (out .entry)) ⌝ }
+{
+    let reading = Instance::read(sheet);
+    let answer = reading.answer;
+    match answer {
+        ReadAnswer::Read => {
+            let instance = reading.instance;
+            let result = search::search(instance, Instance::opening(), BUDGET);
+            result_text(out, instance.item_count, result)
+        }
+        ReadAnswer::Refused(e) => report::refused(out, e),
+    }
+}

@@ -1,0 +1,43 @@
+-- `report::packed` meets its contract.
+use borrow.Author.Needs.{needs}
+use native.Mathlib.Omega.{arith}
+use mathlib.Core.Path.{_≡_, _∙_}
+use Prim.Native.Nat.{_+_, _≤_}
+use lib.ListN.{length, length-append}
+use Rattle.records.proofs.Writers.{sets-front}
+use Rattle.report.specs.Text.{placed, answer-line, item-lines, packed-text}
+use Rattle.report.proofs.Puts.{joined}
+use Rattle.report.proofs.packed.Statement.{statement}
+use Rattle.report.proofs.packed.Tie as tie
+
+slice-aggregate-put-answer : tie.Need-slice-aggregate-put-answer
+slice-aggregate-put-answer c = search needs
+
+put-answer-requires : tie.Need-put-answer-requires
+put-answer-requires c κs = (omega arith, omega arith)
+
+put-items-requires : tie.Need-put-items-requires
+put-items-requires c κs = (omega arith, omega (arith, c .before .before .before .put-answer .kept .0))
+
+same-length : tie.Need-same-length
+same-length c = omega (arith, c .before .before .before .before .before .before .put-answer .kept .0, c .before .before .put-items .kept .0)
+
+returns : tie.Need-returns
+returns c =
+    let a = c .before .before .before .before .before .before .before .before .before .before .args in
+    let w = c .before .before .before .before .before .before .put-answer .ensures in
+    let x = c .before .before .put-items .ensures in
+    let n : length (packed-text (a .steps) (a .packing) (a .n)) ≡ length (answer-line placed (a .steps)) + length (item-lines (a .packing) (a .n)) = simp length-append in
+    let room : length (packed-text (a .steps) (a .packing) (a .n)) ≤ 218 = omega (arith, w .0, x .0, c .before .before .before .before .before .before .before .before .before .before .pre) in
+    let start : c .before .before .before .before .before .before .put-answer .result ≡ 0 + length (answer-line placed (a .steps)) = omega (arith, w .0) in
+    ((omega (arith, w .0, x .0), omega (arith, w .0, x .0, c .before .before .before .before .before .before .before .before .before .before .pre)), rw (x .1, w .1) (joined (a .out .now) (answer-line placed (a .steps)) (item-lines (a .packing) (a .n)) 0 (c .before .before .before .before .before .before .put-answer .result) start ∙ sets-front (packed-text (a .steps) (a .packing) (a .n)) (a .out .now) (omega (arith, c .before .before .before .before .before .before .before .before .before .before .pre))))
+
+pub packed-spec : {M : Type 1} → statement M
+packed-spec =
+    tie.close
+    (tie.spec
+    slice-aggregate-put-answer
+    put-answer-requires
+    put-items-requires
+    same-length
+    returns)

@@ -1,0 +1,63 @@
+-- What the program prints, in ASCII (document 01, "The program").
+use mathlib.Core.List.{List, [], _∷_, _++_}
+use Prim.Native.Nat.{ℕ, zero, suc}
+use lib.ListN.{getD}
+use Rattle.refusal.specs.declared.Refusal.{Refusal}
+use Rattle.refusal.specs.Numbers.{number-of, place-of}
+use Rattle.instance.specs.declared.Packing.{Packing}
+use Rattle.instance.specs.declared.Position.{Position}
+use Rattle.instance.specs.Values.{origin}
+use Rattle.report.specs.Decimal.{decimal}
+
+-- a field after "one space"
+abbrev pub field : ℕ → List ℕ
+field n = 0x20 ∷ decimal n
+
+-- more fields, and the end of the line
+abbrev pub fields : List ℕ → List ℕ
+fields [] = 0x0a ∷ []
+fields (n ∷ ns) = field n ++ fields ns
+
+-- "fields separated by one space": the first one as it is, and numbers
+unfoldable pub line : List ℕ → List ℕ → List ℕ
+line first ns = first ++ fields ns
+
+-- the words `placed`, `none`, `spent`, `refused`
+abbrev pub placed : List ℕ
+placed = 0x70 ∷ 0x6c ∷ 0x61 ∷ 0x63 ∷ 0x65 ∷ 0x64 ∷ []
+
+abbrev pub none : List ℕ
+none = 0x6e ∷ 0x6f ∷ 0x6e ∷ 0x65 ∷ []
+
+abbrev pub spent : List ℕ
+spent = 0x73 ∷ 0x70 ∷ 0x65 ∷ 0x6e ∷ 0x74 ∷ []
+
+abbrev pub refused : List ℕ
+refused = 0x72 ∷ 0x65 ∷ 0x66 ∷ 0x75 ∷ 0x73 ∷ 0x65 ∷ 0x64 ∷ []
+
+-- "one line a piece: number, x, y, t"
+unfoldable pub item-line : ℕ → Position → List ℕ
+item-line u p = line (decimal u) (p .x ∷ p .y ∷ p .t ∷ [])
+
+-- the lines of the first n items
+unfoldable pub item-lines : Packing → ℕ → List ℕ
+item-lines q zero = []
+item-lines q (suc u) = item-lines q u ++ item-line u (getD (q .positions) u origin)
+
+-- "the answer word and steps"
+abbrev pub answer-line : List ℕ → ℕ → List ℕ
+answer-line word steps = line word (steps ∷ [])
+
+-- ", then for placed one line a piece"
+abbrev pub packed-text : ℕ → Packing → ℕ → List ℕ
+packed-text steps q n = answer-line placed steps ++ item-lines q n
+
+abbrev pub infeasible-text : ℕ → List ℕ
+infeasible-text steps = answer-line none steps
+
+abbrev pub spent-text : ℕ → List ℕ
+spent-text steps = answer-line spent steps
+
+-- "A refused sheet prints `refused`, number, place"
+abbrev pub refused-text : Refusal → List ℕ
+refused-text e = line refused (number-of e ∷ place-of e ∷ [])

@@ -1,0 +1,54 @@
+// The text that the program prints, made in a lent buffer.
+ghost use mathlib.Core.Path.{_≡_};
+ghost use mathlib.Core.List.{_++_};
+ghost use Prim.Native.Nat.{_≤_};
+ghost use lib.ListN.{length, drop};
+ghost use Rattle.report.specs.Text.{packed-text, infeasible-text, spent-text, refused-text};
+use instance::Packing;
+use refusal::Refusal;
+
+mod put;
+
+// No text is longer: an answer's line has at most 18 bytes, and each of ten items' lines at most 20.
+pub const MAX_TEXT: usize = 218;
+
+// A packing of n items, found after so many steps.
+pub fn packed(out: &mut [u8], steps: u32, packing: Packing, n: usize) -> usize
+    requires { ⌜ (n ≤ 10) × (218 ≤ length (now out)) ⌝ }
+    ensures { λ r. ⌜ (r ≡ length (packed-text steps packing n)) × (r ≤ 218) ⌝ }
+    ensures { λ _. ⌜ now (out .exit) ≡ packed-text steps packing n ++ drop (length (packed-text steps packing n)) (now (out .entry)) ⌝ }
+{
+    let a = put::put_answer(out, b"placed", steps);
+    put::put_items(out, a, packing, n)
+}
+
+// No packing exists, known after so many steps.
+pub fn infeasible(out: &mut [u8], steps: u32) -> usize
+    requires { ⌜ 218 ≤ length (now out) ⌝ }
+    ensures { λ r. ⌜ (r ≡ length (infeasible-text steps)) × (r ≤ 218) ⌝ }
+    ensures { λ _. ⌜ now (out .exit) ≡ infeasible-text steps ++ drop (length (infeasible-text steps)) (now (out .entry)) ⌝ }
+{
+    put::put_answer(out, b"none", steps)
+}
+
+// The budget was spent in so many steps.
+pub fn spent(out: &mut [u8], steps: u32) -> usize
+    requires { ⌜ 218 ≤ length (now out) ⌝ }
+    ensures { λ r. ⌜ (r ≡ length (spent-text steps)) × (r ≤ 218) ⌝ }
+    ensures { λ _. ⌜ now (out .exit) ≡ spent-text steps ++ drop (length (spent-text steps)) (now (out .entry)) ⌝ }
+{
+    put::put_answer(out, b"spent", steps)
+}
+
+// The input was refused.
+pub fn refused(out: &mut [u8], e: Refusal) -> usize
+    requires { ⌜ 218 ≤ length (now out) ⌝ }
+    ensures { λ r. ⌜ (r ≡ length (refused-text e)) × (r ≤ 218) ⌝ }
+    ensures { λ _. ⌜ now (out .exit) ≡ refused-text e ++ drop (length (refused-text e)) (now (out .entry)) ⌝ }
+{
+    let a = put::put_bytes(out, 0, b"refused");
+    let b = put::put_field(out, a, e.number() as u64);
+    let c = put::put_field(out, b, e.place() as u64);
+    out[c] = b'\n';
+    c + 1
+}
