@@ -1,0 +1,41 @@
+-- Within the record its byte, past its end 256.
+use mathlib.Core.Path.{_≡_, sym, ap, _∙_}
+use mathlib.Core.Bool.{Bool, cond}
+use mathlib.Core.List.{List}
+use Prim.Native.Nat.{ℕ, _<_, _≤_}
+use lib.ListN.{length, getD}
+use borrow.Author.Tests.{lt-ltb, le-ltb}
+use Rattle.exports.specs.Exports.{byte-at}
+use borrow.Author.Needs.{needs}
+use Rattle.exports.proofs.exports_record_byte.Statement.{statement}
+use Rattle.exports.proofs.exports_record_byte.Tie as tie
+
+within : (s : List ℕ) (i : ℕ) → i < length s → getD s i 0 ≡ byte-at s i
+unfolding byte-at
+within s i below = sym (ap (λ (t : Bool). cond t (getD s i 0) 256) (lt-ltb i (length s) below))
+
+past : (s : List ℕ) (i : ℕ) → length s ≤ i → 256 ≡ byte-at s i
+unfolding byte-at
+past s i above = sym (ap (λ (t : Bool). cond t (getD s i 0) 256) (le-ltb i (length s) above))
+
+item-record-requires : tie.Need-item-record-requires
+item-record-requires c κs = search needs
+
+returns : tie.Need-returns
+returns c = let i = c .before .before .before .args .i in past _ i (c .if1 .taken) ∙ ap (λ s. byte-at s i) (c .before .item-record .ensures)
+
+shared-slice-read-wide : tie.Need-shared-slice-read-wide
+shared-slice-read-wide c = search needs
+
+wide-requires : tie.Need-wide-requires
+wide-requires c κs = search needs
+
+returns-2 : tie.Need-returns-2
+returns-2 c =
+    let i = c .before .before .before .before .before .args .i in
+    c .wide .ensures ∙ within _ i (c .before .before .if1 .left) ∙ ap (λ s. byte-at s i) (c .before .before .before .item-record .ensures)
+
+pub exports-record-byte-spec : {M : Type 1} → statement M
+exports-record-byte-spec =
+    tie.close
+    (tie.spec item-record-requires returns shared-slice-read-wide wide-requires returns-2)

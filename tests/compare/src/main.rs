@@ -1,0 +1,104 @@
+//! Compares the proved planner with the independent implementation in `reference`, on instances from a seed.
+//!
+//!     compare [--seconds S] [--seed N] [--case K] [--first] [--sheets FILE [--most-steps N]]
+//!
+//! It runs for about S seconds (60), and with 60 or more until at least 20,000 instances of 1 to 6 items and 500 of 7 to 10 were
+//! compared. `--case` runs one instance alone; `--first` stops at the first difference. The exit status is 1 if there is any.
+
+mod library;
+mod parts;
+mod random;
+#[allow(dead_code)]
+mod reference;
+mod report;
+mod table;
+mod tiny;
+
+use random::Random;
+use report::Report;
+use std::time::Instant;
+
+const SMALL: &str = "instances of 1 to 6 items";
+const LARGE: &str = "instances of 7 to 10 items";
+const LEAST_SMALL: u64 = 20_000;
+const LEAST_LARGE: u64 = 500;
+
+struct Options {
+    seconds: f64,
+    seed: u64,
+    case: Option<u64>,
+    first: bool,
+    sheets: Option<String>,
+    most_steps: u32,
+}
+
+fn options() -> Options {
+    let mut options = Options { seconds: 60.0, seed: 1, case: None, first: false, sheets: None, most_steps: 1_000 };
+    let mut words = std::env::args().skip(1);
+    while let Some(word) = words.next() {
+        let mut value = || words.next().unwrap_or_else(|| panic!("{word} needs a value"));
+        match word.as_str() {
+            "--seconds" => options.seconds = value().parse().expect("a number"),
+            "--seed" => options.seed = value().parse().expect("a number"),
+            "--case" => options.case = Some(value().parse().expect("a number")),
+            "--first" => options.first = true,
+            "--sheets" => options.sheets = Some(value()),
+            "--most-steps" => options.most_steps = value().parse().expect("a number"),
+            _ => panic!("no such option: {word}"),
+        }
+    }
+    options
+}
+
+/// Every forty-first case is large.
+fn one_case(report: &mut Report, seed: u64, case: u64) {
+    let mut random = Random::new(seed, case);
+    report.context = format!("seed {seed} case {case}");
+    let large = case % 41 == 40;
+    let items = match case % 100 {
+        99 => 0,
+        _ if large => random.between(7, 10),
+        _ => random.between(1, 6),
+    };
+    report.count(match items {
+        0 => "instances of no items",
+        1..=6 => SMALL,
+        _ => LARGE,
+    });
+    let instance = random::instance(&mut random, items);
+    parts::everything(report, &mut random, &instance, if items > 6 { 60 } else { 400 });
+}
+
+fn main() {
+    let options = options();
+    let began = Instant::now();
+    let mut report = Report::new(if options.first { 1 } else { 5 });
+    if let Some(case) = options.case {
+        one_case(&mut report, options.seed, case);
+    } else {
+        report.context = "the table".to_string();
+        table::small_halls(&mut report);
+        if let Some(file) = &options.sheets {
+            let text = std::fs::read_to_string(file).expect("the file of sheets");
+            table::from_file(&mut report, &text, options.most_steps);
+        }
+        report.context = "tiny halls".to_string();
+        let mut random = Random::new(options.seed, u64::MAX);
+        if !(options.first && report.differences > 0) {
+            tiny::all(&mut report, &mut random);
+        }
+        for case in 0.. {
+            let enough = options.seconds < 60.0 || report.counted(SMALL) >= LEAST_SMALL && report.counted(LARGE) >= LEAST_LARGE;
+            let over = began.elapsed().as_secs_f64() >= options.seconds;
+            if enough && over || options.first && report.differences > 0 {
+                break;
+            }
+            one_case(&mut report, options.seed, case);
+        }
+    }
+    report.print();
+    println!("{:>10.1}  seconds, seed {}", began.elapsed().as_secs_f64(), options.seed);
+    if report.differences > 0 {
+        std::process::exit(1);
+    }
+}

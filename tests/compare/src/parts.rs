@@ -1,0 +1,384 @@
+//! The comparisons. Each states what is expected by the independent implementation, and asks the library.
+
+use crate::library::{self, Searched};
+use crate::random::{self, Random};
+use crate::reference::bytes::{self, note_bytes, plan_bytes, NOTE_BYTES};
+use crate::reference::packing;
+use crate::reference::search::{opening, Branch, Look, Search, Status};
+use crate::reference::sheet::{self, Instance, Refusal};
+use crate::report::{hexadecimal, Report};
+
+fn code(refusal: &Refusal) -> (u32, usize) {
+    (refusal.number, refusal.place)
+}
+
+/// Reading, and the refusals of check and search on the same bytes.
+pub fn reading(report: &mut Report, kind: &'static str, sheet: &[u8]) {
+    let read = sheet::read(sheet);
+    let expected = read.as_ref().map_or_else(code, |_| (0, 0));
+    report.same(kind, &Ok(expected), &library::read(sheet), || hexadecimal(sheet));
+    let plan = vec![0; 6 * read.as_ref().map_or(1, |instance| instance.items.len())];
+    check(report, sheet, &plan);
+    if read.is_err() {
+        // "the sheet's refusals come first", also where a length is wrong
+        let (note, steps) = ([0; NOTE_BYTES + 1], [9, 8, 7, 6, 5]);
+        let wrong = sheet.len() % 4;
+        let (note, steps) = (&note[..NOTE_BYTES + (wrong & 1)], &steps[..4 + (wrong >> 1)]);
+        search(report, "search calls on refused sheets", sheet, note, 3, steps, &plan);
+    }
+}
+
+pub fn check(report: &mut Report, sheet: &[u8], plan: &[u8]) {
+    let expected = bytes::check(sheet, plan);
+    let kind = match expected {
+        0 => "checks: no",
+        1 => "checks: yes",
+        _ => "checks: refused",
+    };
+    report.same(kind, &Ok(expected), &library::check(sheet, plan), || {
+        format!("sheet {} plan {}", hexadecimal(sheet), hexadecimal(plan))
+    });
+}
+
+fn search_input(sheet: &[u8], note: &[u8], allowance: u32, steps: &[u8], plan: &[u8]) -> String {
+    format!(
+        "sheet {} note {} ({} bytes) allowance {allowance} steps {} plan {}",
+        hexadecimal(sheet),
+        hexadecimal(&note[..note.len().min(40)]),
+        note.len(),
+        hexadecimal(steps),
+        hexadecimal(plan)
+    )
+}
+
+/// One search call against the independent implementation's.
+pub fn search(report: &mut Report, kind: &'static str, sheet: &[u8], note: &[u8], allowance: u32, steps: &[u8], plan: &[u8]) -> u32 {
+    let (mut n, mut s, mut p) = (note.to_vec(), steps.to_vec(), plan.to_vec());
+    let returned = bytes::search(sheet, &mut n, allowance, &mut s, &mut p);
+    let expected = Searched { returned, note: Ok(n), steps: Ok(s), plan: Ok(p) };
+    let got = library::search(sheet, note, allowance, steps, plan);
+    report.same(kind, &Ok(expected), &got, || search_input(sheet, note, allowance, steps, plan));
+    returned
+}
+
+/// Reading and writing again, in rooms of several lengths.
+pub fn rewriting(report: &mut Report, random: &mut Random, sheet: &[u8]) {
+    let len = sheet.len();
+    for room in [len, len - 1, 0, len + 1, len + random.below(40)] {
+        let before: Vec<u8> = (0..room).map(|_| random.byte()).collect();
+        let mut after = before.clone();
+        let written = sheet::read(sheet).and_then(|instance| sheet::write(&instance, &mut after)).unwrap_or(0);
+        let kind = if written > 0 { "sheets written again" } else { "writings refused" };
+        report.same(kind, &Ok((written, after)), &library::rewrite(sheet, &before), || {
+            format!("sheet {} room {room}", hexadecimal(sheet))
+        });
+    }
+}
+
+pub fn records(report: &mut Report, sheet: &[u8]) {
+    let items = sheet::read(sheet).map_or(1, |instance| instance.items.len());
+    for item in (0..items + 1).chain([10, usize::MAX]) {
+        let record = sheet::item_record(sheet, item);
+        let kind = if record.is_ok() { "item records" } else { "item records refused" };
+        let expected = match record {
+            Ok(record) => (record.to_vec(), 0, 0),
+            Err(refusal) => (Vec::new(), refusal.number, refusal.place),
+        };
+        report.same(kind, &Ok(expected), &library::item_record(sheet, item), || {
+            format!("sheet {} item {item}", hexadecimal(sheet))
+        });
+    }
+}
+
+pub fn clearances(report: &mut Report, random: &mut Random, sheet: &[u8], instance: &Instance) {
+    for _ in 0..4 {
+        let n = instance.items.len();
+        let (u, v) = (random.below(n + 1), random.below(n + 1));
+        let axis = random.pick(&[0, 1, 2, 0, 1, 2, 3, 255]);
+        let most = random.pick(&[2, 8, 65536]);
+        let mut position = || [0; 3].map(|_: u16| random.below(most) as u16);
+        let (at_u, at_v) = (position(), position());
+        let mut positions = vec![[0; 3]; n + 1];
+        positions[u] = at_u.map(u32::from);
+        positions[v] = at_v.map(u32::from);
+        let (expected, kind) = match packing::clearance(instance, &positions, u, v, axis as usize) {
+            Ok(clearance) if clearance > 0 => ((clearance, 0), "clearances above 0"),
+            Ok(clearance) if clearance < 0 => ((clearance, 0), "clearances below 0"),
+            Ok(_) => ((0, 0), "clearances 0"),
+            Err(refusal) => ((0, refusal.number), "clearances refused"),
+        };
+        report.same(kind, &Ok(expected), &library::clearance(sheet, u, at_u, v, at_v, axis), || {
+            format!("sheet {} u {u} at {at_u:?} v {v} at {at_v:?} axis {axis}", hexadecimal(sheet))
+        });
+    }
+}
+
+/// The run of an instance, as far as it was taken.
+pub struct Run {
+    /// The note after each number of steps.
+    pub notes: Vec<Vec<u8>>,
+    /// How it ended, with the plan bytes where it is packed.
+    pub end: Option<(Status, Vec<u8>)>,
+}
+
+impl Run {
+    pub fn new(instance: &Instance, most_steps: usize) -> Run {
+        let mut search = Search::resume(instance, &opening()).expect("the opening follows every instance");
+        let mut notes = vec![note_bytes(&search.checkpoint)];
+        while search.checkpoint.status == Status::Open && notes.len() <= most_steps {
+            search.step();
+            notes.push(note_bytes(&search.checkpoint));
+        }
+        let end = match search.checkpoint.status {
+            Status::Open => None,
+            Status::Infeasible => Some((Status::Infeasible, Vec::new())),
+            Status::Packed => Some((Status::Packed, plan_bytes(&search.starts()))),
+        };
+        Run { notes, end }
+    }
+
+    /// The steps taken: the step count, where the run ended.
+    pub fn steps(&self) -> u64 {
+        self.notes.len() as u64 - 1
+    }
+}
+
+/// A list of calls on a sheet that reads: document 01's claim, call by call, with refused calls among them.
+pub fn list_of_calls(report: &mut Report, random: &mut Random, sheet: &[u8], items: usize, run: &Run, one_by_one: bool) {
+    let known = run.steps();
+    let calls = if one_by_one { known + 2 } else { random.between(1, 7) as u64 };
+    let mut note = vec![0; NOTE_BYTES];
+    let mut sum: u64 = 0;
+    report.count("lists of calls");
+    for _ in 0..calls {
+        if random.one_in(if one_by_one { 20 } else { 3 }) {
+            refused_call(report, random, sheet, items, &note);
+        }
+        let mut allowance = match random.below(8) {
+            _ if one_by_one => 1,
+            0 => 0,
+            1 => 1,
+            2 => 2,
+            3 => known.saturating_sub(1),
+            4 => known,
+            5 => known + 1,
+            6 => u32::MAX as u64,
+            _ => random.below(known as usize + 2) as u64,
+        };
+        if run.end.is_none() {
+            allowance = allowance.min(known - sum);
+        }
+        let before = sum.min(known);
+        sum += allowance;
+        let after = sum.min(known);
+        let plan: Vec<u8> = (0..6 * items).map(|_| random.byte()).collect();
+        let steps = [random.byte(), random.byte(), random.byte(), random.byte()];
+        let mut expected = Searched {
+            returned: 0,
+            note: Ok(run.notes[after as usize].clone()),
+            steps: Ok(((after - before) as u32).to_le_bytes().to_vec()),
+            plan: Ok(plan.clone()),
+        };
+        let kind = match &run.end {
+            Some((status, packed)) if sum >= known => {
+                if *status == Status::Packed {
+                    expected.returned = 1;
+                    expected.plan = Ok(packed.clone());
+                    "calls in lists: placed"
+                } else {
+                    expected.returned = 2;
+                    "calls in lists: none"
+                }
+            }
+            _ => "calls in lists: spent",
+        };
+        let got = library::search(sheet, &note, allowance as u32, &steps, &plan);
+        let input = || search_input(sheet, &note, allowance as u32, &steps, &plan);
+        if !report.same(kind, &Ok(expected), &got, input) {
+            return;
+        }
+        // The next call gets the note that this one left.
+        note = run.notes[after as usize].clone();
+    }
+}
+
+/// A call that is refused for the length of a buffer.
+pub fn refused_call(report: &mut Report, random: &mut Random, sheet: &[u8], items: usize, note: &[u8]) {
+    let mut note = note.to_vec();
+    let mut steps = vec![random.byte(); 4];
+    let mut plan = vec![random.byte(); 6 * items];
+    let spoilt = random.between(1, 7);
+    if spoilt & 1 != 0 {
+        note.resize(random.pick(&[272, 274, 0, 3, 270]), 0);
+    }
+    if spoilt & 2 != 0 {
+        steps.resize(random.pick(&[0, 1, 3, 5, 8]), 77);
+    }
+    if spoilt & 4 != 0 {
+        let wrong = [6 * items + 1, 6 * items + 6, 60, (6 * items).saturating_sub(1), 0];
+        plan.resize(random.pick(&wrong), 88);
+    }
+    let allowance = random.pick(&[0, 1, 7, u32::MAX]);
+    if note.len() != NOTE_BYTES || steps.len() != 4 || plan.len() != 6 * items {
+        search(report, "calls refused for a length", sheet, &note, allowance, &steps, &plan);
+    }
+}
+
+/// Checkpoints that no list of calls leaves: off the run, damaged, from another sheet.
+pub fn checkpoints(report: &mut Report, random: &mut Random, sheet: &[u8], instance: &Instance, run: &Run) {
+    let items = instance.items.len();
+    let on_run = run.notes[random.below(run.notes.len())].clone();
+    let off_run = note_off_run(random, instance);
+    let budgets: &[u32] = if items > 6 { &[0, 1, 2, 3] } else { &[0, 1, 2, 5, 25] };
+    let mut candidates: Vec<(&'static str, Vec<u8>)> = Vec::new();
+    for note in [&on_run, &off_run] {
+        let length = note[1] as usize + 256 * note[2] as usize;
+        let mut damaged = note.clone();
+        let place = if random.one_in(3) { random.below(NOTE_BYTES) } else { random.below((length + 5).min(NOTE_BYTES)) };
+        damaged[place] = match random.below(4) {
+            0 => random.byte(),
+            1 => damaged[place] ^ 1,
+            2 => damaged[place].wrapping_add(1),
+            _ => damaged[place].wrapping_sub(1),
+        };
+        candidates.push(("notes with one byte changed", damaged));
+        let mut state = note.clone();
+        state[0] = random.pick(&[0, 1, 2, 3]);
+        candidates.push(("notes with another state", state));
+        let mut longer = note.clone();
+        let new = random.pick(&[length + 1, length + 2, length.saturating_sub(1), 270, 271, 512, 65535]);
+        longer[1..3].copy_from_slice(&(new as u16).to_le_bytes());
+        candidates.push(("notes with another length", longer));
+    }
+    candidates.push(("notes off the run", off_run));
+    let another = random::instance(random, items);
+    candidates.push(("notes from another sheet", note_off_run(random, &another)));
+    for (kind, note) in candidates {
+        let budget = random.pick(budgets);
+        let steps = [random.byte(); 4];
+        let plan = vec![random.byte(); 6 * items];
+        let returned = search(report, kind, sheet, &note, budget, &steps, &plan);
+        if returned == 110 {
+            report.count("notes refused by 10");
+            // "8 before 10"
+            refused_call(report, random, sheet, items, &note);
+        } else {
+            report.count("notes followed");
+        }
+    }
+}
+
+/// A note whose shorter beginnings are forks, by chance.
+fn note_off_run(random: &mut Random, instance: &Instance) -> Vec<u8> {
+    let mut search = Search::resume(instance, &opening()).expect("the opening follows every instance");
+    let most = random.below(30);
+    while let Look::Fork { .. } = search.look() {
+        if search.checkpoint.path.len() >= most {
+            break;
+        }
+        search.append(random.pick(&[Branch::First, Branch::Second, Branch::Second]));
+    }
+    if search.look() == Look::Packed && random.one_in(2) {
+        search.checkpoint.status = Status::Packed;
+    }
+    note_bytes(&search.checkpoint)
+}
+
+/// Plans near a packed one, and by chance.
+pub fn plans(report: &mut Report, random: &mut Random, sheet: &[u8], instance: &Instance, run: &Run) {
+    let items = instance.items.len();
+    let mut candidates: Vec<Vec<u8>> = Vec::new();
+    if let Some((Status::Packed, packed)) = &run.end {
+        candidates.push(packed.clone());
+        for _ in 0..3.min(items) {
+            let mut moved = packed.clone();
+            let place = 2 * random.below(3 * items);
+            let start = u16::from_le_bytes([moved[place], moved[place + 1]]);
+            let start = if random.one_in(2) { start.wrapping_add(1) } else { start.wrapping_sub(1) };
+            moved[place..place + 2].copy_from_slice(&start.to_le_bytes());
+            candidates.push(moved);
+        }
+    }
+    if let Some((Status::Packed, packed)) = &run.end {
+        // The last first: as good but for the orders.
+        let mut reversed = bytes::positions_of(packed);
+        for (position, size) in reversed.iter_mut().zip(&instance.items) {
+            position[packing::TIME] = instance.container[packing::TIME] - position[packing::TIME] - size[packing::TIME];
+        }
+        candidates.push(plan_bytes(&reversed));
+    }
+    let mut positions = vec![[0u32; 3]; items];
+    for (item, position) in positions.iter_mut().enumerate() {
+        for axis in 0..3 {
+            let room = instance.container[axis].saturating_sub(instance.items[item][axis]);
+            position[axis] = random.below(room as usize + 1) as u32;
+        }
+    }
+    candidates.push(plan_bytes(&positions));
+    candidates.push(vec![255; 6 * items]);
+    for plan in candidates {
+        check(report, sheet, &plan);
+    }
+    let wrong = random.pick(&[6 * items + 1, 6 * items + 6, (6 * items).saturating_sub(1), 0, 60]);
+    check(report, sheet, &vec![0; wrong]);
+}
+
+/// The bytes of a sheet damaged, cut and extended.
+pub fn damaged_sheets(report: &mut Report, random: &mut Random, sheet: &[u8], damages: usize) {
+    for len in 0..sheet.len() {
+        reading(report, "sheets cut short", &sheet[..len]);
+    }
+    for more in 1..3 {
+        let mut longer = sheet.to_vec();
+        longer.extend((0..more).map(|_| random.byte()));
+        reading(report, "sheets extended", &longer);
+    }
+    for _ in 0..damages {
+        let mut damaged = sheet.to_vec();
+        let place = if random.one_in(4) { 0 } else { random.below(sheet.len()) };
+        damaged[place] = match random.below(6) {
+            0 => random.byte(),
+            1 => damaged[place] ^ (1 << random.below(8)),
+            2 => damaged[place].wrapping_add(1),
+            3 => damaged[place].wrapping_sub(1),
+            4 => 0,
+            _ => random.pick(&[1, 2, 7, 8, 10, 11, 90, 91, 255]),
+        };
+        reading(report, "sheets with one byte changed", &damaged);
+        if random.one_in(4) {
+            records(report, &damaged);
+            rewriting(report, random, &damaged);
+        }
+        // Twice damaged and cut: which fault is first.
+        let place = random.below(sheet.len());
+        damaged[place] = random.pick(&[0, 1, 2, 8, 64, 91, 255]);
+        damaged.truncate(random.between(1, sheet.len()));
+        reading(report, "sheets damaged twice and cut", &damaged);
+    }
+}
+
+/// Everything about one instance.
+pub fn everything(report: &mut Report, random: &mut Random, instance: &Instance, most_steps: usize) {
+    let sheet = sheet::encode(instance);
+    let items = instance.items.len();
+    reading(report, "sheets read", &sheet);
+    damaged_sheets(report, random, &sheet, 6);
+    rewriting(report, random, &sheet);
+    records(report, &sheet);
+    clearances(report, random, &sheet, instance);
+    let run = Run::new(instance, most_steps);
+    report.add("steps of runs", run.steps());
+    report.count(match &run.end {
+        Some((Status::Packed, _)) => "runs placed",
+        Some(_) => "runs none",
+        None => "runs not taken to their end",
+    });
+    for _ in 0..2 {
+        list_of_calls(report, random, &sheet, items, &run, false);
+    }
+    if run.steps() < 60 && random.one_in(8) {
+        list_of_calls(report, random, &sheet, items, &run, true);
+    }
+    checkpoints(report, random, &sheet, instance, &run);
+    plans(report, random, &sheet, instance, &run);
+}

@@ -1,0 +1,118 @@
+//! Numbers from a seed, and instances with small measures.
+
+use crate::reference::sheet::Instance;
+
+/// SplitMix64.
+pub struct Random(u64);
+
+impl Random {
+    pub fn new(seed: u64, case: u64) -> Random {
+        let mut random = Random(seed ^ case.wrapping_mul(0xD1B5_4A32_D192_ED03));
+        random.next();
+        random
+    }
+
+    pub fn next(&mut self) -> u64 {
+        self.0 = self.0.wrapping_add(0x9E37_79B9_7F4A_7C15);
+        let mut z = self.0;
+        z = (z ^ (z >> 30)).wrapping_mul(0xBF58_476D_1CE4_E5B9);
+        z = (z ^ (z >> 27)).wrapping_mul(0x94D0_49BB_1331_11EB);
+        z ^ (z >> 31)
+    }
+
+    /// 0 to bound - 1.
+    pub fn below(&mut self, bound: usize) -> usize {
+        (self.next() % bound as u64) as usize
+    }
+
+    pub fn between(&mut self, least: usize, most: usize) -> usize {
+        least + self.below(most + 1 - least)
+    }
+
+    pub fn one_in(&mut self, bound: usize) -> bool {
+        self.below(bound) == 0
+    }
+
+    pub fn byte(&mut self) -> u8 {
+        self.next() as u8
+    }
+
+    pub fn pick<T: Copy>(&mut self, from: &[T]) -> T {
+        from[self.below(from.len())]
+    }
+}
+
+/// An instance whose items take up a good part of the container, so that answers vary.
+pub fn instance(random: &mut Random, items: usize) -> Instance {
+    let flat = random.below(3);
+    let most = random.pick(&[2, 3, 4, 6, 9]);
+    let mut sizes: Vec<[u32; 3]> = Vec::new();
+    for _ in 0..items {
+        let mut size = [1; 3];
+        for axis in 0..3 {
+            if !(flat == 0 && axis == 1) {
+                size[axis] = random.between(1, most) as u32;
+            }
+        }
+        sizes.push(size);
+    }
+    let mut container = [1; 3];
+    for axis in 0..3 {
+        container[axis] = sizes.iter().map(|size| size[axis]).max().unwrap_or(1);
+    }
+    // Grow the container until the items take up no more than a chosen part of its volume.
+    let volume = |size: &[u32; 3]| size.iter().map(|&m| m as u64).product::<u64>();
+    let taken: u64 = sizes.iter().map(volume).sum();
+    let percent = random.pick(&[60, 80, 90, 95, 100, 100, 110]);
+    while volume(&container) * percent < taken * 100 {
+        let axis = if flat == 0 { random.pick(&[0, 2]) } else { random.below(3) };
+        container[axis] += 1;
+    }
+    if random.one_in(12) {
+        let axis = random.below(3);
+        container[axis] = random.between(1, 12) as u32;
+    }
+    let mut precedences = Vec::new();
+    if items > 1 && random.one_in(2) {
+        let orders = random.between(1, items);
+        let circles = random.one_in(6);
+        for _ in 0..orders {
+            let (u, v) = (random.below(items), random.below(items));
+            if u != v {
+                precedences.push(if circles { (u, v) } else { (u.min(v), u.max(v)) });
+            }
+        }
+        // Along a hidden sequence that is not that of the numbers.
+        let turn = random.below(items);
+        for (u, v) in &mut precedences {
+            *u = (*u + turn) % items;
+            *v = (*v + turn) % items;
+        }
+    }
+    if random.one_in(10) {
+        // Many orders, up to all there are.
+        let percent = random.pick(&[20, 60, 100]);
+        let circles = random.one_in(3);
+        for u in 0..items {
+            for v in 0..items {
+                if (u < v || circles && u != v) && random.below(100) < percent {
+                    precedences.push((u, v));
+                }
+            }
+        }
+    }
+    precedences.sort();
+    precedences.dedup();
+    let any = random.between(1, 65535) as u32;
+    let yard_number = random.pick(&[0, 0, 0, 0, 0, 1, 2, 256, 65535, any]);
+    if random.one_in(40) {
+        // Large measures: the same problem in other units.
+        let factor = 65535 / sizes.iter().chain([&container]).flatten().max().expect("the container's");
+        for size in sizes.iter_mut().chain([&mut container]) {
+            for measure in size.iter_mut() {
+                *measure *= factor;
+            }
+        }
+    }
+    Instance { container, items: sizes, precedences, yard_number }
+}

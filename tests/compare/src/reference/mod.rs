@@ -1,0 +1,8 @@
+//! The planner once more, written from document 01 alone: sets of relations, the five rules as they stand there, all rows of
+//! distinct items for the greatest chains. It shares no code, table or layout with the crates.
+
+pub mod bytes;
+pub mod packing;
+pub mod relations;
+pub mod search;
+pub mod sheet;

@@ -1,0 +1,42 @@
+//! "Fit": what a feasible packing is, and the clearance of two items.
+
+use super::sheet::{refuse, Instance, Refusal};
+
+/// x, y, t.
+pub type Position = [u32; 3];
+
+pub const TIME: usize = 2;
+
+fn end(instance: &Instance, positions: &[Position], item: usize, axis: usize) -> u32 {
+    positions[item][axis] + instance.items[item][axis]
+}
+
+/// "one ends at or before the other's start (touching is allowed)"
+fn ends_before(instance: &Instance, positions: &[Position], u: usize, v: usize, axis: usize) -> bool {
+    end(instance, positions, u, axis) <= positions[v][axis]
+}
+
+pub fn is_feasible(instance: &Instance, positions: &[Position]) -> bool {
+    let n = instance.items.len();
+    let inside = (0..n).all(|u| (0..3).all(|axis| end(instance, positions, u, axis) <= instance.container[axis]));
+    let apart = |u, v| {
+        (0..3).any(|axis| {
+            ends_before(instance, positions, u, v, axis) || ends_before(instance, positions, v, u, axis)
+        })
+    };
+    let all_apart = (0..n).all(|v| (0..v).all(|u| apart(u, v)));
+    let ordered = instance.precedences.iter().all(|&(u, v)| ends_before(instance, positions, u, v, TIME));
+    inside && all_apart && ordered
+}
+
+/// "the greater of (v's start − u's end) and (u's start − v's end)"; "clearance then tests 5 and then 8"
+pub fn clearance(instance: &Instance, positions: &[Position], u: usize, v: usize, axis: usize) -> Result<i64, Refusal> {
+    if u >= instance.items.len() || v >= instance.items.len() {
+        return refuse(5, 0);
+    }
+    if axis > 2 {
+        return refuse(8, 0);
+    }
+    let after = |u: usize, v: usize| positions[v][axis] as i64 - end(instance, positions, u, axis) as i64;
+    Ok(after(u, v).max(after(v, u)))
+}

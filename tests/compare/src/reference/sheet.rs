@@ -1,0 +1,195 @@
+//! "Sheet bytes" and "Refusals": reading and writing instances, and the records of their items.
+
+use std::ops::Range;
+
+pub const MOST_ITEMS: usize = 10;
+pub const MOST_PRECEDENCES: usize = 90;
+
+/// A number of the table of refusals, with the place that is returned beside it.
+#[derive(Clone, Copy, PartialEq, Eq, Debug)]
+pub struct Refusal {
+    pub number: u32,
+    pub place: usize,
+}
+
+pub fn refuse<T>(number: u32, place: usize) -> Result<T, Refusal> {
+    Err(Refusal { number, place })
+}
+
+#[derive(Clone, PartialEq, Eq, Debug)]
+pub struct Instance {
+    /// Width, depth, shifts.
+    pub container: [u32; 3],
+    pub items: Vec<[u32; 3]>,
+    pub precedences: Vec<(usize, usize)>,
+    pub yard_number: u32,
+}
+
+/// What is left to read: "Reading goes left to right and gives the first fault".
+struct Reader<'a> {
+    sheet: &'a [u8],
+    at: usize,
+}
+
+impl Reader<'_> {
+    fn byte(&mut self) -> Result<u8, Refusal> {
+        // 1: "it ends before a byte that is due, the first map byte included"
+        match self.sheet.get(self.at) {
+            None => refuse(1, self.sheet.len()),
+            Some(&byte) => {
+                self.at += 1;
+                Ok(byte)
+            }
+        }
+    }
+
+    /// "A field .. is judged once all its bytes are read": 3 where it is below `least`.
+    fn field(&mut self, least: u32) -> Result<u32, Refusal> {
+        let place = self.at;
+        let low = self.byte()? as u32;
+        let high = self.byte()? as u32;
+        let value = low + 256 * high;
+        if value < least {
+            return refuse(3, place);
+        }
+        Ok(value)
+    }
+
+    /// 2: "a bit stands that has no meaning"
+    fn map(&mut self, bits: usize) -> Result<Vec<bool>, Refusal> {
+        let place = self.at;
+        let byte = self.byte()?;
+        let standing: Vec<bool> = (0..8).map(|bit| byte & (1 << bit) != 0).collect();
+        if standing[bits..].contains(&true) {
+            return refuse(2, place);
+        }
+        Ok(standing)
+    }
+
+    /// "bits 0, 1, 2: width, depth, shifts", "left out means 1"
+    fn size(&mut self, standing: &[bool]) -> Result<[u32; 3], Refusal> {
+        let mut size = [1; 3];
+        for axis in 0..3 {
+            if standing[axis] {
+                size[axis] = self.field(2)?;
+            }
+        }
+        Ok(size)
+    }
+
+    /// 4: "count 0, over 10 pieces, over 90 orders"
+    fn count(&mut self, most: usize) -> Result<usize, Refusal> {
+        let place = self.at;
+        let count = self.byte()? as usize;
+        if count == 0 || count > most {
+            return refuse(4, place);
+        }
+        Ok(count)
+    }
+}
+
+/// The instance, and the part of the sheet that is each item's record.
+pub fn read_with_records(sheet: &[u8]) -> Result<(Instance, Vec<Range<usize>>), Refusal> {
+    let mut reader = Reader { sheet, at: 0 };
+    let standing = reader.map(6)?;
+    let container = reader.size(&standing)?;
+    let mut items = Vec::new();
+    let mut records = Vec::new();
+    if standing[3] {
+        for _ in 0..reader.count(MOST_ITEMS)? {
+            let start = reader.at;
+            let standing = reader.map(3)?;
+            items.push(reader.size(&standing)?);
+            records.push(start..reader.at);
+        }
+    }
+    let mut precedences: Vec<(usize, usize)> = Vec::new();
+    if standing[4] {
+        for _ in 0..reader.count(MOST_PRECEDENCES)? {
+            let place = reader.at;
+            let u = reader.byte()? as usize;
+            let v = reader.byte()? as usize;
+            if !names_items(items.len(), (u, v)) {
+                return refuse(5, place);
+            }
+            if precedences.last().is_some_and(|&last| (u, v) <= last) {
+                return refuse(6, place);
+            }
+            precedences.push((u, v));
+        }
+    }
+    let yard_number = if standing[5] { reader.field(1)? } else { 0 };
+    if reader.at < sheet.len() {
+        return refuse(7, reader.at);
+    }
+    let instance = Instance { container, items, precedences, yard_number };
+    Ok((instance, records))
+}
+
+/// Not 5: "a piece not on the sheet, or u = v in an order".
+fn names_items(items: usize, (u, v): (usize, usize)) -> bool {
+    u < items && v < items && u != v
+}
+
+pub fn read(sheet: &[u8]) -> Result<Instance, Refusal> {
+    read_with_records(sheet).map(|(instance, _)| instance)
+}
+
+/// "a piece's record, map byte and fields, is handed out as that part of the lent sheet itself"
+pub fn item_record(sheet: &[u8], item: usize) -> Result<&[u8], Refusal> {
+    let (_, records) = read_with_records(sheet)?;
+    match records.get(item) {
+        None => refuse(5, 0),
+        Some(record) => Ok(&sheet[record.clone()]),
+    }
+}
+
+/// The map's low three bits, and the fields.
+fn size_bytes(size: &[u32; 3]) -> (u8, Vec<u8>) {
+    let mut map = 0;
+    let mut fields = Vec::new();
+    for axis in 0..3 {
+        if size[axis] > 1 {
+            map |= 1 << axis;
+            fields.extend((size[axis] as u16).to_le_bytes());
+        }
+    }
+    (map, fields)
+}
+
+/// "A map byte comes first, then only the fields whose bit stands, by rising bit."
+pub fn encode(instance: &Instance) -> Vec<u8> {
+    let (mut map, mut fields) = size_bytes(&instance.container);
+    if !instance.items.is_empty() {
+        map |= 8;
+        fields.push(instance.items.len() as u8);
+        for size in &instance.items {
+            let (bits, measures) = size_bytes(size);
+            fields.push(bits);
+            fields.extend(measures);
+        }
+    }
+    if !instance.precedences.is_empty() {
+        map |= 16;
+        fields.push(instance.precedences.len() as u8);
+        for &(u, v) in &instance.precedences {
+            fields.extend([u as u8, v as u8]);
+        }
+    }
+    if instance.yard_number != 0 {
+        map |= 32;
+        fields.extend((instance.yard_number as u16).to_le_bytes());
+    }
+    fields.insert(0, map);
+    fields
+}
+
+/// "Writing returns the sheet's length, and fills that many bytes and no byte after them."
+pub fn write(instance: &Instance, room: &mut [u8]) -> Result<usize, Refusal> {
+    let sheet = encode(instance);
+    if room.len() < sheet.len() {
+        return refuse(8, 0);
+    }
+    room[..sheet.len()].copy_from_slice(&sheet);
+    Ok(sheet.len())
+}
