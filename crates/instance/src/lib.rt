@@ -11,8 +11,8 @@ use records::Size;
 use refusal::Refusal;
 
 pub mod label;
-pub mod read;
-pub mod write;
+mod read;
+mod write;
 
 // A sheet. Entries past the counts are no part of it.
 pub struct Instance {
