@@ -1,115 +1,215 @@
-/* Lengths, refusals and what is written: every buffer is compared whole. */
+/* Check and search as a C client calls them: every row of document 01's "Small halls", alone and as lists of calls with refused
+ * calls among them; wrong lengths; damaged notes. The buffers are compared whole, with a guard byte on each side. */
 #include "hallplan.h"
 
 #include <stdio.h>
 #include <string.h>
 
+#define GUARD 0xA5
+#define MOST_PIECES 5
+#define MOST_STEPS 3
+
+/* The buffers lent to be written. */
+struct lent {
+    uint8_t note[1 + HALLPLAN_NOTE_BYTES + 1];
+    uint8_t steps[1 + HALLPLAN_STEP_BYTES + 1];
+    uint8_t plan[1 + HALLPLAN_PIECE_BYTES * MOST_PIECES + 1];
+};
+
+/* A row of the table: what it gives, after how many steps, the starts of a placed plan and the row of turns after each step. */
+struct row {
+    const char *name, *sheet;
+    size_t len, pieces;
+    uint32_t answer, steps;
+    const char *turns[MOST_STEPS + 1];
+    uint8_t starts[3 * MOST_PIECES];
+};
+
+#define BYTES(text) text, sizeof text - 1
+#define REFUSED(number) HALLPLAN_REFUSED + number, 0, {""}, {0}
+#define BOXES "\x05\x05\x3A\x00\x14\x00\x05\x63\x00\x03\x00\x05\x07\x00\x35\x00\x05\x0B\x00\x5A\x00\x05\x1A\x00\x41\x00" \
+    "\x07\x01\x03\x01\x04\x02\x00\x02\x01\x02\x03\x03\x00\x04\x03"
+#define TWO_UNITS "\x0F\x02\x00\x02\x00\x02\x00\x02\x00\x00"
+
+static const struct row rows[] = {
+    {"byte 00 alone", BYTES("\x00"), 0, HALLPLAN_PLACED, 1, {"", ""}, {0}},
+    {"2x1x2; 2x1x1, 1x1x1; order 1,0", BYTES("\x1D\x02\x00\x02\x00\x02\x01\x02\x00\x00\x01\x01\x00"), 2, HALLPLAN_PLACED, 1, {"", ""}, {0, 0, 1, 0, 0, 0}},
+    {"the same, no order", BYTES("\x0D\x02\x00\x02\x00\x02\x01\x02\x00\x00"), 2, HALLPLAN_PLACED, 2, {"", "0", "0"}, {0, 0, 0, 0, 0, 1}},
+    {"2x1x1; same pieces, order 1,0", BYTES("\x19\x02\x00\x02\x01\x02\x00\x00\x01\x01\x00"), 2, HALLPLAN_NONE, 1, {"", ""}, {0}},
+    {"1x1x1; 2x1x1", BYTES("\x08\x01\x01\x02\x00"), 1, HALLPLAN_NONE, 1, {"", ""}, {0}},
+    {"1x1x1; 1x1x1", BYTES("\x08\x01\x00"), 1, HALLPLAN_PLACED, 1, {"", ""}, {0, 0, 0}},
+    {"2x2x2; two of 1x1x1", BYTES(TWO_UNITS), 2, HALLPLAN_PLACED, 3, {"", "0", "00", "00"}, {0, 0, 0, 1, 0, 0}},
+    {"2x1x1; three of 1x1x1", BYTES("\x09\x02\x00\x03\x00\x00\x00"), 3, HALLPLAN_NONE, 3, {"", "0", "1", ""}, {0}},
+    {"3x1x3; three of 1x1x1; a circle", BYTES("\x1D\x03\x00\x03\x00\x03\x00\x00\x00\x03\x00\x01\x01\x02\x02\x00"), 3, HALLPLAN_NONE, 1, {"", ""}, {0}},
+    {"bytes 01 01 00", BYTES("\x01\x01\x00"), 0, REFUSED(3)},
+    {"bytes 01 02", BYTES("\x01\x02"), 0, REFUSED(1)},
+    {"bytes 40", BYTES("\x40"), 0, REFUSED(2)},
+    {"bytes 00 00", BYTES("\x00\x00"), 0, REFUSED(7)},
+    {"bytes 08 00", BYTES("\x08\x00"), 0, REFUSED(4)},
+    {"100x1x231; boxes of okp17-4", BYTES("\x1D\x64\x00\xE7\x00" BOXES), 5, HALLPLAN_PLACED, 1, {"", ""}, {0, 0, 211, 0, 0, 53, 0, 0, 0, 0, 0, 121, 0, 0, 56}},
+    {"100x1x230; boxes of okp17-4", BYTES("\x1D\x64\x00\xE6\x00" BOXES), 5, HALLPLAN_NONE, 1, {"", ""}, {0}},
+};
+
 static int failed;
 
-static void expect(int line, uint32_t got, uint32_t want)
+static void expect(int line, const char *name, uint32_t got, uint32_t want)
 {
     if (got != want) {
-        printf("tests/c_api.c:%d: %u, and not %u\n", line, (unsigned)got, (unsigned)want);
+        printf("tests/c_api.c:%d: %s: %u, and not %u\n", line, name, (unsigned)got, (unsigned)want);
         failed = 1;
     }
 }
 
-#define EXPECT(got, want) expect(__LINE__, (got), (want))
+#define EXPECT(name, got, want) expect(__LINE__, (name), (got), (want))
 
-/* Buffers with a guard byte on each side. */
-static uint8_t note[275], steps[6], plan[62];
-
-static void fill(void)
+static uint32_t lesser(uint32_t a, uint32_t b)
 {
-    memset(note, 0xA5, sizeof note);
-    memset(steps, 0xA5, sizeof steps);
-    memset(plan, 0xA5, sizeof plan);
+    return a < b ? a : b;
 }
 
-static int all(const uint8_t *s, size_t n, uint8_t b)
+static const uint8_t *sheet_of(const struct row *row)
 {
-    for (size_t i = 0; i < n; i++) {
-        if (s[i] != b) {
-            return 0;
+    return (const uint8_t *)row->sheet;
+}
+
+/* The opening note; nothing in the steps and the plan. */
+static struct lent opening(void)
+{
+    struct lent lent;
+    memset(&lent, GUARD, sizeof lent);
+    memset(lent.note + 1, 0, HALLPLAN_NOTE_BYTES);
+    return lent;
+}
+
+/* The buffers after a call that took the run from `from` to `to` steps: document 01's claim, from what the table says. */
+static struct lent left_by(const struct row *row, uint32_t from, uint32_t to)
+{
+    struct lent lent = opening();
+    const char *turns = row->turns[to];
+    int placed = to == row->steps && row->answer == HALLPLAN_PLACED;
+    lent.note[1] = to < row->steps ? 0 : placed ? 2 : 1;
+    lent.note[2] = (uint8_t)strlen(turns);
+    for (size_t i = 0; turns[i]; i++) {
+        lent.note[4 + i] = (uint8_t)(turns[i] - '0');
+    }
+    memset(lent.steps + 1, 0, HALLPLAN_STEP_BYTES);
+    lent.steps[1] = (uint8_t)(to - from);
+    for (size_t i = 0; placed && i < 3 * row->pieces; i++) {
+        lent.plan[1 + 2 * i] = row->starts[i];
+        lent.plan[2 + 2 * i] = 0;
+    }
+    return lent;
+}
+
+/* A call that must be refused with `want`, and leave every byte. */
+static void refused(const struct row *row, struct lent lent, size_t note, size_t steps, size_t plan, uint32_t want)
+{
+    struct lent before = lent;
+    EXPECT(row->name, hallplan_search(sheet_of(row), row->len, lent.note + 1, note, 9, lent.steps + 1, steps, lent.plan + 1, plan), want);
+    EXPECT(row->name, memcmp(&lent, &before, sizeof lent) == 0, 1);
+}
+
+/* Refused calls on the buffers as they are: other lengths, a damaged note, a refused sheet. */
+static void refused_calls(const struct row *row, struct lent lent)
+{
+    static const struct row cut = {"a sheet cut short", BYTES("\x01\x02"), 0, REFUSED(1)};
+    static const size_t lengths[][3] = {{272, 4, 0}, {274, 4, 0}, {0, 4, 0}, {273, 3, 0}, {273, 5, 0}, {273, 4, 1}, {273, 4, 6}, {272, 5, 1}};
+    static const size_t damages[][2] = {{0, 3}, {2, 2}, {3, 2}, {272, 1}};
+    size_t plan = HALLPLAN_PIECE_BYTES * row->pieces;
+    int sheet_reads = row->answer < HALLPLAN_REFUSED;
+    refused(&cut, lent, 273, 4, plan, cut.answer);
+    for (size_t k = 0; k < sizeof lengths / sizeof lengths[0]; k++) {
+        size_t wrong = lesser(plan + lengths[k][2], HALLPLAN_PIECE_BYTES * MOST_PIECES + 1);
+        refused(row, lent, lengths[k][0], lengths[k][1], wrong, sheet_reads ? HALLPLAN_REFUSED + 8 : row->answer);
+    }
+    for (size_t k = 0; k < sizeof damages / sizeof damages[0]; k++) {
+        struct lent damaged = lent;
+        damaged.note[1 + damages[k][0]] = (uint8_t)damages[k][1];
+        refused(row, damaged, 273, 4, plan, sheet_reads ? HALLPLAN_REFUSED + 10 : row->answer);
+    }
+}
+
+/* A list of calls from the opening note, with refused calls before each. */
+static void list_of_calls(const struct row *row, const uint32_t *allowances, size_t calls)
+{
+    struct lent lent = opening();
+    uint32_t sum = 0;
+    size_t plan = HALLPLAN_PIECE_BYTES * row->pieces;
+    for (size_t k = 0; k < calls; k++) {
+        refused_calls(row, lent);
+        uint32_t from = sum;
+        sum = lesser(row->steps, lesser(row->steps, allowances[k]) + sum);
+        struct lent want = row->answer < HALLPLAN_REFUSED ? left_by(row, from, sum) : opening();
+        memset(lent.steps + 1, GUARD, HALLPLAN_STEP_BYTES);
+        memset(lent.plan + 1, GUARD, plan);
+        uint32_t answer = hallplan_search(sheet_of(row), row->len, lent.note + 1, 273, allowances[k], lent.steps + 1, 4, lent.plan + 1, plan);
+        EXPECT(row->name, answer, sum < row->steps ? HALLPLAN_SPENT : row->answer);
+        EXPECT(row->name, memcmp(&lent, &want, sizeof lent) == 0, 1);
+        if (answer == HALLPLAN_PLACED) {
+            EXPECT(row->name, hallplan_check(sheet_of(row), row->len, lent.plan + 1, plan), HALLPLAN_YES);
         }
     }
-    return 1;
 }
 
-static int untouched(void)
+static void small_halls(void)
 {
-    return all(note, sizeof note, 0xA5) && all(steps, sizeof steps, 0xA5) && all(plan, sizeof plan, 0xA5);
+    static const uint32_t lists[][5] = {
+        {1000000, 0, 1, 7, 1000000}, {0, 1, 1, 1, 1}, {1, 1, 1, 1, 1}, {2, 2, 2, 2, 2}, {0, 0, 3, 0, 0}, {0xFFFFFFFF, 0xFFFFFFFF, 1, 0, 2}};
+    for (size_t r = 0; r < sizeof rows / sizeof rows[0]; r++) {
+        for (size_t k = 0; k < sizeof lists / sizeof lists[0]; k++) {
+            list_of_calls(&rows[r], lists[k], 5);
+        }
+    }
+}
+
+/* "the last, allowances 0, 1, 1, 1": "spent 0, spent 1, spent 1, placed 1" */
+static void small_hall_in_parts(void)
+{
+    static const uint8_t sheet[] = TWO_UNITS;
+    static const uint32_t calls[][3] = {{0, HALLPLAN_SPENT, 0}, {1, HALLPLAN_SPENT, 1}, {1, HALLPLAN_SPENT, 1}, {1, HALLPLAN_PLACED, 1}};
+    uint8_t note[HALLPLAN_NOTE_BYTES] = {0}, steps[HALLPLAN_STEP_BYTES], plan[2 * HALLPLAN_PIECE_BYTES];
+    for (size_t k = 0; k < sizeof calls / sizeof calls[0]; k++) {
+        EXPECT("in parts", hallplan_search(sheet, sizeof sheet - 1, note, sizeof note, calls[k][0], steps, sizeof steps, plan, sizeof plan), calls[k][1]);
+        EXPECT("in parts", steps[0] + 256u * steps[1], calls[k][2]);
+    }
+}
+
+/* Check: 8 for every other length, after the sheet's refusals. */
+static void checks(void)
+{
+    const struct row *row = &rows[1];
+    static const uint8_t fits[18] = {0, 0, 0, 0, 1, 0}, late[12] = {0, 0, 0, 0, 0, 1}, at_once[12] = {0};
+    EXPECT("fits", hallplan_check(sheet_of(row), row->len, fits, 12), HALLPLAN_YES);
+    EXPECT("past the last shift", hallplan_check(sheet_of(row), row->len, late, 12), HALLPLAN_NO);
+    EXPECT("in one place", hallplan_check(sheet_of(row), row->len, at_once, 12), HALLPLAN_NO);
+    for (size_t n = 0; n <= sizeof fits; n++) {
+        EXPECT("length", hallplan_check(sheet_of(row), row->len, fits, n), n == 12 ? HALLPLAN_YES : HALLPLAN_REFUSED + 8);
+    }
+    for (size_t len = 0; len < row->len; len++) {
+        EXPECT("cut", hallplan_check(sheet_of(row), len, fits, len), HALLPLAN_REFUSED + 1);
+    }
+}
+
+/* Notes that get 10 on the printed example, which places at once: a state, a length, a turn that are none; bytes past the length;
+ * a row where there is no branching point; a none note with a row. */
+static void notes(void)
+{
+    static const size_t bad[][4] = {{0, 3, 0, 0}, {1, 15, 2, 1}, {1, 1, 3, 2}, {3, 1, 3, 1}, {272, 1, 0, 0}, {0, 1, 1, 1}, {1, 1, 0, 0}, {0, 2, 1, 1}};
+    for (size_t k = 0; k < sizeof bad / sizeof bad[0]; k++) {
+        struct lent lent = opening();
+        lent.note[1 + bad[k][0]] = (uint8_t)bad[k][1];
+        if (bad[k][2]) {
+            lent.note[1 + bad[k][2]] = (uint8_t)bad[k][3];
+        }
+        refused(&rows[1], lent, 273, 4, 12, HALLPLAN_REFUSED + 10);
+    }
 }
 
 int main(void)
 {
-    /* document 01's printed example: two pieces, piece 0 at t 1 */
-    static const uint8_t sheet[] = {0x1D, 2, 0, 2, 0, 2, 1, 2, 0, 0, 1, 1, 0};
-    static const uint8_t fits[12] = {0, 0, 0, 0, 1, 0, 0, 0, 0, 0, 0, 0};
-    static const uint8_t late[12] = {0, 0, 0, 0, 0, 1, 0, 0, 0, 0, 0, 0};
-
-    /* check: 8 for every other length, after the sheet's refusals */
-    EXPECT(hallplan_check(sheet, sizeof sheet, fits, 12), 1);
-    EXPECT(hallplan_check(sheet, sizeof sheet, late, 12), 0);
-    for (size_t n = 0; n < 12; n++) {
-        EXPECT(hallplan_check(sheet, sizeof sheet, fits, n), 108);
-    }
-    EXPECT(hallplan_check(sheet, 12, fits, 11), 101);
-    EXPECT(hallplan_check(sheet, 0, fits, 0), 101);
-
-    /* search: a refused call writes nothing */
-    fill();
-    EXPECT(hallplan_search(sheet, 12, note + 1, 273, 9, steps + 1, 4, plan + 1, 12), 101);
-    EXPECT(hallplan_search(sheet, 12, note + 1, 272, 9, steps + 1, 3, plan + 1, 11), 101);
-    EXPECT(hallplan_search(sheet, sizeof sheet, note + 1, 272, 9, steps + 1, 4, plan + 1, 12), 108);
-    EXPECT(hallplan_search(sheet, sizeof sheet, note + 1, 273, 9, steps + 1, 3, plan + 1, 12), 108);
-    EXPECT(hallplan_search(sheet, sizeof sheet, note + 1, 273, 9, steps + 1, 4, plan + 1, 11), 108);
-    EXPECT(hallplan_search(sheet, sizeof sheet, note + 1, 273, 9, steps + 1, 4, plan + 1, 18), 108);
-    EXPECT(hallplan_search(sheet, sizeof sheet, note + 1, 273, 9, steps + 1, 4, plan + 1, 12), 110);
-    EXPECT(untouched(), 1);
-
-    /* notes that get 10: state 3, length 271, a turn 2, a byte past the length, none with a row, no branching point */
-    static const int bad[][4] = {{0, 3, 0, 0}, {1, 15, 2, 1}, {1, 1, 3, 2}, {3, 1, 3, 1}, {272, 1, 0, 0}, {0, 1, 1, 1}, {1, 1, 0, 0}, {0, 2, 1, 1}};
-    for (size_t k = 0; k < sizeof bad / sizeof bad[0]; k++) {
-        fill();
-        memset(note + 1, 0, 273);
-        note[1 + bad[k][0]] = (uint8_t)bad[k][1];
-        if (bad[k][2]) {
-            note[1 + bad[k][2]] = (uint8_t)bad[k][3];
-        }
-        uint8_t before[275];
-        memcpy(before, note, sizeof note);
-        EXPECT(hallplan_search(sheet, sizeof sheet, note + 1, 273, 9, steps + 1, 4, plan + 1, 12), 110);
-        EXPECT(memcmp(before, note, sizeof note), 0);
-        EXPECT(all(steps, sizeof steps, 0xA5) && all(plan, sizeof plan, 0xA5), 1);
-    }
-
-    /* spent leaves the plan; placed writes all three and repeats itself with 0 steps */
-    fill();
-    memset(note + 1, 0, 273);
-    EXPECT(hallplan_search(sheet, sizeof sheet, note + 1, 273, 0, steps + 1, 4, plan + 1, 12), 0);
-    EXPECT(all(note + 1, 273, 0) && all(steps + 1, 4, 0) && all(plan, sizeof plan, 0xA5), 1);
-    EXPECT(hallplan_search(sheet, sizeof sheet, note + 1, 273, 4000000000u, steps + 1, 4, plan + 1, 12), 1);
-    EXPECT(note[1] == 2 && all(note + 2, 272, 0), 1);
-    EXPECT(steps[1] == 1 && all(steps + 2, 3, 0), 1);
-    EXPECT(memcmp(plan + 1, fits, 12), 0);
-    memset(plan + 1, 0xA5, 12);
-    EXPECT(hallplan_search(sheet, sizeof sheet, note + 1, 273, 7, steps + 1, 4, plan + 1, 12), 1);
-    EXPECT(all(steps + 1, 4, 0), 1);
-    EXPECT(memcmp(plan + 1, fits, 12), 0);
-    EXPECT(note[0] == 0xA5 && note[274] == 0xA5 && steps[0] == 0xA5 && steps[5] == 0xA5 && plan[0] == 0xA5 && all(plan + 13, 49, 0xA5), 1);
-
-    /* a call on the way: 2 x 2 x 2, two of 1 x 1 x 1, one step leaves a path of one first branch */
-    static const uint8_t two[] = {0x0F, 2, 0, 2, 0, 2, 0, 2, 0, 0};
-    fill();
-    memset(note + 1, 0, 273);
-    EXPECT(hallplan_search(two, sizeof two, note + 1, 273, 1, steps + 1, 4, plan + 1, 12), 0);
-    EXPECT(note[1] == 0 && note[2] == 1 && all(note + 3, 271, 0) && steps[1] == 1 && all(plan, sizeof plan, 0xA5), 1);
-
-    /* none: 1 x 1 x 1 with a piece of width 2 */
-    static const uint8_t wide[] = {0x08, 1, 1, 2, 0};
-    memset(note + 1, 0, 273);
-    EXPECT(hallplan_search(wide, sizeof wide, note + 1, 273, 1, steps + 1, 4, plan + 1, 6), 2);
-    EXPECT(note[1] == 1 && all(note + 2, 272, 0) && all(plan, sizeof plan, 0xA5), 1);
+    small_halls();
+    small_hall_in_parts();
+    checks();
+    notes();
     return failed;
 }
