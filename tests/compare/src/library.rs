@@ -1,40 +1,13 @@
 //! The functions under test, on buffers with guard bytes around them.
 
+macro_rules! declared {
+    ($($name:ident($($parameter:ident: $kind:ty),*) -> $result:ty;)*) => {
+        extern "C" { $(pub fn $name($($parameter: $kind),*) -> $result;)* }
+    };
+}
+
 mod linked {
-    extern "C" {
-        pub fn hallplan_check(sheet: *const u8, sheet_len: usize, plan: *const u8, plan_len: usize) -> u32;
-        pub fn hallplan_search(
-            sheet: *const u8,
-            sheet_len: usize,
-            note: *mut u8,
-            note_len: usize,
-            allowance: u32,
-            steps: *mut u8,
-            steps_len: usize,
-            plan: *mut u8,
-            plan_len: usize,
-        ) -> u32;
-        pub fn exports_read_number(sheet: *const u8, sheet_len: usize) -> u32;
-        pub fn exports_read_place(sheet: *const u8, sheet_len: usize) -> usize;
-        pub fn exports_rewrite(sheet: *const u8, sheet_len: usize, room: *mut u8, room_len: usize) -> usize;
-        pub fn exports_record_number(sheet: *const u8, sheet_len: usize, item: usize) -> u32;
-        pub fn exports_record_place(sheet: *const u8, sheet_len: usize, item: usize) -> usize;
-        pub fn exports_record_byte(sheet: *const u8, sheet_len: usize, item: usize, i: usize) -> u32;
-        pub fn exports_clearance(
-            sheet: *const u8,
-            sheet_len: usize,
-            u: usize,
-            ux: u16,
-            uy: u16,
-            ut: u16,
-            v: usize,
-            vx: u16,
-            vy: u16,
-            vt: u16,
-            axis: u8,
-        ) -> i32;
-        pub fn exports_clearance_number(sheet: *const u8, sheet_len: usize, u: usize, v: usize, axis: u8) -> u32;
-    }
+    signatures!(declared);
 }
 
 const GUARD: usize = 32;

@@ -48,7 +48,6 @@ impl Report {
         for (kind, count) in &self.counts {
             println!("{count:>10}  {kind}");
         }
-        println!("{:>10}  differences", self.differences);
     }
 }
 

@@ -1,5 +1,7 @@
 //! The independent implementation behind the functions that are compared: a planner to put errors into (tests/mutants).
 
+#[macro_use]
+mod signatures;
 #[allow(dead_code)]
 mod reference;
 
@@ -14,63 +16,20 @@ unsafe fn lent_mut<'a>(start: *mut u8, len: usize) -> &'a mut [u8] {
     from_raw_parts_mut(start, len)
 }
 
-#[no_mangle]
-pub unsafe extern "C" fn hallplan_check(sheet: *const u8, sheet_len: usize, plan: *const u8, plan_len: usize) -> u32 {
-    bytes::check(lent(sheet, sheet_len), lent(plan, plan_len))
+fn number<T>(result: Result<T, sheet::Refusal>) -> u32 {
+    result.map_or_else(|refusal| refusal.number, |_| 0)
 }
 
-#[no_mangle]
-pub unsafe extern "C" fn hallplan_search(
-    sheet: *const u8,
-    sheet_len: usize,
-    note: *mut u8,
-    note_len: usize,
-    allowance: u32,
-    steps: *mut u8,
-    steps_len: usize,
-    plan: *mut u8,
-    plan_len: usize,
-) -> u32 {
-    let sheet = lent(sheet, sheet_len);
-    bytes::search(sheet, lent_mut(note, note_len), allowance, lent_mut(steps, steps_len), lent_mut(plan, plan_len))
+fn place<T>(result: Result<T, sheet::Refusal>) -> usize {
+    result.map_or_else(|refusal| refusal.place, |_| 0)
 }
 
-#[no_mangle]
-pub unsafe extern "C" fn exports_read_number(sheet: *const u8, sheet_len: usize) -> u32 {
-    sheet::read(lent(sheet, sheet_len)).map_or_else(|refusal| refusal.number, |_| 0)
+fn rewrite(bytes: &[u8], room: &mut [u8]) -> usize {
+    sheet::read(bytes).and_then(|instance| sheet::write(&instance, room)).unwrap_or(0)
 }
 
-#[no_mangle]
-pub unsafe extern "C" fn exports_read_place(sheet: *const u8, sheet_len: usize) -> usize {
-    sheet::read(lent(sheet, sheet_len)).map_or_else(|refusal| refusal.place, |_| 0)
-}
-
-#[no_mangle]
-pub unsafe extern "C" fn exports_rewrite(sheet: *const u8, sheet_len: usize, room: *mut u8, room_len: usize) -> usize {
-    match sheet::read(lent(sheet, sheet_len)) {
-        Ok(instance) => sheet::write(&instance, lent_mut(room, room_len)).unwrap_or(0),
-        Err(_) => 0,
-    }
-}
-
-#[no_mangle]
-pub unsafe extern "C" fn exports_record_number(sheet: *const u8, sheet_len: usize, item: usize) -> u32 {
-    sheet::item_record(lent(sheet, sheet_len), item).map_or_else(|refusal| refusal.number, |_| 0)
-}
-
-#[no_mangle]
-pub unsafe extern "C" fn exports_record_place(sheet: *const u8, sheet_len: usize, item: usize) -> usize {
-    sheet::item_record(lent(sheet, sheet_len), item).map_or_else(|refusal| refusal.place, |_| 0)
-}
-
-#[no_mangle]
-pub unsafe extern "C" fn exports_record_byte(sheet: *const u8, sheet_len: usize, item: usize, i: usize) -> u32 {
-    let record = sheet::item_record(lent(sheet, sheet_len), item).unwrap_or(&[]);
-    record.get(i).map_or(256, |&byte| byte as u32)
-}
-
-unsafe fn clearance(sheet: *const u8, sheet_len: usize, u: usize, at_u: [u16; 3], v: usize, at_v: [u16; 3], axis: u8) -> Result<i64, sheet::Refusal> {
-    let instance = sheet::read(lent(sheet, sheet_len))?;
+fn clearance(bytes: &[u8], u: usize, at_u: [u16; 3], v: usize, at_v: [u16; 3], axis: u8) -> Result<i64, sheet::Refusal> {
+    let instance = sheet::read(bytes)?;
     let mut positions = vec![[0; 3]; sheet::MOST_ITEMS];
     for (item, at) in [(u, at_u), (v, at_v)] {
         if item < sheet::MOST_ITEMS {
@@ -80,24 +39,35 @@ unsafe fn clearance(sheet: *const u8, sheet_len: usize, u: usize, at_u: [u16; 3]
     packing::clearance(&instance, &positions, u, v, axis as usize)
 }
 
-#[no_mangle]
-pub unsafe extern "C" fn exports_clearance(
-    sheet: *const u8,
-    sheet_len: usize,
-    u: usize,
-    ux: u16,
-    uy: u16,
-    ut: u16,
-    v: usize,
-    vx: u16,
-    vy: u16,
-    vt: u16,
-    axis: u8,
-) -> i32 {
-    clearance(sheet, sheet_len, u, [ux, uy, ut], v, [vx, vy, vt], axis).unwrap_or(0) as i32
+/// What each function returns, of its arguments; a pointer and a length stand side by side.
+macro_rules! body {
+    (hallplan_check $s:ident $sl:ident $p:ident $pl:ident) => { bytes::check(lent($s, $sl), lent($p, $pl)) };
+    (hallplan_search $s:ident $sl:ident $n:ident $nl:ident $allowance:ident $t:ident $tl:ident $p:ident $pl:ident) => {
+        bytes::search(lent($s, $sl), lent_mut($n, $nl), $allowance, lent_mut($t, $tl), lent_mut($p, $pl))
+    };
+    (exports_read_number $s:ident $sl:ident) => { number(sheet::read(lent($s, $sl))) };
+    (exports_read_place $s:ident $sl:ident) => { place(sheet::read(lent($s, $sl))) };
+    (exports_rewrite $s:ident $sl:ident $r:ident $rl:ident) => { rewrite(lent($s, $sl), lent_mut($r, $rl)) };
+    (exports_record_number $s:ident $sl:ident $item:ident) => { number(sheet::item_record(lent($s, $sl), $item)) };
+    (exports_record_place $s:ident $sl:ident $item:ident) => { place(sheet::item_record(lent($s, $sl), $item)) };
+    (exports_record_byte $s:ident $sl:ident $item:ident $i:ident) => {
+        sheet::item_record(lent($s, $sl), $item).unwrap_or(&[]).get($i).map_or(256, |&byte| byte as u32)
+    };
+    (exports_clearance $s:ident $sl:ident $u:ident $ux:ident $uy:ident $ut:ident $v:ident $vx:ident $vy:ident $vt:ident $axis:ident) => {
+        clearance(lent($s, $sl), $u, [$ux, $uy, $ut], $v, [$vx, $vy, $vt], $axis).unwrap_or(0) as i32
+    };
+    (exports_clearance_number $s:ident $sl:ident $u:ident $v:ident $axis:ident) => {
+        number(clearance(lent($s, $sl), $u, [0; 3], $v, [0; 3], $axis))
+    };
 }
 
-#[no_mangle]
-pub unsafe extern "C" fn exports_clearance_number(sheet: *const u8, sheet_len: usize, u: usize, v: usize, axis: u8) -> u32 {
-    clearance(sheet, sheet_len, u, [0; 3], v, [0; 3], axis).map_or_else(|refusal| refusal.number, |_| 0)
+macro_rules! exported {
+    ($($name:ident($($parameter:ident: $kind:ty),*) -> $result:ty;)*) => {
+        $(#[no_mangle]
+        pub unsafe extern "C" fn $name($($parameter: $kind),*) -> $result {
+            body!($name $($parameter)*)
+        })*
+    };
 }
+
+signatures!(exported);

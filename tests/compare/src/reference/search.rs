@@ -103,7 +103,7 @@ impl Search {
         Ok(search)
     }
 
-    fn domains(&self) -> &Domains {
+    pub fn domains(&self) -> &Domains {
         self.levels.last().expect("the root is always there")
     }
 

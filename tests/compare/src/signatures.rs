@@ -1,0 +1,24 @@
+//! The functions that are compared, as C sees them: `signatures!(m)` hands them all to the macro `m`.
+
+macro_rules! signatures {
+    ($m:ident) => {
+        $m! {
+            hallplan_check(sheet: *const u8, sheet_len: usize, plan: *const u8, plan_len: usize) -> u32;
+            hallplan_search(
+                sheet: *const u8, sheet_len: usize, note: *mut u8, note_len: usize, allowance: u32,
+                steps: *mut u8, steps_len: usize, plan: *mut u8, plan_len: usize
+            ) -> u32;
+            exports_read_number(sheet: *const u8, sheet_len: usize) -> u32;
+            exports_read_place(sheet: *const u8, sheet_len: usize) -> usize;
+            exports_rewrite(sheet: *const u8, sheet_len: usize, room: *mut u8, room_len: usize) -> usize;
+            exports_record_number(sheet: *const u8, sheet_len: usize, item: usize) -> u32;
+            exports_record_place(sheet: *const u8, sheet_len: usize, item: usize) -> usize;
+            exports_record_byte(sheet: *const u8, sheet_len: usize, item: usize, i: usize) -> u32;
+            exports_clearance(
+                sheet: *const u8, sheet_len: usize, u: usize, ux: u16, uy: u16, ut: u16,
+                v: usize, vx: u16, vy: u16, vt: u16, axis: u8
+            ) -> i32;
+            exports_clearance_number(sheet: *const u8, sheet_len: usize, u: usize, v: usize, axis: u8) -> u32;
+        }
+    };
+}
