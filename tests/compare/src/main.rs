@@ -83,6 +83,7 @@ fn one_case(report: &mut Report, seed: u64, case: u64) {
 fn all_cases(report: &mut Report, options: &Options, began: Instant) {
     report.context = "the table".to_string();
     table::small_halls(report);
+    table::rule_3(report);
     if let Some(file) = &options.sheets {
         let text = std::fs::read_to_string(file).expect("the file of sheets");
         table::from_file(report, &text, options.most_steps);

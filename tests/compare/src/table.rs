@@ -1,6 +1,7 @@
-//! Document 01's table of small halls, and further sheets from a file with their answers and steps.
+//! Document 01's table of small halls, sheets on which rule 3 tells, and sheets from a file with their answers and steps.
 
 use crate::library;
+use crate::parts;
 use crate::reference::bytes::{self, NOTE_BYTES};
 use crate::reference::sheet::{self, Instance};
 use crate::report::{hexadecimal, Report};
@@ -32,6 +33,12 @@ const ROWS: &[Row] = &[
     ([100, 1, 230], BOXES, BOX_ORDERS, 2, 1, &[]),
 ];
 
+/// Rule 3 strikes more than 000's D1, which asks for a known overlap: D1 in its place takes 287 and 427 steps.
+const RULE_3_ROWS: &[Row] = &[
+    ([9, 4, 7], &[[1, 2, 1], [2, 2, 2], [2, 3, 3], [4, 3, 5], [4, 3, 5]], &[(0, 2)], 2, 275, &[]),
+    ([8, 1, 4], &[UNIT, [3, 1, 1], UNIT, [3, 1, 3], [3, 1, 3], [3, 1, 3]], &[(1, 0)], 2, 423, &[]),
+];
+
 const REFUSED: &[(&[u8], u32, usize)] = &[
     (&[1, 1, 0], 3, 1),
     (&[1, 2], 1, 2),
@@ -50,15 +57,31 @@ fn answers(sheet: &[u8], items: usize, allowance: u32) -> [Result<(u32, u32, Vec
     [Ok(own), linked.and_then(|searched| Ok((searched.returned, four(&searched.steps?), searched.plan?)))]
 }
 
-pub fn small_halls(report: &mut Report) {
-    for &(container, items, precedences, returned, steps, plan) in ROWS {
+fn rows(report: &mut Report, kind: &'static str, rows: &[Row]) {
+    for &(container, items, precedences, returned, steps, plan) in rows {
         let instance = Instance { container, items: items.to_vec(), precedences: precedences.to_vec(), yard_number: 0 };
         let sheet = sheet::encode(&instance);
         let plan = if returned == 1 { plan.to_vec() } else { vec![0; 6 * items.len()] };
         for got in answers(&sheet, items.len(), 1_000_000) {
-            report.same("small halls of document 01", &Ok((returned, steps, plan.clone())), &got, || hexadecimal(&sheet));
+            report.same(kind, &Ok((returned, steps, plan.clone())), &got, || hexadecimal(&sheet));
         }
     }
+}
+
+/// The rows above; and a row of turns that rule 3 makes a placed one, and that with D1 in its place is a branching point.
+pub fn rule_3(report: &mut Report) {
+    let kind = "sheets on which rule 3 tells";
+    rows(report, kind, RULE_3_ROWS);
+    let instance = Instance { container: [4, 1, 2], items: vec![UNIT; 4], precedences: vec![(0, 1), (3, 2)], yard_number: 0 };
+    let sheet = sheet::encode(&instance);
+    let mut note = [0; NOTE_BYTES];
+    note[..4].copy_from_slice(&[2, 4, 0, 1]);
+    let returned = parts::search(report, kind, &sheet, &note, 1, &[9; 4], &[9; 24]);
+    report.same(kind, &1, &returned, || hexadecimal(&sheet));
+}
+
+pub fn small_halls(report: &mut Report) {
+    rows(report, "small halls of document 01", ROWS);
     for &(sheet, number, place) in REFUSED {
         let own = sheet::read(sheet).map_err(|refusal| (refusal.number, refusal.place)).map(|_| ());
         report.same("small halls of document 01", &Err((number, place)), &own, || hexadecimal(sheet));
