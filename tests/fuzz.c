@@ -1,0 +1,316 @@
+/* Random and damaged sheets, plans, notes, lengths and allowances, put to check and search: fuzz SECONDS SEED
+ *
+ * Every call is made twice on copies of the same bytes: on heap blocks of exactly their length, so that memcheck sees each access
+ * outside, and on blocks with guard bytes around them. Both must return and leave the same, and what document 01 allows. */
+#include "hallplan.h"
+
+#include <stdio.h>
+#include <stdlib.h>
+#include <string.h>
+#include <time.h>
+
+#define ROOM 512
+#define GUARD_BYTES 32
+#define GUARD 0xA5
+#define MOST_ALLOWANCE 200
+#define NUMBERS 11
+
+struct bytes {
+    size_t len;
+    uint8_t at[ROOM];
+};
+
+/* A heap block with a copy of some bytes. */
+struct block {
+    uint8_t *base, *at;
+    size_t len, guards;
+};
+
+static uint64_t state;
+static unsigned long long cases, checks[2 + NUMBERS], searches[3 + NUMBERS];
+
+static uint64_t next_random(void)
+{
+    state += 0x9E3779B97F4A7C15u;
+    uint64_t z = (state ^ (state >> 30)) * 0xBF58476D1CE4E5B9u;
+    z = (z ^ (z >> 27)) * 0x94D049BB133111EBu;
+    return z ^ (z >> 31);
+}
+
+static unsigned below(unsigned bound)
+{
+    return (unsigned)(next_random() % bound);
+}
+
+static void must(int holds, const char *what)
+{
+    if (!holds) {
+        printf("fuzz: case %llu: %s\n", cases, what);
+        exit(1);
+    }
+}
+
+static void put(struct bytes *b, unsigned byte)
+{
+    must(b->len < ROOM, "the generator's room");
+    b->at[b->len++] = (uint8_t)byte;
+}
+
+/* The fields whose bit stands: measures from 2 on, mostly below 2 + bound. */
+static void put_size(struct bytes *b, unsigned map, unsigned bound)
+{
+    for (unsigned axis = 0; axis < 3; axis++) {
+        if (map >> axis & 1) {
+            unsigned measure = 2 + below(below(40) ? bound : 65534);
+            put(b, measure % 256);
+            put(b, measure / 256);
+        }
+    }
+}
+
+static void put_orders(struct bytes *b, unsigned pieces)
+{
+    size_t count = b->len;
+    unsigned one_in = 1 + below(3 * pieces);
+    put(b, 0);
+    for (unsigned u = 0; u < pieces; u++) {
+        for (unsigned v = 0; v < pieces; v++) {
+            if (u != v && below(one_in) == 0) {
+                put(b, u);
+                put(b, v);
+                b->at[count]++;
+            }
+        }
+    }
+}
+
+/* A sheet that mostly reads: the number of its pieces. */
+static unsigned make_sheet(struct bytes *sheet)
+{
+    unsigned map = below(8) ? 0x0F | (below(4) << 4) : below(64), pieces = map >> 3 & 1 ? 1 + below(10) : 0, bound = 1 + below(6);
+    sheet->len = 0;
+    put(sheet, map);
+    put_size(sheet, map, 3 * bound);
+    if (pieces) {
+        put(sheet, pieces);
+    }
+    for (unsigned u = 0; u < pieces; u++) {
+        unsigned bits = below(8);
+        put(sheet, bits);
+        put_size(sheet, bits, bound);
+    }
+    if (map >> 4 & 1 && pieces > 0) {
+        put_orders(sheet, pieces);
+    }
+    if (map >> 5 & 1) {
+        put(sheet, 1 + below(255));
+        put(sheet, below(256));
+    }
+    return pieces;
+}
+
+static void make_random(struct bytes *b, size_t most)
+{
+    unsigned bound = 1 + below(256);
+    b->len = below((unsigned)most + 1);
+    for (size_t i = 0; i < b->len; i++) {
+        b->at[i] = (uint8_t)below(bound);
+    }
+}
+
+static void damage(struct bytes *b)
+{
+    for (unsigned times = 1 + below(3); times > 0 && b->len > 0; times--) {
+        size_t i = below((unsigned)b->len);
+        switch (below(6)) {
+        case 0: b->at[i] = (uint8_t)below(256); break;
+        case 1: b->at[i] ^= (uint8_t)(1u << below(8)); break;
+        case 2: b->at[i]++; break;
+        case 3: b->at[i] = 0; break;
+        case 4: b->len = i; break;
+        default: put(b, below(256)); break;
+        }
+    }
+}
+
+/* A note by chance: the opening one, a row of turns, any bytes. */
+static void make_note(struct bytes *note)
+{
+    memset(note->at, 0, ROOM);
+    note->len = HALLPLAN_NOTE_BYTES;
+    unsigned length = below(below(2) ? 12 : 271);
+    switch (below(8)) {
+    case 0: make_random(note, 300); break;
+    case 1:
+    case 2:
+    case 3:
+    case 4: break;
+    default:
+        note->at[0] = (uint8_t)below(3);
+        note->at[1] = (uint8_t)(length % 256);
+        note->at[2] = (uint8_t)(length / 256);
+        for (unsigned i = 0; i < length; i++) {
+            note->at[3 + i] = (uint8_t)below(2);
+        }
+    }
+}
+
+/* A plan with starts below a bound, mostly of the length that the sheet asks for. */
+static void make_plan(struct bytes *plan, unsigned pieces)
+{
+    make_random(plan, 70);
+    if (below(8)) {
+        unsigned bound = 1 + below(10);
+        plan->len = HALLPLAN_PIECE_BYTES * pieces;
+        for (size_t i = 0; i < plan->len; i++) {
+            plan->at[i] = (uint8_t)(i % 2 && below(30) ? 0 : below(bound));
+        }
+    }
+}
+
+static struct block lend(const struct bytes *b, size_t guards)
+{
+    struct block block = {malloc(b->len + 2 * guards), NULL, b->len, guards};
+    must(block.base != NULL, "no memory");
+    memset(block.base, GUARD, b->len + 2 * guards);
+    block.at = block.base + guards;
+    memcpy(block.at, b->at, b->len);
+    return block;
+}
+
+/* The bytes as they are now; the block is given back. */
+static struct bytes take_back(struct block block)
+{
+    struct bytes b = {block.len, {0}};
+    memcpy(b.at, block.at, b.len);
+    for (size_t i = 0; i < block.guards; i++) {
+        must(block.base[i] == GUARD && block.at[block.len + i] == GUARD, "a guard byte was written");
+    }
+    free(block.base);
+    return b;
+}
+
+static int same(const struct bytes *a, const struct bytes *b)
+{
+    return a->len == b->len && memcmp(a->at, b->at, a->len) == 0;
+}
+
+static uint32_t check_on(const struct bytes *sheet, const struct bytes *plan, size_t guards)
+{
+    struct block s = lend(sheet, guards), p = lend(plan, guards);
+    uint32_t answer = hallplan_check(s.at, s.len, p.at, p.len);
+    struct bytes s_left = take_back(s), p_left = take_back(p);
+    must(same(&s_left, sheet) && same(&p_left, plan), "check wrote");
+    return answer;
+}
+
+static uint32_t check(const struct bytes *sheet, const struct bytes *plan)
+{
+    uint32_t answer = check_on(sheet, plan, 0);
+    must(answer == check_on(sheet, plan, GUARD_BYTES), "check answers twice");
+    must(answer <= HALLPLAN_YES || (answer > HALLPLAN_REFUSED && answer <= HALLPLAN_REFUSED + 8), "an answer of check");
+    checks[answer < 2 ? answer : 2 + answer - HALLPLAN_REFUSED]++;
+    return answer;
+}
+
+/* The three buffers that a search writes. */
+struct lent {
+    struct bytes note, steps, plan;
+};
+
+static uint32_t search_on(const struct bytes *sheet, struct lent *lent, uint32_t allowance, size_t guards)
+{
+    struct block s = lend(sheet, guards), n = lend(&lent->note, guards), t = lend(&lent->steps, guards), p = lend(&lent->plan, guards);
+    uint32_t answer = hallplan_search(s.at, s.len, n.at, n.len, allowance, t.at, t.len, p.at, p.len);
+    struct bytes left = take_back(s);
+    must(same(&left, sheet), "search wrote the sheet");
+    lent->note = take_back(n);
+    lent->steps = take_back(t);
+    lent->plan = take_back(p);
+    return answer;
+}
+
+/* What document 01 says of a call that is not refused, as far as it can be seen from outside. */
+static void answered(const struct bytes *sheet, const struct lent *before, const struct lent *after, uint32_t allowance, uint32_t answer)
+{
+    static const uint8_t state_of[] = {0, 2, 1};
+    const uint8_t *t = after->steps.at;
+    uint32_t steps = t[0] + 256u * t[1] + 65536u * t[2] + 16777216u * t[3];
+    must(answer <= HALLPLAN_NONE, "an answer of search");
+    must(after->note.at[0] == state_of[answer], "the note's state");
+    must(answer == HALLPLAN_SPENT ? steps == allowance : steps <= allowance, "the steps");
+    if (answer == HALLPLAN_PLACED) {
+        must(check(sheet, &after->plan) == HALLPLAN_YES, "a placed plan does not fit");
+    } else {
+        must(same(&before->plan, &after->plan), "the plan was written");
+    }
+}
+
+static uint32_t search(const struct bytes *sheet, struct lent *lent, uint32_t allowance)
+{
+    struct lent before = *lent, again = *lent;
+    uint32_t answer = search_on(sheet, lent, allowance, 0);
+    must(answer == search_on(sheet, &again, allowance, GUARD_BYTES), "search answers twice");
+    must(same(&lent->note, &again.note) && same(&lent->steps, &again.steps) && same(&lent->plan, &again.plan), "search leaves twice");
+    if (answer > HALLPLAN_REFUSED) {
+        int numbered = answer <= HALLPLAN_REFUSED + 8 || answer == HALLPLAN_REFUSED + 10;
+        must(numbered, "a refusal of search");
+        must(same(&lent->note, &before.note) && same(&lent->steps, &before.steps) && same(&lent->plan, &before.plan), "a refusal wrote");
+    } else {
+        answered(sheet, &before, lent, allowance, answer);
+    }
+    searches[answer < 3 ? answer : 3 + answer - HALLPLAN_REFUSED]++;
+    return answer;
+}
+
+static void one_case(void)
+{
+    static struct bytes sheet;
+    static struct lent lent;
+    unsigned pieces = make_sheet(&sheet);
+    switch (below(4)) {
+    case 0: damage(&sheet); break;
+    case 1: if (below(4) == 0) make_random(&sheet, 300); break;
+    default: break;
+    }
+    make_plan(&lent.plan, pieces);
+    check(&sheet, &lent.plan);
+    make_note(&lent.note);
+    make_random(&lent.steps, 8);
+    lent.steps.len = below(20) ? HALLPLAN_STEP_BYTES : lent.steps.len;
+    uint32_t answer = search(&sheet, &lent, below(below(2) ? 6 : MOST_ALLOWANCE + 1));
+    if (answer == HALLPLAN_SPENT) {
+        must(search(&sheet, &lent, below(20)) < HALLPLAN_REFUSED, "a note that a call left is refused");
+        damage(&lent.note);
+        search(&sheet, &lent, below(20));
+    }
+}
+
+static void print_counts(const char *what, const unsigned long long *counts, unsigned answers, const char *const *words)
+{
+    for (unsigned k = 0; k < answers; k++) {
+        printf("%12llu  %s: %s\n", counts[k], what, words[k]);
+    }
+    for (unsigned number = 1; number < NUMBERS; number++) {
+        if (counts[answers + number]) {
+            printf("%12llu  %s: refused %u\n", counts[answers + number], what, number);
+        }
+    }
+}
+
+int main(int argc, char **argv)
+{
+    static const char *const yes_no[] = {"no", "yes"}, *const words[] = {"spent", "placed", "none"};
+    double seconds = argc > 1 ? atof(argv[1]) : 60;
+    uint64_t seed = argc > 2 ? strtoull(argv[2], NULL, 10) : 1;
+    time_t began = time(NULL);
+    while (difftime(time(NULL), began) < seconds) {
+        state = seed * 0xD1B54A32D192ED03u + cases;
+        one_case();
+        cases++;
+    }
+    print_counts("check", checks, 2, yes_no);
+    print_counts("search", searches, 3, words);
+    printf("fuzz: %llu cases in %.0f s, seed %llu: nothing outside, nothing unexpected\n", cases, seconds, (unsigned long long)seed);
+    return 0;
+}
