@@ -19,7 +19,12 @@ fn print_domains(search: &Search) {
 
 fn print_step(search: &Search, taken: u32) {
     let row: String = search.checkpoint.path.iter().map(|branch| if *branch == Branch::First { " first" } else { " second" }).collect();
-    println!("after {taken} steps: {:?}, row{}", search.checkpoint.status, if row.is_empty() { " empty" } else { &row });
+    let state = match search.checkpoint.status {
+        Status::Open => "open",
+        Status::Infeasible => "none",
+        Status::Packed => "placed",
+    };
+    println!("step {taken}: {state}, row{}", if row.is_empty() { " empty" } else { &row });
     if search.checkpoint.status == Status::Open {
         print_domains(search);
     }
