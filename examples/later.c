@@ -6,14 +6,21 @@
  * It exits with 0 where the sheet is decided, 3 where a later run has to go on, 2 where something is refused or a file fails. */
 #include "client.h"
 
+#include <errno.h>
+
 #define DECIDED 0
 #define FAILED 2
 #define UNDECIDED 3
 
-/* The note of the last run, or the opening note, all zeros. A file of another length is left to the search to refuse. */
+/* The note of the last run, or, where there is no file, the opening note, all zeros. A file of another length is left to the search to
+ * refuse; one that cannot be read ends the run, and is not written over. */
 static size_t load_note(const char *name, uint8_t *note)
 {
     long len = read_file(name, note, HALLPLAN_NOTE_BYTES + 1);
+    if (len < 0 && errno != ENOENT) {
+        perror(name);
+        exit(FAILED);
+    }
     return len < 0 ? HALLPLAN_NOTE_BYTES : (size_t)len;
 }
 
