@@ -5,7 +5,7 @@
  * later call gets the note that the last one left. Steps are HALLPLAN_STEP_BYTES bytes, low byte first.
  *
  * A refusal is HALLPLAN_REFUSED plus its number (1 to 8, or 10) and writes nothing. No pointer is null, also where its
- * length is 0. No buffer lent to be written shares a byte with another buffer of the same call. A search needs about 256 kB
+ * length is 0. No buffer lent to be written shares a byte with another buffer of the same call. A search needs about 800 kB
  * of stack. */
 #ifndef HALLPLAN_H
 #define HALLPLAN_H

@@ -1,55 +1,175 @@
 -- The table of pairs and the branching place.
 use mathlib.Core.Bool.{Bool, true, false, not, _&&_, _||_, false≢true}
-use mathlib.Core.List.{List}
-use mathlib.Core.Path.{_≡_, refl, sym, _∙_, ap}
-use Prim.Native.Nat.{ℕ, _+_, _*_, _≤_, _<_}
+use mathlib.Core.List.{List, [], _∷_}
+use mathlib.Core.Logic.{_⊎_, inl, inr}
+use mathlib.Core.Path.{_≡_, refl, sym, _∙_, ap, ap₂}
+use Prim.Native.Nat.{ℕ, zero, suc, _+_, _*_, _-_, _/_, _≤_, _<_}
+use native.Mathlib.Nat.{eq-or-lt-of-le}
 use native.Mathlib.Omega.{arith}
-use lib.Dec.{eqb, ltb}
+use lib.Dec.{eqb, ltb, leb}
 use lib.ListN.{getD}
-use borrow.Author.Tests.{eqb-true, lt-ltb, ltb-true, not-true}
+use borrow.Author.Tests.{eqb-true, ltb-true, leb-true}
 use Rattle.model.specs.Below.{all-below}
 use Rattle.model.specs.Problem.{Problem}
-use Rattle.model.specs.Domains.{Domains, Pair, pairs, pair-number}
+use Rattle.model.specs.Domains.{Domains, Pair, pairs, pair-number, index, overlap-bit, before-bit, after-bit, fixed-before}
 use Rattle.model.specs.Branching.{separated, packed, undecided, choice-axis, choice}
 use Rattle.model.proofs.Below.{all-at, all-of, and-both, clash, First}
-use Rattle.model.proofs.Slots.{no-pair, pair-of, pairs-count, pairs-rise, pairs-sorted, pair-number-small, pair-at-number}
-use Rattle.model.proofs.Fork.{unseparated-pair, choice-pair-is}
-use Rattle.domains.specs.Choice.{PairTable, separated-on, open-pair, Chosen}
+use Rattle.model.proofs.Domains.{may-overlap-sym, before-up, before-down, overlap-up}
+use Rattle.model.proofs.Slots.{no-pair, pair-of, pairs-count, pairs-rise, pairs-sorted, pair-at-number}
+use Rattle.model.proofs.Fork.{unseparated-pair, choice-pair-is, choice-axis-is}
+use Rattle.domains.specs.Choice.{separates, several, separated-at, PairAt, Chosen}
 use Rattle.domains.specs.declared.Branching.the-variants.{Packed, At}
+use Rattle.domains.specs.declared.Pair as P
 use Rattle.relations.proofs.Tests.{some-axis}
 
--- One computed test of a whole table
-abbrev right : List ℕ → ℕ → Bool
-right t j = eqb (getD t (2 * j) 0) (pair-of j .u) && eqb (getD t (2 * j + 1) 0) (pair-of j .v)
+-- The table of the code: both items of each pair, one pair after another. One computed test for all of it
+abbrev flat : List Pair → List ℕ
+flat [] = []
+flat (c ∷ l) = c .u ∷ c .v ∷ flat l
 
-pub table-right : (t : List ℕ) → all-below 45 (right t) ≡ true → PairTable t
-table-right t e = record { at = at }
-  where
-    at : (j : ℕ) → j < 45 → (getD t (2 * j) 0 ≡ pair-of j .u) × (getD t (2 * j + 1) 0 ≡ pair-of j .v)
-    at j h =
-        let q = and-both (eqb (getD t (2 * j) 0) (pair-of j .u)) (eqb (getD t (2 * j + 1) 0) (pair-of j .v)) (all-at 45 (right t) e j h) in
-        (eqb-true _ _ (q .0), eqb-true _ _ (q .1))
+abbrev table : List ℕ
+table = flat pairs
+
+right : ℕ → Bool
+right j = eqb (getD table (2 * j) 0) (pair-of j .u) && eqb (getD table (2 * j + 1) 0) (pair-of j .v)
+
+all-right : all-below 45 right ≡ true
+unfolding right pairs
+all-right = refl
+
+pub table-at : (j : ℕ) → j < 45 → (getD table (2 * j) 0 ≡ pair-of j .u) × (getD table (2 * j + 1) 0 ≡ pair-of j .v)
+unfolding right
+table-at j h =
+    let q = and-both (eqb (getD table (2 * j) 0) (pair-of j .u)) (eqb (getD table (2 * j + 1) 0) (pair-of j .v)) (all-at 45 right all-right j h) in
+    (eqb-true _ _ (q .0), eqb-true _ _ (q .1))
 
 last-pair : pair-of 44 .v ≡ 9
 unfolding pairs
 last-pair = refl
 
-pub pair-bounds : (t : List ℕ) → PairTable t → (j : ℕ) → j < 45 → (getD t (2 * j) 0 < 10) × (getD t (2 * j + 1) 0 < 10)
-pair-bounds t h j l =
-    let e = h .at j l in
+pub table-small : (j : ℕ) → j < 45 → (getD table (2 * j) 0 < 10) × (getD table (2 * j + 1) 0 < 10)
+table-small j h =
+    let e = table-at j h in
     let s = pairs-sorted 44 j (omega arith) (omega arith) in
-    (omega (arith, pairs-rise j l, last-pair, s, e .0), omega (arith, last-pair, s, e .1))
+    (omega (arith, pairs-rise j h, last-pair, s, e .0), omega (arith, last-pair, s, e .1))
 
-pub separated-is : (k : Domains) (u v : ℕ) → (separated-on k 2 u v || (separated-on k 1 u v || separated-on k 0 u v)) ≡ separated k u v
-unfolding separated
-separated-is k u v = sym (some-axis (λ a. separated-on k a u v))
+-- The numbers of domains, 0 to 7
+of-eight : (P : ℕ → Type 0) → P 0 → P 1 → P 2 → P 3 → P 4 → P 5 → P 6 → P 7 → (m : ℕ) → m < 8 → P m
+of-eight P p0 p1 p2 p3 p4 p5 p6 p7 zero h = p0
+of-eight P p0 p1 p2 p3 p4 p5 p6 p7 (suc zero) h = p1
+of-eight P p0 p1 p2 p3 p4 p5 p6 p7 (suc (suc zero)) h = p2
+of-eight P p0 p1 p2 p3 p4 p5 p6 p7 (suc (suc (suc zero))) h = p3
+of-eight P p0 p1 p2 p3 p4 p5 p6 p7 (suc (suc (suc (suc zero)))) h = p4
+of-eight P p0 p1 p2 p3 p4 p5 p6 p7 (suc (suc (suc (suc (suc zero))))) h = p5
+of-eight P p0 p1 p2 p3 p4 p5 p6 p7 (suc (suc (suc (suc (suc (suc zero)))))) h = p6
+of-eight P p0 p1 p2 p3 p4 p5 p6 p7 (suc (suc (suc (suc (suc (suc (suc zero))))))) h = p7
+of-eight P p0 p1 p2 p3 p4 p5 p6 p7 (suc (suc (suc (suc (suc (suc (suc (suc m)))))))) h = absurd (omega arith)
 
-pub or-none : (b : Bool) → b ≡ (b || false)
-or-none true = refl
-or-none false = refl
+pub separates-is : (m : ℕ) → m < 8 → separates m ≡ (eqb m 2 || (eqb m 4 || eqb m 0))
+unfolding overlap-bit before-bit after-bit
+separates-is = of-eight (λ m. separates m ≡ (eqb m 2 || (eqb m 4 || eqb m 0))) refl refl refl refl refl refl refl refl
+
+pub several-is : (m : ℕ) → m < 8 → several m ≡ (not (eqb m 1) && not (separates m))
+unfolding overlap-bit before-bit after-bit
+several-is = of-eight (λ m. several m ≡ (not (eqb m 1) && not (separates m))) refl refl refl refl refl refl refl refl
+
+-- The pairs of n items come first: computed tests over all of them
+abbrev pub pair-count : ℕ → ℕ
+pair-count n = (n * n - n) / 2
+
+all-counted : all-below 11 (λ n. leb (pair-count n) 45 && all-below (pair-count n) (λ j. ltb (pair-of j .v) n)) ≡ true
+unfolding pairs
+all-counted = refl
+
+all-numbered : all-below 11 (λ n. all-below n (λ v. all-below v (λ u. ltb (pair-number u v) (pair-count n)))) ≡ true
+unfolding pair-number
+all-numbered = refl
+
+pub square-bounds : (n : ℕ) → n ≤ 10 → (n ≤ n * n) × (n * n ≤ 100)
+square-bounds n h =
+    let q = and-both (leb n (n * n)) (leb (n * n) 100) (all-at 11 (λ n. leb n (n * n) && leb (n * n) 100) refl n (omega arith)) in
+    (leb-true n (n * n) (q .0), leb-true (n * n) 100 (q .1))
+
+module _ (n : ℕ) (limited : n ≤ 10) where
+  both-counted : (leb (pair-count n) 45 ≡ true) × (all-below (pair-count n) (λ j. ltb (pair-of j .v) n) ≡ true)
+  both-counted =
+      and-both (leb (pair-count n) 45) (all-below (pair-count n) (λ j. ltb (pair-of j .v) n))
+      (all-at 11 (λ n. leb (pair-count n) 45 && all-below (pair-count n) (λ j. ltb (pair-of j .v) n)) all-counted n (omega arith))
+
+  pub pair-count-small : pair-count n ≤ 45
+  pair-count-small = leb-true _ 45 (both-counted .0)
+
+  counted : (j : ℕ) → j < pair-count n → pair-of j .v < n
+  counted j h = ltb-true _ n (all-at (pair-count n) (λ j. ltb (pair-of j .v) n) (both-counted .1) j h)
+
+  numbered : (u v : ℕ) → u < v → v < n → pair-number u v < pair-count n
+  numbered u v hu hv =
+      ltb-true _ (pair-count n)
+      (all-at v (λ u. ltb (pair-number u v) (pair-count n))
+      (all-at n (λ v. all-below v (λ u. ltb (pair-number u v) (pair-count n)))
+      (all-at 11 (λ n. all-below n (λ v. all-below v (λ u. ltb (pair-number u v) (pair-count n)))) all-numbered n (omega arith)) v hv) u hu)
+
+-- One pair more has passed
+pub all-more : (f : ℕ → Bool) (i : ℕ) → ((j : ℕ) → j < i → f j ≡ true) → f i ≡ true → (j : ℕ) → j < i + 1 → f j ≡ true
+all-more f i h e j l = go (eq-or-lt-of-le {n = j} {m = i} (omega arith))
+  where
+    go : (j ≡ i) ⊎ (j < i) → f j ≡ true
+    go (inl q) = rw q e
+    go (inr q) = h j q
+
+-- Each pair of the table has the number that its domains stand at
+all-placed : all-below 45 (λ j. eqb (pair-number (pair-of j .u) (pair-of j .v)) j) ≡ true
+unfolding pairs pair-number
+all-placed = refl
+
+or-turned : (x y z : Bool) → (x || (y || z)) ≡ (z || (y || x))
+or-turned true true true = refl
+or-turned true true false = refl
+or-turned true false true = refl
+or-turned true false false = refl
+or-turned false true true = refl
+or-turned false true false = refl
+or-turned false false true = refl
+or-turned false false false = refl
+
+and-over : (x y z : Bool) → (x && (y || z)) ≡ (x && y || x && z)
+and-over true y z = refl
+and-over false y z = refl
+
+-- the domains of the pair with number j stand from 3 * j on
+module _ (k : Domains) (j : ℕ) (within : j < 45) where
+  abbrev u : ℕ
+  u = pair-of j .u
+
+  abbrev v : ℕ
+  v = pair-of j .v
+
+  rises : u < v
+  rises = pairs-rise j within
+
+  stands : (a i : ℕ) → i ≡ 3 * j + a → i ≡ index a u v
+  unfolding index
+  stands a i e = omega (arith, e, eqb-true _ j (all-at 45 (λ j. eqb (pair-number (pair-of j .u) (pair-of j .v)) j) all-placed j within))
+
+  separates-at : (a i : ℕ) → i ≡ 3 * j + a → separates (getD k i 0) ≡ (fixed-before k a u v || fixed-before k a v u)
+  unfolding fixed-before
+  separates-at a i e =
+      rw (stands a i e, may-overlap-sym k a u v, overlap-up k a rises, before-down k a rises, before-up k a rises)
+      (and-over (not (overlap-bit (getD k (index a u v) 0))) (not (after-bit (getD k (index a u v) 0))) (not (before-bit (getD k (index a u v) 0))))
+
+  pub separated-is : separated-at k j ≡ separated k u v
+  unfolding separated
+  separated-is =
+      ap₂ _||_ (separates-at 0 (3 * j) (omega arith)) (ap₂ _||_ (separates-at 1 (3 * j + 1) refl) (separates-at 2 (3 * j + 2) refl))
+      ∙ (or-turned (fixed-before k 0 u v || fixed-before k 0 v u) (fixed-before k 1 u v || fixed-before k 1 v u) (fixed-before k 2 u v || fixed-before k 2 v u)
+      ∙ sym (some-axis (λ a. fixed-before k a u v || fixed-before k a v u)))
+
+  pub undecided-is : (a : ℕ) → several (getD k (3 * j + a) 0) ≡ undecided k a u v
+  unfolding undecided
+  undecided-is a = rw (stands a (3 * j + a) refl, overlap-up k a rises, before-down k a rises, before-up k a rises) refl
 
 -- no axis has more than one relation left
-pub axis-none : (k : Domains) (u v : ℕ) → ((a : ℕ) → a < 3 → undecided k a u v ≡ false) → choice-axis k u v ≡ 0
+axis-none : (k : Domains) (u v : ℕ) → ((a : ℕ) → a < 3 → undecided k a u v ≡ false) → choice-axis k u v ≡ 0
 unfolding choice-axis
 axis-none k u v h = go (undecided k 0 u v) (undecided k 1 u v) (undecided k 2 u v) (h 0 (omega arith)) (h 1 (omega arith)) (h 2 (omega arith))
   where
@@ -61,55 +181,60 @@ axis-none k u v h = go (undecided k 0 u v) (undecided k 1 u v) (undecided k 2 u 
     go false false false e f g = refl
 
 module _ (k : Domains) (n : ℕ) (limited : n ≤ 10) where
-  abbrev pub open-at : ℕ → Bool
-  open-at j = open-pair k n (pair-of j .u) (pair-of j .v)
-
-  closed : (u v : ℕ) → v < n → open-pair k n u v ≡ false → separated k u v ≡ true
-  closed u v h e = go (separated k u v) refl (ap (λ (b : Bool). b && not (separated k u v)) (sym (lt-ltb v n h)) ∙ e)
-    where
-      go : (b : Bool) → separated k u v ≡ b → not (separated k u v) ≡ false → separated k u v ≡ true
-      go true q d = q
-      go false q d = absurd (false≢true (sym d ∙ ap not q))
-
-  -- no pair is open: packed
-  pub packed-of : ((j : ℕ) → j < 45 → open-at j ≡ false) → Chosen k n Packed
+  -- every pair is separated: packed
+  pub packed-of : ((j : ℕ) → j < pair-count n → separated-at k j ≡ true) → Chosen k n Packed
   unfolding packed
-  packed-of none p e =
+  packed-of all p e =
       all-of (p .items) (λ v. all-below v (λ u. separated k u v))
       (λ v hv. all-of v (λ u. separated k u v)
       (λ u hu.
       let l : v < n = rw e at hv in
       let at = pair-at-number u v hu (omega arith) no-pair in
-      closed u v l (ap (λ (c : Pair). open-pair k n (c .u) (c .v)) (sym at) ∙ none (pair-number u v) (pair-number-small u v hu (omega arith)))))
+      let h = numbered n limited u v hu l in
+      ap (λ (c : Pair). separated k (c .u) (c .v)) (sym at)
+      ∙ (sym (separated-is k (pair-number u v) (omega (arith, pair-count-small n limited))) ∙ all (pair-number u v) h)))
 
-  -- the first open pair, with its axis
-  module _ (j a u v : ℕ) (within : j < 45) (is-u : u ≡ pair-of j .u) (is-v : v ≡ pair-of j .v) (opens : open-pair k n u v ≡ true)
-      (earlier : (i : ℕ) → i < j → open-at i ≡ false) where
-    both : (ltb v n ≡ true) × (not (separated k u v) ≡ true)
-    both = and-both (ltb v n) (not (separated k u v)) opens
+  -- the first that is not, with its axis
+  module _ (j : ℕ) (below : j < pair-count n) (c : P.Pair) (is : PairAt j c) (unseparated : separated-at k j ≡ false)
+      (earlier : (i : ℕ) → i < j → separated-at k i ≡ true) where
+    within : j < 45
+    within = omega (arith, pair-count-small n limited)
 
-    item : v < n
-    item = ltb-true v n (both .0)
-
-    apart : separated k u v ≡ false
-    apart = not-true (separated k u v) (both .1)
+    apart : separated k (pair-of j .u) (pair-of j .v) ≡ false
+    apart = sym (separated-is k j within) ∙ unseparated
 
     is-first : First (unseparated-pair k) no-pair pairs j
     is-first = record {
       within = rw pairs-count within;
-      passes = rw (← is-u, ← is-v) (both .1);
-      earlier = λ i l. ap not (closed (pair-of i .u) (pair-of i .v) (omega (arith, item, pairs-sorted j i within (omega arith))) (earlier i l));
+      passes = ap not apart;
+      earlier = λ i l. ap not (sym (separated-is k i (omega (arith, within))) ∙ earlier i l);
     }
 
-    pub chosen-at : choice-axis k u v ≡ a → a < 3 → Chosen k n (At (record { axis = a; u = u; v = v }))
-    unfolding choice packed
-    chosen-at e ha = (
-      rw (choice-pair-is k j is-first, ← is-u, ← is-v, e) refl,
-      record { axis = ha; rising = omega (arith, pairs-rise j within); item = item },
-      λ p q. go p q (packed p k) refl,
-    )
+    unpacked : (p : Problem) → p .items ≡ n → packed p k ≡ false
+    unfolding packed
+    unpacked p q = go (packed p k) refl
       where
-        go : (p : Problem) → p .items ≡ n → (b : Bool) → all-below (p .items) (λ y. all-below y (λ x. separated k x y)) ≡ b → b ≡ false
-        go p q true d =
-            absurd (clash (all-at v (λ x. separated k x v) (all-at (p .items) (λ y. all-below y (λ x. separated k x y)) d v (rw q item)) u (omega (arith, pairs-rise j within))) apart)
-        go p q false d = refl
+        go : (b : Bool) → all-below (p .items) (λ y. all-below y (λ x. separated k x y)) ≡ b → b ≡ false
+        go true d =
+            absurd (clash
+            (all-at (pair-of j .v) (λ x. separated k x (pair-of j .v))
+            (all-at (p .items) (λ y. all-below y (λ x. separated k x y)) d (pair-of j .v) (rw q (counted n limited j below))) (pair-of j .u) (pairs-rise j within))
+            apart)
+        go false d = refl
+
+    chosen-at : (a : ℕ) → a < 3 → choice-axis k (pair-of j .u) (pair-of j .v) ≡ a → Chosen k n (At (record { axis = a; u = c .u; v = c .v }))
+    unfolding choice
+    chosen-at a ha e = (
+      rw (choice-pair-is k j is-first, is .is-u, is .is-v, e) refl,
+      rw (is .is-u, is .is-v) (record { axis = ha; rising = pairs-rise j within; item = counted n limited j below }),
+      unpacked,
+    )
+
+    pub chosen-axis : (a : ℕ) → a < 3 → several (getD k (3 * j + a) 0) ≡ true → ((b : ℕ) → b < a → several (getD k (3 * j + b) 0) ≡ false)
+        → Chosen k n (At (record { axis = a; u = c .u; v = c .v }))
+    chosen-axis a ha e f =
+        chosen-at a ha
+        (choice-axis-is k (pair-of j .u) (pair-of j .v) a ha (sym (undecided-is k j within a) ∙ e) (λ b l. sym (undecided-is k j within b) ∙ f b l))
+
+    pub chosen-none : ((b : ℕ) → b < 3 → several (getD k (3 * j + b) 0) ≡ false) → Chosen k n (At (record { axis = 0; u = c .u; v = c .v }))
+    chosen-none f = chosen-at 0 (omega arith) (axis-none k (pair-of j .u) (pair-of j .v) (λ b l. sym (undecided-is k j within b) ∙ f b l))

@@ -17,7 +17,7 @@ use Rattle.records.specs.Sizes.{no-item}
 use Rattle.instance.specs.declared.Instance.{Instance}
 use Rattle.instance.specs.Valid.{precedences-of}
 use Rattle.instance.specs.Meaning.{measure, precedence-of, problem-of}
-use Rattle.domains.specs.Shape.{Copied, size-at, capacity-at, shape-problem}
+use Rattle.domains.specs.Shape.{Copied, Same, size-at, capacity-at, shape-problem}
 
 module _ (items : List Item) (sizes : List ℕ) (i : ℕ) (room : i < 10) (h : Copied items sizes i) where
   abbrev m : ℕ → ℕ
@@ -78,10 +78,10 @@ measure-low zero s = refl
 measure-low (suc zero) s = refl
 measure-low (suc (suc a)) s = let e : min (suc (suc a)) 2 ≡ 2 = omega arith in rw e refl
 
-past-items : (l : List Item) (u : ℕ) → length l ≤ u → getD l u no-item ≡ no-item
-past-items [] u h = refl
-past-items (x ∷ l) zero h = absurd (omega arith)
-past-items (x ∷ l) (suc u) h = past-items l u (omega arith)
+past : {A : Type 0} (d : A) (l : List A) (i : ℕ) → length l ≤ i → getD l i d ≡ d
+past d [] i h = refl
+past d (x ∷ l) zero h = absurd (omega arith)
+past d (x ∷ l) (suc i) h = past d l i (omega arith)
 
 module _ (x : Instance) (long : length (x .items) ≡ 10) (sizes : List ℕ) (h : Copied (x .items) sizes 10) where
   size-is : (a u : ℕ) → measure a (getD (x .items) u no-item .size) ≡ size-at sizes a u
@@ -90,7 +90,7 @@ module _ (x : Instance) (long : length (x .items) ≡ 10) (sizes : List ℕ) (h 
     where
       go : Dec (u < 10) → measure a (getD (x .items) u no-item .size) ≡ cond (ltb u 10) (getD sizes (min a 2 * 10 + u) 0) 0
       go (yes l) = rw (lt-ltb u 10 l) (measure-low a (getD (x .items) u no-item .size) ∙ sym (h .at (min a 2) u (omega arith) l))
-      go (no l) = rw (le-ltb u 10 (omega arith), past-items (x .items) u (omega arith)) (measure-none a)
+      go (no l) = rw (le-ltb u 10 (omega arith), past no-item (x .items) u (omega arith)) (measure-none a)
 
   capacity-is : (a : ℕ) → measure a (x .container) ≡ capacity-at (x .container .width ∷ x .container .depth ∷ x .container .shifts ∷ []) a
   unfolding capacity-at
@@ -105,3 +105,11 @@ module _ (x : Instance) (long : length (x .items) ≡ 10) (sizes : List ℕ) (h 
       let s = fun-ext (λ a. fun-ext (λ u. size-is a u)) in
       let c = fun-ext capacity-is in
       λ i. record { items = x .«item_count»; size = s i; capacity = c i; precedences = map precedence-of (precedences-of x) }
+
+-- Measures as a table
+pub same-of : (sizes t : List ℕ) → length sizes ≡ 30 → length t ≡ 30 → ((i : ℕ) → i < 30 → getD t i 0 ≡ getD sizes i 0) → Same sizes t
+same-of sizes t ls lt h = record { long = lt; is = λ i. go i (decLt i 30) }
+  where
+    go : (i : ℕ) → Dec (i < 30) → getD t i 0 ≡ getD sizes i 0
+    go i (yes l) = h i l
+    go i (no l) = past 0 t i (omega arith) ∙ sym (past 0 sizes i (omega arith))

@@ -1,32 +1,37 @@
 -- The table of pairs, and the branching place.
 use mathlib.Core.Bool.{Bool, true, false, not, _&&_, _||_}
-use mathlib.Core.List.{List}
 use mathlib.Core.Path.{_≡_}
-use Prim.Native.Nat.{ℕ, _+_, _*_, _<_}
-use lib.Dec.{ltb}
+use Prim.Native.Nat.{ℕ, _+_, _*_}
 use lib.ListN.{getD}
 use Rattle.model.specs.Problem.{Problem}
-use Rattle.model.specs.Domains.{Domains, Pair, pairs, may-overlap, fixed-before}
-use Rattle.model.specs.Branching.{separated, packed, choice, Branch, first, second, branch-at}
+use Rattle.model.specs.Domains.{Domains, pairs, overlap-bit, before-bit, after-bit, may-overlap}
+use Rattle.model.specs.Domains as D
+use Rattle.model.specs.Branching.{packed, choice, Branch, first, second, branch-at}
 use Rattle.model.specs.Order.{WellFormed, Rising}
 use Rattle.domains.specs.declared.Branching.{Branching}
 use Rattle.domains.specs.declared.Branching.the-variants.{Packed, At}
+use Rattle.domains.specs.declared.Pair.{Pair}
 use Rattle.domains.specs.declared.Place.{Place}
 
-abbrev no-pair : Pair
+abbrev pub no-pair : D.Pair
 no-pair = record { u = 0; v = 0 }
 
--- the pair j of the table stands at 2 * j
-pub record PairTable (t : List ℕ) : Type 0 where
-  pub at : (j : ℕ) → j < 45 → (getD t (2 * j) 0 ≡ getD pairs j no-pair .u) × (getD t (2 * j + 1) 0 ≡ getD pairs j no-pair .v)
+-- the pair with this number
+pub record PairAt (number : ℕ) (c : Pair) : Type 0 where
+  pub is-u : c .u ≡ getD pairs number no-pair .u
+  pub is-v : c .v ≡ getD pairs number no-pair .v
 
--- "'before' known, one way or the other", on the axis
-abbrev pub separated-on : Domains → ℕ → ℕ → ℕ → Bool
-separated-on k a u v = fixed-before k a u v || fixed-before k a v u
+-- "'before' known, one way or the other", of a domain
+abbrev pub separates : ℕ → Bool
+separates m = not (overlap-bit m) && (not (after-bit m) || not (before-bit m))
 
--- a pair u < v of n items that "has no known 'before'"
-abbrev pub open-pair : Domains → ℕ → ℕ → ℕ → Bool
-open-pair k n u v = ltb v n && not (separated k u v)
+-- "more than one word left", of a domain
+abbrev pub several : ℕ → Bool
+several m = overlap-bit m && (before-bit m || after-bit m) || before-bit m && after-bit m
+
+-- of the pair with this number, on some axis
+abbrev pub separated-at : Domains → ℕ → Bool
+separated-at k number = separates (getD k (3 * number) 0) || (separates (getD k (3 * number + 1) 0) || separates (getD k (3 * number + 2) 0))
 
 -- Packed exactly where every pair of n items has a known "before"; else the place that document 01 names
 abbrev pub Chosen : Domains → ℕ → Branching → Type 0

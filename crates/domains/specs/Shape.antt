@@ -2,12 +2,10 @@
 use mathlib.Core.Bool.{cond}
 use mathlib.Core.List.{List, map}
 use mathlib.Core.Path.{_≡_}
-use Prim.Native.Nat.{ℕ, _+_, _*_, _≤_, _<_, min}
+use Prim.Native.Nat.{ℕ, _+_, _*_, _<_, min}
 use lib.Dec.{ltb}
 use lib.ListN.{getD, length}
 use Rattle.model.specs.Problem as M
-use Rattle.model.specs.Domains.{Domains}
-use Rattle.model.specs.Order.{WellFormed}
 use Rattle.records.specs.declared.Item.{Item}
 use Rattle.records.specs.Sizes.{no-item}
 use Rattle.instance.specs.declared.Instance.{Instance}
@@ -36,9 +34,7 @@ pub record Laid (i : Instance) (r : Shape) : Type 0 where
   pub means : problem-of i ≡ shape-problem (r .items) (r .sizes) (r .capacity) (map precedence-of (precedences-of i))
   pub count : r .items ≡ i .«item_count»
 
--- domains and arrays of n items
-pub record Given (k : Domains) (n : ℕ) (sizes capacity : List ℕ) : Type 0 where
-  pub well-formed : WellFormed k
-  pub limited : n ≤ 10
-  pub sizes-long : length sizes ≡ 30
-  pub capacity-long : length capacity ≡ 3
+-- a table with the measures in it
+pub record Same (sizes t : List ℕ) : Type 0 where
+  pub long : length t ≡ 30
+  pub is : (i : ℕ) → getD t i 0 ≡ getD sizes i 0

@@ -1,18 +1,15 @@
 // Where the search branches, and what a branch removes.
 ghost use mathlib.Core.Path.{_≡_};
-ghost use Prim.Native.Nat.{_≤_};
-ghost use Rattle.model.specs.Branching as B;
+ghost use Prim.Native.Nat.{_<_, _≤_};
 ghost use Rattle.model.specs.Order.{WellFormed, Rising};
-ghost use Rattle.relations.specs.Access.{InRange};
-ghost use Rattle.domains.specs.Choice.{PairTable, Chosen, Branched, separated-on, open-pair};
+ghost use Rattle.rows.specs.Queue.{Good, Grown};
+ghost use Rattle.domains.specs.Choice.{PairAt, separates, several, separated-at, Chosen, Branched};
 use crate::Branching;
+use crate::Pair;
 use crate::Place;
-use relations::access::fix_overlap;
-use relations::access::fixed_before;
-use relations::access::may_before;
-use relations::access::may_overlap;
-use relations::access::remove_before;
-use relations::access::remove_overlap;
+use rows::bits::bit;
+use rows::bits::has;
+use rows::removal::remove;
 
 // The pairs in number order: u, v with u < v.
 const PAIRS: [u8; 90] = [
@@ -108,64 +105,55 @@ const PAIRS: [u8; 90] = [
     9,
 ];
 
-// The table, made once for a search of it.
-fn pair_table() -> [u8; 90]
-    ensures { λ r. ⌜ PairTable r ⌝ }
+// The pair of a number, from the table.
+fn pair_at(number: usize) -> Pair
+    requires { ⌜ number < 45 ⌝ }
+    ensures { λ r. ⌜ PairAt number r ⌝ }
 {
-    PAIRS
+    let pairs = PAIRS;
+    Pair {
+        u: pairs[2 * number] as usize,
+        v: pairs[2 * number + 1] as usize,
+    }
 }
 
-// "before" is known on the axis, one way or the other.
-fn separated_on(k: &[u8; 135], a: usize, u: usize, v: usize) -> bool
-    requires { ⌜ InRange (now k) a u v ⌝ }
-    ensures { λ r. ⌜ r ≡ separated-on (now (k .entry)) a u v ⌝ }
+// "before" is known, one way or the other.
+fn is_separated(domain: u8) -> bool
+    requires { ⌜ domain < 8 ⌝ }
+    ensures { λ r. ⌜ r ≡ separates domain ⌝ }
 {
-    if fixed_before(k, a, u, v) {
+    if domain == 2 {
         return true;
     }
-    fixed_before(k, a, v, u)
-}
-
-// "before" is known on some axis.
-fn separated(k: &[u8; 135], u: usize, v: usize) -> bool
-    requires { ⌜ InRange (now k) 0 u v ⌝ }
-    ensures { λ r. ⌜ r ≡ B.separated (now (k .entry)) u v ⌝ }
-{
-    if separated_on(k, 2, u, v) {
+    if domain == 4 {
         return true;
     }
-    if separated_on(k, 1, u, v) {
-        return true;
-    }
-    separated_on(k, 0, u, v)
-}
-
-// A pair of the problem with no known "before".
-fn is_open(k: &[u8; 135], n: usize, u: usize, v: usize) -> bool
-    requires { ⌜ InRange (now k) 0 u v ⌝ }
-    ensures { λ r. ⌜ r ≡ open-pair (now (k .entry)) n u v ⌝ }
-{
-    if n <= v {
-        return false;
-    }
-    !separated(k, u, v)
+    domain == 0
 }
 
 // More than one relation is left.
-fn undecided(k: &[u8; 135], a: usize, u: usize, v: usize) -> bool
-    requires { ⌜ InRange (now k) a u v ⌝ }
-    ensures { λ r. ⌜ r ≡ B.undecided (now (k .entry)) a u v ⌝ }
+fn is_undecided(domain: u8) -> bool
+    requires { ⌜ domain < 8 ⌝ }
+    ensures { λ r. ⌜ r ≡ several domain ⌝ }
 {
-    if may_overlap(k, a, u, v) {
-        if may_before(k, a, u, v) {
-            return true;
-        }
-        return may_before(k, a, v, u);
+    if domain == 1 {
+        return false;
     }
-    if may_before(k, a, u, v) {
-        return may_before(k, a, v, u);
+    !is_separated(domain)
+}
+
+// "before" is known on some axis of the pair with this number.
+fn separated(k: &[u8; 135], number: usize) -> bool
+    requires { ⌜ WellFormed (now k) × (number < 45) ⌝ }
+    ensures { λ r. ⌜ r ≡ separated-at (now (k .entry)) number ⌝ }
+{
+    if is_separated(k[3 * number]) {
+        return true;
     }
-    false
+    if is_separated(k[3 * number + 1]) {
+        return true;
+    }
+    is_separated(k[3 * number + 2])
 }
 
 // The first pair in number order that has no known "before", and its first axis with more than one relation left.
@@ -173,44 +161,57 @@ pub fn branching(k: &[u8; 135], n: usize) -> Branching
     requires { ⌜ WellFormed (now k) × (n ≤ 10) ⌝ }
     ensures { λ r. ⌜ Chosen (now (k .entry)) n r ⌝ }
 {
-    let pairs = pair_table();
+    let count = (n * n - n) / 2;
     let mut answer = Branching::Packed;
-    'found: for number in 0..45 {
-        let u = pairs[2 * number] as usize;
-        let v = pairs[2 * number + 1] as usize;
-        if is_open(k, n, u, v) {
+    'found: for number in 0..count {
+        if !separated(k, number) {
+            let pair = pair_at(number);
             for a in 0..3 {
-                if undecided(k, a, u, v) {
-                    answer = Branching::At(Place { axis: a, u, v });
+                if is_undecided(k[3 * number + a]) {
+                    answer = Branching::At(Place {
+                        axis: a,
+                        u: pair.u,
+                        v: pair.v,
+                    });
                     break 'found;
                 }
             }
-            answer = Branching::At(Place { axis: 0, u, v });
+            answer = Branching::At(Place {
+                axis: 0,
+                u: pair.u,
+                v: pair.v,
+            });
             break 'found;
         }
     }
     answer
 }
 
-// The first or the second branch at a place.
-pub fn apply_branch(k: &mut [u8; 135], place: Place, second: bool)
-    requires { ⌜ WellFormed (now k) × Rising 10 (place .axis) (place .u) (place .v) ⌝ }
+// The first or the second branch at a place: where the queue of what it removes ends.
+pub fn apply_branch(
+    k: &mut [u8; 135],
+    rows: &mut [u16; 91],
+    queue: &mut [u16; 945],
+    n: usize,
+    place: Place,
+    second: bool,
+) -> usize
+    requires { ⌜ Good n (now k) (now rows) (now queue) 0 × Rising n (place .axis) (place .u) (place .v) ⌝ }
     ensures { λ _. ⌜ Branched (now (k .entry)) place second (now (k .exit)) ⌝ }
+    ensures { λ r. ⌜ Grown n (now (k .entry)) (now (queue .entry)) 0 (now (k .exit)) (now (rows .exit)) (now (queue .exit)) r ⌝ }
 {
     let a = place.axis;
     let u = place.u;
-    let v = place.v;
-    if may_overlap(k, a, u, v) {
+    let items = bit(place.v);
+    if has(rows[a * 10 + u], place.v) {
         if second {
-            fix_overlap(k, a, u, v);
-            return;
+            return remove(k, rows, queue, 0, n, 1, a, u, items);
         }
-        remove_overlap(k, a, u, v);
-        return;
+        return remove(k, rows, queue, 0, n, 2, a, u, items);
     }
     if second {
-        remove_before(k, a, u, v);
-        return;
+        let next = remove(k, rows, queue, 0, n, 2, a, u, items);
+        return remove(k, rows, queue, next, n, 1, a, u, items);
     }
-    remove_before(k, a, v, u);
+    remove(k, rows, queue, 0, n, 0, a, u, items)
 }

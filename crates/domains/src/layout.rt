@@ -1,8 +1,10 @@
 // An instance's measures as arrays.
 ghost use mathlib.Core.Path.{_≡_};
-ghost use Prim.Native.Nat.{_<_};
-ghost use lib.ListN.{length};
-ghost use Rattle.domains.specs.Shape.{Copied, Laid, size-at};
+ghost use Prim.Native.Nat.{ℕ, _≤_, _<_};
+ghost use lib.Dec.{ltb};
+ghost use lib.ListN.{getD, length};
+ghost use Rattle.rows.specs.Bits.{bit-at};
+ghost use Rattle.domains.specs.Shape.{Copied, Laid, Same, size-at};
 use crate::Shape;
 use instance::Instance;
 use records::Item;
@@ -40,10 +42,32 @@ pub fn shape_of(instance: Instance) -> Shape
     }
 }
 
+// The measures as a table of chain totals: each item alone.
+pub fn alone(sizes: &[u16; 30]) -> [u32; 30]
+    requires { ⌜ (length (now sizes) ≡ 30) × ((i : ℕ) → getD (now sizes) i 0 ≤ 65535) ⌝ }
+    ensures { λ r. ⌜ Same (now (sizes .entry)) r ⌝ }
+{
+    let mut t = [0u32; 30];
+    let mut i: usize = 0;
+    while i < 30 {
+        t[i] = sizes[i] as u32;
+        i = i + 1;
+    }
+    t
+}
+
 // The measure of an item on an axis.
 pub fn size_of(sizes: &[u16; 30], a: usize, u: usize) -> u16
     requires { ⌜ (length (now sizes) ≡ 30) × (a < 3) × (u < 10) ⌝ }
     ensures { λ r. ⌜ r ≡ size-at (now (sizes .entry)) a u ⌝ }
 {
     sizes[a * 10 + u]
+}
+
+// The set of all n items.
+pub fn all_items(n: usize) -> u16
+    requires { ⌜ n ≤ 10 ⌝ }
+    ensures { λ r. ⌜ (r < 1024) × ((v : ℕ) → v < 10 → bit-at r v ≡ ltb v n) ⌝ }
+{
+    (1u16 << n as u16) - 1
 }

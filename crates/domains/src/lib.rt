@@ -1,11 +1,9 @@
 // The domains of all pairs and axes in one array: their accessors, propagation, greatest chains, and where the search branches.
 pub mod branch;
-pub mod chains;
 pub mod layout;
 pub mod opening;
 pub mod propagation;
 pub mod starts;
-pub mod sweep;
 
 // An instance's measures as arrays: the size of an item at axis * 10 + item.
 pub struct Shape {
@@ -17,6 +15,12 @@ pub struct Shape {
 // A pair u < v on an axis.
 pub struct Place {
     pub axis: usize,
+    pub u: usize,
+    pub v: usize,
+}
+
+// Two items, the lower first.
+pub struct Pair {
     pub u: usize,
     pub v: usize,
 }

@@ -6,39 +6,35 @@ ghost use Prim.Native.Nat.{_≤_};
 ghost use lib.ListN.{take};
 ghost use Rattle.records.specs.Precedences.{all-stand};
 ghost use Rattle.records.specs.declared.Previous.{Previous};
-ghost use Rattle.instance.specs.Valid.{valid};
-ghost use Rattle.instance.specs.Meaning.{problem-of, precedence-of};
-ghost use Rattle.model.specs.Domains.{full-domains};
+ghost use Rattle.instance.specs.Meaning.{precedence-of};
 ghost use Rattle.model.specs.Branching as B;
-use instance::Instance;
+ghost use Rattle.rows.specs.Queue.{Good, Grown};
 use records::Precedence;
-use records::Previous;
-use relations::access::fix_before;
+use rows::bits::bit;
+use rows::removal::remove;
 
-// All but "u before v" on t is removed for each of the first m precedences u, v.
-fn fixed(precedences: [Precedence; 90], m: usize, n: usize) -> [u8; 135]
-    requires { ⌜ (n ≤ 10) × (m ≤ 90) × (all-stand n Previous.Nothing (take m precedences) ≡ true) ⌝ }
-    ensures { λ r. ⌜ r ≡ B.fix-precedences (map precedence-of (take m precedences)) full-domains ⌝ }
+// All but "u before v" on t is removed for each of the first m precedences u, v: where the queue of that ends.
+pub fn fix_precedences(
+    k: &mut [u8; 135],
+    rows: &mut [u16; 91],
+    queue: &mut [u16; 945],
+    n: usize,
+    precedences: [Precedence; 90],
+    m: usize,
+) -> usize
+    requires { ⌜ Good n (now k) (now rows) (now queue) 0 × (m ≤ 90) × (all-stand n Previous.Nothing (take m precedences) ≡ true) ⌝ }
+    ensures { λ _. ⌜ now (k .exit) ≡ B.fix-precedences (map precedence-of (take m precedences)) (now (k .entry)) ⌝ }
+    ensures { λ r. ⌜ Grown n (now (k .entry)) (now (queue .entry)) 0 (now (k .exit)) (now (rows .exit)) (now (queue .exit)) r ⌝ }
 {
-    let mut k = [7u8; 135];
+    let mut top: usize = 0;
     let mut i: usize = 0;
     while i < m {
         let o = precedences[i];
         let u = o.predecessor as usize;
-        let v = o.successor as usize;
-        fix_before(&mut k, 2, u, v);
+        let items = bit(o.successor as usize);
+        top = remove(k, rows, queue, top, n, 2, 2, u, items);
+        top = remove(k, rows, queue, top, n, 0, 2, u, items);
         i = i + 1;
     }
-    k
-}
-
-// The domains before any branch.
-pub fn opening_domains(instance: Instance) -> [u8; 135]
-    requires { ⌜ valid instance ≡ true ⌝ }
-    ensures { λ r. ⌜ r ≡ B.opening-domains (problem-of instance) ⌝ }
-{
-    let n = instance.item_count;
-    let m = instance.precedence_count;
-    let precedences = instance.precedences;
-    fixed(precedences, m, n)
+    top
 }

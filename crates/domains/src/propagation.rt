@@ -4,49 +4,21 @@ ghost use mathlib.Core.List.{List};
 ghost use Prim.Native.Nat.{_<_, _≤_};
 ghost use lib.ListN.{length};
 ghost use Rattle.model.specs.Problem as M;
-ghost use Rattle.model.specs.Propagate.{sum};
-ghost use Rattle.model.specs.Order.{WellFormed};
-ghost use Rattle.domains.specs.Shape.{Given, shape-problem};
-ghost use Rattle.domains.specs.Sweep.{Items};
-ghost use Rattle.domains.specs.Propagated.{Propagated, Settled, has-empty, has-large, large-at};
-use crate::chains::chains;
-use crate::sweep::sweep_chains;
-use crate::sweep::sweep_rules;
+ghost use Rattle.rows.specs.Queue.{Good, Grown};
+ghost use Rattle.tables.specs.Totals.{Within};
+ghost use Rattle.tables.specs.Cuts.{Table};
+ghost use Rattle.domains.specs.Chains.{Based, Dirty, Updated, CutAll, Resting, Rested, Chained};
+ghost use Rattle.domains.specs.Shape.{shape-problem};
+ghost use Rattle.domains.specs.Propagated.{has-large, large-at, Ready, Readied, Answered};
+use events::settle::settle;
+use tables::cuts::cut;
+use tables::marks::marked;
+use tables::totals::relax;
 
-fn wide(x: u8) -> usize
-    ensures { λ r. ⌜ (r ≡ x) × (r ≤ 255) ⌝ }
+fn widen(x: u16) -> u32
+    ensures { λ r. ⌜ (r ≡ x) × (r ≤ 65535) ⌝ }
 {
-    x as usize
-}
-
-// The sum of the domains: it falls whenever a relation is removed.
-fn total(k: &[u8; 135]) -> usize
-    requires { ⌜ length (now k) ≡ 135 ⌝ }
-    ensures { λ r. ⌜ r ≡ sum (now (k .entry)) ⌝ }
-{
-    let mut s: usize = 0;
-    let mut i: usize = 0;
-    while i < 135 {
-        s = s + wide(k[i]);
-        i = i + 1;
-    }
-    s
-}
-
-// A pair of the n items has all three relations removed on some axis.
-fn any_empty(k: &[u8; 135], n: usize) -> bool
-    requires { ⌜ (length (now k) ≡ 135) × (n ≤ 10) ⌝ }
-    ensures { λ r. ⌜ r ≡ has-empty (now (k .entry)) n ⌝ }
-{
-    let end = (n * n - n) / 2 * 3;
-    let mut i: usize = 0;
-    while i < end {
-        if k[i] == 0 {
-            return true;
-        }
-        i = i + 1;
-    }
-    false
+    x as u32
 }
 
 // The item and the axis that a number below 30 stands for: the item is above the container's measure.
@@ -61,7 +33,7 @@ fn is_large(n: usize, sizes: &[u16; 30], capacity: &[u16; 3], i: usize) -> bool
 }
 
 // An item is above the container's measure.
-fn any_large(n: usize, sizes: &[u16; 30], capacity: &[u16; 3]) -> bool
+pub fn any_large(n: usize, sizes: &[u16; 30], capacity: &[u16; 3]) -> bool
     requires { ⌜ (length (now sizes) ≡ 30) × (length (now capacity) ≡ 3) ⌝ }
     ensures { λ r. ⌜ r ≡ has-large n (now (sizes .entry)) (now (capacity .entry)) ⌝ }
 {
@@ -75,43 +47,146 @@ fn any_large(n: usize, sizes: &[u16; 30], capacity: &[u16; 3]) -> bool
     false
 }
 
-// Rules 1 to 4 until they ask for nothing that is left, or a domain is empty: then the answer is true.
-fn settle(k: &mut [u8; 135], n: usize) -> bool
-    requires { ⌜ Items (now k) n ⌝ }
-    ensures { λ r. ⌜ WellFormed (now (k .exit)) × ((p : M.Problem) → p .items ≡ n → Settled p n (now (k .entry)) (now (k .exit)) r) ⌝ }
+// The tables of chain totals brought up to date from the items of the sets on: all that have grown.
+fn update(
+    rows: &[u16; 91],
+    ends: &mut [u32; 30],
+    starts: &mut [u32; 30],
+    sizes: &[u16; 30],
+    n: usize,
+    dirty: &[u16; 6],
+) -> [u16; 6]
+    requires { ⌜ Based n (now rows) (now sizes) (now ends) (now starts) × Dirty n (now dirty) ⌝ }
+    ensures { λ r. ⌜ Updated n (now (rows .entry)) (now (sizes .entry)) (now (dirty .entry)) (now (ends .entry)) (now (starts .entry)) (now (ends .exit)) (now (starts .exit)) r ⌝ }
 {
-    let mut changed = true;
-    while changed {
-        let before = total(k);
-        sweep_rules(k, n);
-        if any_empty(k, n) {
-            return true;
-        }
-        let after = total(k);
-        changed = after != before;
+    let mut grown = [0u16; 6];
+    let mut a: usize = 0;
+    while a < 3 {
+        let s = relax(rows, starts, sizes, n, 1, a, dirty[a]);
+        let e = relax(rows, ends, sizes, n, 2, a, dirty[3 + a]);
+        grown[a] = s;
+        grown[3 + a] = e;
+        a = a + 1;
     }
-    false
+    grown
+}
+
+// Rule 5 for the items whose totals have grown.
+fn cut_grown(
+    k: &mut [u8; 135],
+    rows: &mut [u16; 91],
+    queue: &mut [u16; 945],
+    top: usize,
+    n: usize,
+    ends: &[u32; 30],
+    starts: &[u32; 30],
+    capacity: &[u16; 3],
+    grown: &[u16; 6],
+    fresh: u16,
+) -> usize
+    requires { ⌜ Good n (now k) (now rows) (now queue) top × Table (now ends) × Table (now starts) × (length (now capacity) ≡ 3) × Dirty n (now grown) × (fresh < 1024) × Within n fresh ⌝ }
+    ensures { λ r. ⌜ CutAll n (now (capacity .entry)) (now (ends .entry)) (now (starts .entry)) (now (grown .entry)) fresh (now (k .entry)) (now (queue .entry)) top (now (k .exit)) (now (rows .exit)) (now (queue .exit)) r ⌝ }
+{
+    let mut end = top;
+    let mut a: usize = 0;
+    while a < 3 {
+        let room = widen(capacity[a]);
+        end = cut(
+            k,
+            rows,
+            queue,
+            end,
+            n,
+            1,
+            a,
+            room,
+            ends,
+            starts,
+            grown[3 + a] | fresh,
+        );
+        end = cut(k, rows, queue, end, n, 2, a, room, starts, ends, grown[a]);
+        a = a + 1;
+    }
+    end
+}
+
+// Rule 5, where pairs on the queue have changed.
+fn apply_chains(
+    k: &mut [u8; 135],
+    rows: &mut [u16; 91],
+    queue: &mut [u16; 945],
+    from: usize,
+    top: usize,
+    n: usize,
+    ends: &mut [u32; 30],
+    starts: &mut [u32; 30],
+    sizes: &[u16; 30],
+    capacity: &[u16; 3],
+    fresh: u16,
+) -> usize
+    requires { ⌜ Rested n (now sizes) (now capacity) (now k) (now rows) (now ends) (now starts) (now queue) from top fresh ⌝ }
+    ensures { λ r. ⌜ Grown n (now (k .entry)) (now (queue .entry)) top (now (k .exit)) (now (rows .exit)) (now (queue .exit)) r ⌝ }
+    ensures { λ _. ⌜ ((os : List M.Precedence) → Resting (shape-problem n (now (sizes .entry)) (now (capacity .entry)) os) (now (k .entry)) (now (rows .entry)) (now (ends .entry)) (now (starts .entry)) (now (queue .entry)) from top fresh → Chained (shape-problem n (now (sizes .entry)) (now (capacity .entry)) os) (now (k .entry)) (now (k .exit)) (now (ends .exit)) (now (starts .exit))) ⌝ }
+{
+    let dirty = marked(rows, queue, from, top);
+    let grown = update(rows, ends, starts, sizes, n, &dirty);
+    cut_grown(
+        k,
+        rows,
+        queue,
+        top,
+        n,
+        ends,
+        starts,
+        capacity,
+        &grown,
+        fresh,
+    )
 }
 
 // All rules until nothing more can be removed. The answer is true where that is inconsistent.
-pub fn propagate(k: &mut [u8; 135], n: usize, sizes: &[u16; 30], capacity: &[u16; 3]) -> bool
-    requires { ⌜ Given (now k) n (now sizes) (now capacity) ⌝ }
-    ensures { λ r. ⌜ ((os : List M.Precedence) → Propagated (shape-problem n (now (sizes .entry)) (now (capacity .entry)) os) (now (k .entry)) (now (k .exit)) r) ⌝ }
+pub fn propagate(
+    k: &mut [u8; 135],
+    rows: &mut [u16; 91],
+    ends: &mut [u32; 30],
+    starts: &mut [u32; 30],
+    queue: &mut [u16; 945],
+    top: usize,
+    n: usize,
+    sizes: &[u16; 30],
+    capacity: &[u16; 3],
+    fresh: u16,
+) -> bool
+    requires { ⌜ Readied n (now sizes) (now capacity) (now k) (now rows) (now ends) (now starts) (now queue) top fresh ⌝ }
+    ensures { λ _. ⌜ length (now (queue .exit)) ≡ 945 ⌝ }
+    ensures { λ r. ⌜ ((os : List M.Precedence) → Ready (shape-problem n (now (sizes .entry)) (now (capacity .entry)) os) (now (k .entry)) (now (rows .entry)) (now (ends .entry)) (now (starts .entry)) (now (queue .entry)) top fresh → Answered (shape-problem n (now (sizes .entry)) (now (capacity .entry)) os) (now (k .entry)) (now (k .exit)) (now (rows .exit)) (now (ends .exit)) (now (starts .exit)) r) ⌝ }
 {
-    if any_large(n, sizes, capacity) {
-        return true;
-    }
-    let mut changed = true;
-    while changed {
-        if settle(k, n) {
+    let mut from: usize = 0;
+    let mut end = top;
+    let mut first = fresh;
+    let mut going = true;
+    while going {
+        let settled = settle(k, rows, queue, from, end, n);
+        if settled.conflict {
             return true;
         }
-        let ends = chains(k, n, sizes, true);
-        let starts = chains(k, n, sizes, false);
-        let before = total(k);
-        sweep_chains(k, n, capacity, &ends, &starts);
-        let after = total(k);
-        changed = after != before;
+        let done = settled.end;
+        end = apply_chains(
+            k,
+            rows,
+            queue,
+            from,
+            done,
+            n,
+            ends,
+            starts,
+            sizes,
+            capacity,
+            first,
+        );
+        from = done;
+        first = 0;
+        going = end != done;
     }
     false
 }

@@ -2,7 +2,6 @@
 ghost use mathlib.Core.Path.{_≡_};
 ghost use Prim.Native.Nat.{min};
 ghost use Rattle.domains.specs.Starts.{Startable, Started, StartsAt, start-at};
-use crate::chains::chains;
 use crate::layout::size_of;
 use instance::Packing;
 use instance::Position;
@@ -28,17 +27,16 @@ fn start_at(ends: &[u32; 30], sizes: &[u16; 30], capacity: &[u16; 3], a: usize, 
 }
 
 // "On each axis a piece starts at the total of the greatest chain ending in it, less its own measure".
-pub fn starts_of(k: &[u8; 135], n: usize, sizes: &[u16; 30], capacity: &[u16; 3]) -> Packing
-    requires { ⌜ Startable (now k) n (now sizes) (now capacity) ⌝ }
-    ensures { λ r. ⌜ Started (now (k .entry)) n (now (sizes .entry)) (now (capacity .entry)) r ⌝ }
+pub fn starts_of(ends: &[u32; 30], n: usize, sizes: &[u16; 30], capacity: &[u16; 3]) -> Packing
+    requires { ⌜ Startable n (now sizes) (now capacity) (now ends) ⌝ }
+    ensures { λ r. ⌜ Started n (now (sizes .entry)) (now (ends .entry)) r ⌝ }
 {
-    let ends = chains(k, n, sizes, true);
     let mut positions = [Position { x: 0, y: 0, t: 0 }; 10];
     let mut u: usize = 0;
     while u < n {
-        let x = start_at(&ends, sizes, capacity, 0, u);
-        let y = start_at(&ends, sizes, capacity, 1, u);
-        let t = start_at(&ends, sizes, capacity, 2, u);
+        let x = start_at(ends, sizes, capacity, 0, u);
+        let y = start_at(ends, sizes, capacity, 1, u);
+        let t = start_at(ends, sizes, capacity, 2, u);
         positions[u] = Position { x, y, t };
         u = u + 1;
     }

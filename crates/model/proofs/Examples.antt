@@ -15,7 +15,7 @@ use Rattle.model.specs.Propagate.{propagate}
 use Rattle.model.specs.Search.{infeasible}
 use Rattle.model.specs.Calls.{budget-spent, no-packing}
 use Rattle.model.specs.Run.{run}
-use Rattle.model.specs.Halls.{Triple, case, problem, xyt, unit, with-budget, right}
+use Rattle.model.specs.Trials.{Triple, case, problem, xyt, unit, with-budget, right}
 use Rattle.model.specs.Admits.{Sound}
 use Rattle.model.proofs.Below.{all-at}
 use Rattle.model.proofs.Theorems.{infeasible-exactly}

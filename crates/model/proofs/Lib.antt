@@ -26,5 +26,4 @@ pub mod Obeys
 pub mod Run
 pub mod Calls
 pub mod Search
-pub mod Halls
 pub mod Examples

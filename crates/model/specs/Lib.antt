@@ -13,4 +13,4 @@ pub mod Weight
 pub mod Search
 pub mod Calls
 pub mod Run
-pub mod Halls
+pub mod Trials

@@ -1,19 +1,15 @@
 -- Loops that look for an item at which a test passes.
-use mathlib.Core.Bool.{Bool, true, false, _&&_, _||_}
+use mathlib.Core.Bool.{Bool, true, false, _||_}
 use mathlib.Core.List.{List}
 use mathlib.Core.Logic.{_⊎_, inl, inr}
-use mathlib.Core.Path.{_≡_, refl, sym, ap}
+use mathlib.Core.Path.{_≡_, refl, sym}
 use Prim.Native.Nat.{ℕ, _+_, _≤_, _<_}
 use native.Mathlib.Nat.{eq-or-lt-of-le}
 use native.Mathlib.Omega.{arith}
 use lib.ListN.{getD, set, length}
 use lib.Seq.{getD-set-same, getD-set-other}
-use Rattle.model.specs.Below.{some-below, all-below}
-use Rattle.model.specs.Problem.{Problem}
-use Rattle.model.specs.Domains.{Domains}
-use Rattle.model.specs.Rules.{rule1, rule2, rule3, rule4}
+use Rattle.model.specs.Below.{some-below}
 use Rattle.model.proofs.Below.{some-at, some-of, clash}
-use Rattle.relations.specs.Parts.{other-overlaps, through, blocked, around}
 
 -- no number below i passes
 abbrev pub None : (ℕ → Bool) → ℕ → Type 0
@@ -49,16 +45,6 @@ none-found n f i h g = go (some-below n f) refl
     go false e = refl
 
 -- the three axes
-pub all-axes : (f : ℕ → Bool) → all-below 3 f ≡ (f 2 && (f 1 && f 0))
-all-axes f = go (f 2) (f 1) (f 0)
-  where
-    go : (x y z : Bool)
-        → elim x as (λ _. Bool) [ true ↦ elim y as (λ _. Bool) [ true ↦ elim z as (λ _. Bool) [ true ↦ true | false ↦ false ] | false ↦ false ] | false ↦ false ] ≡ (x && (y && z))
-    go true true true = refl
-    go true true false = refl
-    go true false z = refl
-    go false y z = refl
-
 pub some-axis : (f : ℕ → Bool) → some-below 3 f ≡ (f 2 || (f 1 || f 0))
 some-axis f = go (f 2) (f 1) (f 0)
   where
@@ -68,22 +54,3 @@ some-axis f = go (f 2) (f 1) (f 0)
     go false true z = refl
     go false false true = refl
     go false false false = refl
-
-pub rule1-is : (p : Problem) (k : Domains) (a u v : ℕ)
-    → (other-overlaps k a u v 2 && (other-overlaps k a u v 1 && other-overlaps k a u v 0)) ≡ rule1 p k a u v
-unfolding rule1
-rule1-is p k a u v = sym (all-axes (other-overlaps k a u v))
-
--- the rules as tests of one further item
-module _ (p : Problem) {n : ℕ} (e : p .items ≡ n) (k : Domains) (a u v : ℕ) where
-  pub rule2-is : some-below n (through k a u v) ≡ rule2 p k a u v
-  unfolding rule2
-  rule2-is = ap (λ (m : ℕ). some-below m (through k a u v)) (sym e)
-
-  pub rule3-is : some-below n (blocked k a u v) ≡ rule3 p k a u v
-  unfolding rule3
-  rule3-is = ap (λ (m : ℕ). some-below m (blocked k a u v)) (sym e)
-
-  pub rule4-is : some-below n (around k n a u v) ≡ rule4 p k a u v
-  unfolding rule4
-  rule4-is = ap (λ (m : ℕ). some-below m (around k m a u v)) (sym e)

@@ -1,10 +1,10 @@
-// The accessors: what is left of two items' relations on an axis, and removals.
+// Where the domain of two items on an axis stands, and removing relations from it.
 ghost use mathlib.Core.Path.{_≡_};
 ghost use mathlib.Core.Bool.{false};
 ghost use Prim.Native.Nat.{_<_};
 ghost use Rattle.model.specs.Domains as D;
 ghost use Rattle.model.specs.Order.{Rising};
-ghost use Rattle.relations.specs.Access.{InRange, Removes};
+ghost use Rattle.relations.specs.Access.{Removes};
 
 // Where the domain of u < v stands.
 pub fn index(a: usize, u: usize, v: usize) -> usize
@@ -12,60 +12,6 @@ pub fn index(a: usize, u: usize, v: usize) -> usize
     ensures { λ r. ⌜ (r ≡ D.index a u v) × (r < 135) ⌝ }
 {
     (v * (v - 1) / 2 + u) * 3 + a
-}
-
-// "u and v overlap" is left.
-pub fn may_overlap(k: &[u8; 135], a: usize, u: usize, v: usize) -> bool
-    requires { ⌜ InRange (now k) a u v ⌝ }
-    ensures { λ r. ⌜ r ≡ D.may-overlap (now (k .entry)) a u v ⌝ }
-{
-    if u < v {
-        let i = index(a, u, v);
-        return k[i] % 2 == 1;
-    }
-    if v < u {
-        let i = index(a, v, u);
-        return k[i] % 2 == 1;
-    }
-    true
-}
-
-// "u before v" is left.
-pub fn may_before(k: &[u8; 135], a: usize, u: usize, v: usize) -> bool
-    requires { ⌜ InRange (now k) a u v ⌝ }
-    ensures { λ r. ⌜ r ≡ D.may-before (now (k .entry)) a u v ⌝ }
-{
-    if u < v {
-        let i = index(a, u, v);
-        return k[i] / 2 % 2 == 1;
-    }
-    if v < u {
-        let i = index(a, v, u);
-        return k[i] / 4 % 2 == 1;
-    }
-    true
-}
-
-// "u before v" is known: the other two relations are removed.
-pub fn fixed_before(k: &[u8; 135], a: usize, u: usize, v: usize) -> bool
-    requires { ⌜ InRange (now k) a u v ⌝ }
-    ensures { λ r. ⌜ r ≡ D.fixed-before (now (k .entry)) a u v ⌝ }
-{
-    if may_overlap(k, a, u, v) {
-        return false;
-    }
-    !may_before(k, a, v, u)
-}
-
-// Overlap is known.
-pub fn fixed_overlap(k: &[u8; 135], a: usize, u: usize, v: usize) -> bool
-    requires { ⌜ InRange (now k) a u v ⌝ }
-    ensures { λ r. ⌜ r ≡ D.fixed-overlap (now (k .entry)) a u v ⌝ }
-{
-    if may_before(k, a, u, v) {
-        return false;
-    }
-    !may_before(k, a, v, u)
 }
 
 // A domain without one of its relations.
@@ -113,22 +59,4 @@ pub fn remove_before(k: &mut [u8; 135], a: usize, u: usize, v: usize)
     }
     let i = index(a, v, u);
     k[i] = without_after(k[i]);
-}
-
-// Removes all but "u before v".
-pub fn fix_before(k: &mut [u8; 135], a: usize, u: usize, v: usize)
-    requires { ⌜ Removes (now k) a u v ⌝ }
-    ensures { λ _. ⌜ now (k .exit) ≡ D.fix-before (now (k .entry)) a u v ⌝ }
-{
-    remove_before(k, a, v, u);
-    remove_overlap(k, a, u, v);
-}
-
-// Removes all but overlap.
-pub fn fix_overlap(k: &mut [u8; 135], a: usize, u: usize, v: usize)
-    requires { ⌜ Removes (now k) a u v ⌝ }
-    ensures { λ _. ⌜ now (k .exit) ≡ D.fix-overlap (now (k .entry)) a u v ⌝ }
-{
-    remove_before(k, a, v, u);
-    remove_before(k, a, u, v);
 }

@@ -1,3 +1,2 @@
-// The relations left of two items on an axis: reading and removing them, and whether rules 1 to 4 ask to remove them.
+// The domains of two items on an axis in the array of all: where they stand, and removing relations.
 pub mod access;
-pub mod rules;

@@ -6,54 +6,57 @@ use mathlib.Core.Path.{_≡_}
 use Prim.Native.Nat.{ℕ, _+_, _-_, _≤_, _<_}
 use native.Mathlib.Omega.{arith}
 use lib.ListN.{length, getD, set}
-use Rattle.model.proofs.Path.{path-well-formed}
 use Rattle.model.proofs.Search.{limit-270}
 use Rattle.model.proofs.Theorems.{fork-most, path-270}
 use Rattle.model.specs.Admits.{Sound}
 use Rattle.model.specs.Branching.{Branch, first, second}
 use Rattle.model.specs.Domains.{Domains}
-use Rattle.model.specs.Order.{WellFormed, Rising}
+use Rattle.model.specs.Order.{Rising}
 use Rattle.model.specs.Problem.{Problem}
 use Rattle.model.specs.Run.{look}
 use Rattle.model.specs.Search as S
+use Rattle.rows.specs.Queue.{Good, Grown}
 use Rattle.domains.specs.Choice.{Branched}
 use Rattle.domains.specs.declared.Place.{Place}
 use Rattle.search.specs.Standing.{Looked, Standing, Holds, without-seconds}
-use Rattle.search.specs.declared.Outlook.the-variants.{Complete, Fork}
+use Rattle.search.specs.declared.Outlook.the-variants.{Fork}
 use Rattle.search.specs.declared.Snapshot.{Snapshot}
 use Rattle.search.proofs.Budget.{Rest, Comes, rest-start, rest-next, rest-finished}
 use Rattle.search.proofs.Checkpoints.{holds-next, turned}
-use Rattle.search.proofs.Standing.{fork-rising, stand-next, stand-back, Turn, turn}
+use Rattle.search.proofs.Standing.{kept-good, fork-rising, stand-next, stand-back, Turn, turn}
 
 -- some steps on from the path `start`
-pub record Going (p : Problem) (budget : ℕ) (start : List Branch) (levels : List Snapshot) (k : Domains) (bs : List ℕ) (depth taken : ℕ) : Type 0 where
+pub record Going (p : Problem) (budget : ℕ) (start : List Branch) (levels : List Snapshot) (k : Domains) (rows ends starts q : List ℕ) (top fresh : ℕ)
+    (bs : List ℕ) (depth taken : ℕ) : Type 0 where
   pub path : List Branch
-  pub stands : Standing p levels k path
+  pub stands : Standing p levels k rows ends starts q top fresh path
   pub holds : Holds path bs depth
   pub rest : Rest (look p) budget (S.open-at start) taken (S.open-at path)
 
-pub going-start : {p : Problem} {budget : ℕ} {start : List Branch} {levels : List Snapshot} {k : Domains} {bs : List ℕ} {depth : ℕ}
-    → Standing p levels k start → Holds start bs depth → Going p budget start levels k bs depth 0
-going-start {p} {budget} {start} σ h = record { path = start; stands = σ; holds = h; rest = rest-start (look p) budget (S.open-at start) }
+module _ {p : Problem} {budget : ℕ} {start : List Branch} {levels : List Snapshot} {k : Domains} {rows ends starts q : List ℕ} {top fresh : ℕ} {bs : List ℕ} {depth : ℕ} where
+  pub going-start : Standing p levels k rows ends starts q top fresh start → Holds start bs depth → Going p budget start levels k rows ends starts q top fresh bs depth 0
+  going-start σ h = record { path = start; stands = σ; holds = h; rest = rest-start (look p) budget (S.open-at start) }
 
-module _ {p : Problem} {budget : ℕ} {start : List Branch} {levels : List Snapshot} {k : Domains} {bs : List ℕ} {depth taken : ℕ}
-    (γ : Going p budget start levels k bs depth taken) where
+module _ {p : Problem} {budget : ℕ} {start : List Branch} {levels : List Snapshot} {k : Domains} {rows ends starts q : List ℕ} {top fresh : ℕ} {bs : List ℕ}
+    {depth taken : ℕ} (γ : Going p budget start levels k rows ends starts q top fresh bs depth taken) where
   pub going-depth : Sound p → depth ≤ 270
   going-depth σ = omega (arith, γ .holds .many, path-270 p σ (γ .path) (γ .stands .forks))
 
   -- "each pair has 'before' known: placed"
-  pub complete-comes : taken < budget → {j : Domains} → Looked p (γ .path) j Complete → Comes (look p) budget (S.open-at start) (taken + 1) (S.packed-at (γ .path))
-  complete-comes h l = rest-finished (look p) budget (S.open-at start) (rest-next (look p) budget (S.open-at start) (γ .rest) h (l .0)) tt
+  pub complete-comes : taken < budget → look p (γ .path) ≡ S.complete → Comes (look p) budget (S.open-at start) (taken + 1) (S.packed-at (γ .path))
+  complete-comes h l = rest-finished (look p) budget (S.open-at start) (rest-next (look p) budget (S.open-at start) (γ .rest) h l) tt
 
   -- "Append a first turn"
-  pub fork-depth : Sound p → {j : Domains} {c : Place} → Looked p (γ .path) j (Fork c) → depth < 270
-  fork-depth σ l = omega (arith, γ .holds .many, fork-most p σ (γ .path) (γ .stands .forks) (l .0), limit-270 p (σ .limited))
+  pub fork-depth : Sound p → look p (γ .path) ≡ S.fork → depth < 270
+  fork-depth σ l = omega (arith, γ .holds .many, fork-most p σ (γ .path) (γ .stands .forks) l, limit-270 p (σ .limited))
 
-  pub fork-goes : {j h : Domains} {c : Place} → depth < 270 → taken < budget → Looked p (γ .path) j (Fork c) → Branched j c false h
-      → Going p budget start (set levels depth (record { domains = j; place = c })) h (set bs depth 0) (depth + 1) (taken + 1)
-  fork-goes d t l β = record {
+  pub fork-goes : {j : Domains} {rows₁ ends₁ starts₁ : List ℕ} {c : Place} → depth < 270 → taken < budget → Looked p (γ .path) j rows₁ ends₁ starts₁ (Fork c)
+      → {h : Domains} {q₁ rows′ r : List ℕ} {end : ℕ} → Branched j c false h → Grown (p .items) j q₁ 0 h rows′ r end
+      → Going p budget start (set levels depth (record { domains = j; rows = rows₁; ends = ends₁; starts = starts₁; place = c })) h rows′ ends₁ starts₁ r end 0
+      (set bs depth 0) (depth + 1) (taken + 1)
+  fork-goes d t l β grown = record {
     path = first ∷ γ .path;
-    stands = stand-next p (γ .stands) l (γ .holds .many) d β;
+    stands = stand-next p (γ .stands) l (γ .holds .many) d β grown;
     holds = holds-next first (γ .holds);
     rest = rest-next (look p) budget (S.open-at start) (γ .rest) t (l .0);
   }
@@ -92,18 +95,22 @@ module _ {p : Problem} {budget : ℕ} {start : List Branch} {levels : List Snaps
       pub turn-depth : Sound p → left ≤ 270
       turn-depth σ = let m = rw (τ .left) at (δ .many) in omega (arith, path-270 p σ (second ∷ τ .to) (τ .forks))
 
-      pub turn-rising : Sound p → (d : Snapshot) → Rising 10 (getD levels (left - 1) d .place .axis) (getD levels (left - 1) d .place .u) (getD levels (left - 1) d .place .v)
-      turn-rising σ d = rw at-turn (fork-rising p (τ .to) σ (τ .forks .0) (τ .saved .0 d .place))
+      module _ (d : Snapshot) where
+        abbrev last : Snapshot
+        last = getD levels (left - 1) d
 
-      pub turn-well-formed : (d : Snapshot) → WellFormed (getD levels (left - 1) d .domains)
-      turn-well-formed d = rw (at-turn, τ .saved .0 d .domains) (path-well-formed p (τ .to))
+        pub turn-rising : Sound p → Rising (p .items) (last .place .axis) (last .place .u) (last .place .v)
+        turn-rising σ = rw at-turn (fork-rising p (τ .to) σ (τ .forks .0) (τ .saved .0 d .place))
 
-      pub turn-goes : (d : Snapshot) {h : Domains} → taken < budget → look p (γ .path) ≡ S.conflict
-          → Branched (getD levels (left - 1) d .domains) (getD levels (left - 1) d .place) true h
-          → Going p budget start levels h (set cs (left - 1) 1) left (taken + 1)
-      turn-goes d t l β = record {
-        path = second ∷ τ .to;
-        stands = stand-back p d (γ .stands) τ at-turn β;
-        holds = turned second (rw (τ .left) at δ);
-        rest = conflict-rest t l (τ .back);
-      }
+        pub turn-good : Sound p → {q : List ℕ} → length q ≡ 945 → Good (p .items) (last .domains) (last .rows) q 0
+        turn-good σ long = kept-good p (rw (← at-turn) at (τ .saved .0 d .rest)) (σ .limited) long
+
+        pub turn-goes : taken < budget → look p (γ .path) ≡ S.conflict → {h : Domains} {q rows′ r : List ℕ} {end : ℕ} → Branched (last .domains) (last .place) true h
+            → Grown (p .items) (last .domains) q 0 h rows′ r end
+            → Going p budget start levels h rows′ (last .ends) (last .starts) r end 0 (set cs (left - 1) 1) left (taken + 1)
+        turn-goes t l β grown = record {
+          path = second ∷ τ .to;
+          stands = stand-back p (γ .stands) τ at-turn d β grown;
+          holds = turned second (rw (τ .left) at δ);
+          rest = conflict-rest t l (τ .back);
+        }

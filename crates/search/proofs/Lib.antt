@@ -1,6 +1,7 @@
 pub mod Checkpoints
 pub mod Budget
 pub mod Sound
+pub mod Root
 pub mod Standing
 pub mod Packing
 pub mod Outcome

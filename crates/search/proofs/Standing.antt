@@ -1,5 +1,5 @@
 -- Where a search stands: at the root, one branch on, and back at the last first branch.
-use mathlib.Core.Bool.{Bool, true, false, not, _&&_, true≢false}
+use mathlib.Core.Bool.{Bool, true, false, not, _&&_}
 use mathlib.Core.List.{List, [], _∷_}
 use mathlib.Core.Logic.{_⊎_, inl, inr}
 use mathlib.Core.Path.{_≡_, refl, sym, ap, _∙_, subst}
@@ -9,51 +9,70 @@ use native.Mathlib.Omega.{arith}
 use lib.Dec.{eqb, eqb·suc-zero}
 use lib.ListN.{length, getD, set, length-set}
 use lib.Seq.{getD-set-same, getD-set-other}
-use Rattle.model.proofs.Admits.{opening-well-formed}
-use Rattle.model.proofs.Path.{path-root, path-branch, path-fork}
+use Rattle.model.proofs.Below.{clash}
+use Rattle.model.proofs.Path.{path-branch, path-fork}
 use Rattle.model.proofs.Run.{forking-so}
 use Rattle.model.proofs.Search.{look-fork}
 use Rattle.model.specs.Admits.{Sound}
-use Rattle.model.specs.Branching.{Branch, first, second, opening-domains, choice, branch-at, branched, path-domains}
+use Rattle.model.specs.Branching.{Branch, first, second, choice, branch-at, branched, path-domains}
 use Rattle.model.specs.Domains.{Domains, may-overlap}
 use Rattle.model.specs.Order.{Rising}
 use Rattle.model.specs.Problem.{Problem}
 use Rattle.model.specs.Propagate.{Slot, propagate}
 use Rattle.model.specs.Run.{look}
 use Rattle.model.specs.Search as S
+use Rattle.rows.proofs.Claims.{gone-mono}
+use Rattle.rows.proofs.Sets.{bit-zero}
+use Rattle.rows.specs.Queue.{Good, Grown}
+use Rattle.domains.proofs.Rest.{pending-after, tabled-after}
+use Rattle.domains.proofs.Rooms.{sum-room}
 use Rattle.domains.specs.Choice.{Branched, branch-of as side}
+use Rattle.domains.specs.Propagated as D
 use Rattle.domains.specs.declared.Place.{Place}
 use Rattle.search.specs.Checkpoints.{branch-of, path-of}
 use Rattle.search.specs.Standing.{slot-of, Ready, Looked, Kept, Saved, Standing, Replayed, without-seconds}
-use Rattle.search.specs.declared.Outlook.{Outlook}
 use Rattle.search.specs.declared.Outlook.the-variants.{Fork}
 use Rattle.search.specs.declared.Replay.{Replay}
 use Rattle.search.specs.declared.Snapshot.{Snapshot}
 
 module _ (p : Problem) where
-  -- the domains of a path, made ready for one branch more
-  pub ready-root : {k : Domains} → k ≡ opening-domains p → Ready p k []
-  ready-root e = rw e (record { well-formed = opening-well-formed p; same = sym (path-root p) })
-
   branched-at : (k : Domains) (c : Place) (b : Branch) → choice k ≡ slot-of c
       → branched k b ≡ branch-at (may-overlap k (c .axis) (c .u) (c .v)) b k (c .axis) (c .u) (c .v)
   unfolding branched
   branched-at k c b e = ap (λ (s : Slot). branch-at (may-overlap k (s .axis) (s .u) (s .v)) b k (s .axis) (s .u) (s .v)) e
 
-  module _ (path : List Branch) where
-    pub ready-next : {k j : Domains} {c : Place} {b : Bool} → k ≡ path-domains p path → choice (path-domains p path) ≡ slot-of c → Branched k c b j
-        → Ready p j (side b ∷ path)
-    ready-next {k} {j} {c} {b} d e β = record {
-      well-formed = β .well-formed;
+  module _ {k : Domains} {rows ends starts : List ℕ} (κ : D.Kept p k rows ends starts) where
+    -- what is kept can be branched, with whatever is on the queue
+    pub kept-good : p .items ≤ 10 → {q : List ℕ} → length q ≡ 945 → Good (p .items) k rows q 0
+    kept-good limited long = record {
+      limited = limited;
+      well-formed = κ .well-formed;
+      mirror = κ .mirror;
+      long = long;
+      room = omega (arith, sum-room k (κ .well-formed));
+      coded = λ j h. absurd (omega arith);
+    }
+
+    -- the domains of a path, made ready for one branch more
+    pub ready-next : (path : List Branch) {h : Domains} {c : Place} {b : Bool} {q rows′ r : List ℕ} {end : ℕ} → k ≡ path-domains p path
+        → choice (path-domains p path) ≡ slot-of c → Branched k c b h → Grown (p .items) k q 0 h rows′ r end → Ready p h rows′ ends starts r end 0 (side b ∷ path)
+    ready-next path {h} {c} {b} d e β grown = record {
+      ready = record {
+        good = grown .good;
+        small = omega arith;
+        within = λ v l i. absurd (clash i (bit-zero v l));
+        pending = pending-after grown (κ .obeyed) (κ .filled);
+        tabled = tabled-after grown p refl (κ .bounded) (κ .totals) (κ .closed) 0 (λ a u v s x. inl (gone-mono h k (grown .less) 1 a u v (κ .fits a u v s x)));
+      };
       same = ap (propagate p) (β .left ∙ rw d (sym (branched-at (path-domains p path) c (side b) e))) ∙ sym (path-branch p (side b) path);
     }
 
-    -- where a branching point branches
-    pub fork-rising : Sound p → {c : Place} → look p path ≡ S.fork → choice (path-domains p path) ≡ slot-of c → Rising 10 (c .axis) (c .u) (c .v)
-    fork-rising σ {c} f e =
-        let (i, u) = look-fork p path f in
-        let r = subst (λ (s : Slot). Rising (p .items) (s .axis) (s .u) (s .v)) e (path-fork p σ path i u .place) in
-        record { axis = r .axis; rising = r .rising; item = omega (arith, r .item, σ .limited) }
+  -- where a branching point branches
+  pub fork-rising : (path : List Branch) → Sound p → {c : Place} → look p path ≡ S.fork → choice (path-domains p path) ≡ slot-of c
+      → Rising (p .items) (c .axis) (c .u) (c .v)
+  fork-rising path σ f e =
+      let (i, u) = look-fork p path f in
+      subst (λ (s : Slot). Rising (p .items) (s .axis) (s .u) (s .v)) e (path-fork p σ path i u .place)
 
   -- snapshots further on are no part of what is saved of a path
   saved-set : (levels : List Snapshot) (path : List Branch) (i : ℕ) (s : Snapshot) → length path ≤ i → Saved p levels path → Saved p (set levels i s) path
@@ -67,18 +86,21 @@ module _ (p : Problem) where
   saved-next levels {path} {s} b h κ α =
       ((λ d. rw (getD-set-same levels (length path) s d h) κ), saved-set levels path (length path) s (omega arith) α)
 
-  pub stand-root : {levels : List Snapshot} {k : Domains} → length levels ≡ 270 → k ≡ opening-domains p → Standing p levels k []
-  stand-root r e = record { room = r; forks = tt; saved = tt; ready = ready-root e }
+  pub stand-root : {levels : List Snapshot} {k : Domains} {rows ends starts q : List ℕ} {top fresh : ℕ} → length levels ≡ 270
+      → Ready p k rows ends starts q top fresh [] → Standing p levels k rows ends starts q top fresh []
+  stand-root r e = record { room = r; forks = tt; saved = tt; ready = e }
 
   -- a branching point is saved, and a branch of it taken
-  pub stand-next : {levels : List Snapshot} {k j h : Domains} {path : List Branch} {c : Place} {b : Bool} {i : ℕ} → Standing p levels k path
-      → Looked p path j (Fork c) → i ≡ length path → i < 270 → Branched j c b h
-      → Standing p (set levels i (record { domains = j; place = c })) h (side b ∷ path)
-  stand-next {levels} {path = path} {b = b} σ (f, d, e) n l β = record {
+  pub stand-next : {levels : List Snapshot} {k₀ : Domains} {rows₀ ends₀ starts₀ q₀ : List ℕ} {top₀ fresh₀ : ℕ} {path : List Branch}
+      → Standing p levels k₀ rows₀ ends₀ starts₀ q₀ top₀ fresh₀ path → {k : Domains} {rows ends starts : List ℕ} {c : Place}
+      → Looked p path k rows ends starts (Fork c) → {i : ℕ} → i ≡ length path → i < 270 → {b : Bool} {h : Domains} {q rows′ r : List ℕ} {end : ℕ} → Branched k c b h
+      → Grown (p .items) k q 0 h rows′ r end
+      → Standing p (set levels i (record { domains = k; rows = rows; ends = ends; starts = starts; place = c })) h rows′ ends starts r end 0 (side b ∷ path)
+  stand-next {levels} {path = path} σ (f, d, e, κ) n l {b} β grown = record {
     room = simp length-set (σ .room);
     forks = (f, σ .forks);
-    saved = rw n (saved-next levels (side b) (omega (arith, σ .room)) (record { domains = d; place = e }) (σ .saved));
-    ready = ready-next path d e β;
+    saved = rw n (saved-next levels (side b) (omega (arith, σ .room)) (record { domains = d; place = e; rest = κ }) (σ .saved));
+    ready = ready-next κ path d e β grown;
   }
 
   -- where the search goes back to: the last first branch becomes second
@@ -100,13 +122,14 @@ module _ (p : Problem) where
       go (inr t) = inr (record { to = t .to; left = t .left; back = t .back; forks = t .forks; saved = t .saved })
   turn levels (first ∷ path) f α = inr (record { to = path; left = refl; back = refl; forks = f; saved = α })
 
-  pub stand-back : {levels : List Snapshot} {k h : Domains} {path : List Branch} {i : ℕ} (d : Snapshot) → Standing p levels k path
-      → (t : Turn levels path) → i ≡ length (t .to) → Branched (getD levels i d .domains) (getD levels i d .place) true h
-      → Standing p levels h (second ∷ t .to)
-  stand-back {levels} d σ t n β =
-      let κ = t .saved .0 d in
-      let γ = rw n at β in
-      record { room = σ .room; forks = t .forks; saved = t .saved; ready = ready-next (t .to) (κ .domains) (κ .place) γ }
+  pub stand-back : {levels : List Snapshot} {k : Domains} {rows ends starts q₀ : List ℕ} {top fresh : ℕ} {path : List Branch}
+      → Standing p levels k rows ends starts q₀ top fresh path → (t : Turn levels path) → {i : ℕ} → i ≡ length (t .to) → (d : Snapshot)
+      → {h : Domains} {q rows′ r : List ℕ} {end : ℕ} → Branched (getD levels i d .domains) (getD levels i d .place) true h
+      → Grown (p .items) (getD levels i d .domains) q 0 h rows′ r end
+      → Standing p levels h rows′ (getD levels i d .ends) (getD levels i d .starts) r end 0 (second ∷ t .to)
+  stand-back {levels} σ t n d β grown =
+      let κ = rw (← n) at (t .saved .0 d) in
+      record { room = σ .room; forks = t .forks; saved = t .saved; ready = ready-next (κ .rest) (t .to) (κ .domains) (κ .place) β grown }
 
 -- A replay that stopped at a beginning that is no branching point, and one that came to the path's end
 forking-fails : (look : List Branch → S.Outlook) (bs : List ℕ) (i n : ℕ) → i < n → S.is-fork (look (path-of i bs)) ≡ false → S.forking look (path-of n bs) ≡ false
@@ -122,13 +145,13 @@ forking-fails look bs i (suc n) h e = go (ℕ-discrete i n) (forking-fails look 
     go (yes d) ih = ap (λ (b : Bool). b && S.forking look (path-of n bs)) (rw d at e)
     go (no d) ih = either (S.is-fork (look (path-of n bs))) (S.forking look (path-of n bs)) (ih (omega arith) e)
 
-pub replayed-not : (p : Problem) (bs : List ℕ) (i n : ℕ) (levels : List Snapshot) (k : Domains) → i < n → S.is-fork (look p (path-of i bs)) ≡ false
-    → Replayed p (path-of n bs) (record { follows = false; levels = levels; domains = k })
-replayed-not p bs i n levels k h e = record { verdict = sym (forking-fails (look p) bs i n h e); stands = λ f. absurd (true≢false (sym f)) }
+module _ (p : Problem) (r : Replay) where
+  pub replayed-not : (bs : List ℕ) (i n : ℕ) → r .follows ≡ false → i < n → S.is-fork (look p (path-of i bs)) ≡ false → Replayed p (path-of n bs) r
+  replayed-not bs i n e h f = record { verdict = e ∙ sym (forking-fails (look p) bs i n h f); stands = λ g. absurd (clash g e) }
 
-pub replayed : (p : Problem) (path : List Branch) (levels : List Snapshot) (k : Domains) → Standing p levels k path
-    → Replayed p path (record { follows = true; levels = levels; domains = k })
-replayed p path levels k σ = record { verdict = sym (forking-so (look p) path .1 (σ .forks)); stands = λ _. σ }
+  pub replayed : (path : List Branch) → r .follows ≡ true
+      → Standing p (r .levels) (r .domains) (r .rows) (r .ends) (r .starts) (r .queue) (r .top) (r .fresh) path → Replayed p path r
+  replayed path e σ = record { verdict = e ∙ sym (forking-so (look p) path .1 (σ .forks)); stands = λ _. σ }
 
 pub replayed-of : {p q : Problem} {path : List Branch} {r : Replay} → q ≡ p → Replayed p path r → Replayed q path r
 replayed-of {path = path} {r} e h = subst (λ (x : Problem). Replayed x path r) (sym e) h

@@ -1,16 +1,16 @@
 -- Where a search stands within a call: the terms in which the inner functions' contracts are stated.
-use mathlib.Core.Bool.{true}
+use mathlib.Core.Bool.{Bool, true}
 use mathlib.Core.List.{List, [], _∷_}
 use mathlib.Core.Path.{_≡_}
 use Prim.Native.Nat.{ℕ}
 use lib.ListN.{length, getD}
 use Rattle.model.specs.Branching.{Branch, first, second, choice, path-domains}
 use Rattle.model.specs.Domains.{Domains}
-use Rattle.model.specs.Order.{WellFormed}
 use Rattle.model.specs.Problem.{Problem, Precedence}
 use Rattle.model.specs.Propagate.{Slot, propagate}
 use Rattle.model.specs.Run.{look}
 use Rattle.model.specs.Search as S
+use Rattle.domains.specs.Propagated as D
 use Rattle.domains.specs.Shape.{shape-problem}
 use Rattle.domains.specs.declared.Place.{Place}
 use Rattle.search.specs.Checkpoints.{branches-of}
@@ -22,26 +22,30 @@ use Rattle.search.specs.declared.Snapshot.{Snapshot}
 abbrev pub slot-of : Place → Slot
 slot-of c = record { axis = c .axis; u = c .u; v = c .v }
 
--- domains that propagation makes those of the path
-pub record Ready (p : Problem) (k : Domains) (path : List Branch) : Type 0 where
-  pub well-formed : WellFormed k
+-- domains with their rows, tables and queue, that propagation makes those of the path
+pub record Ready (p : Problem) (k : Domains) (rows ends starts q : List ℕ) (top fresh : ℕ) (path : List Branch) : Type 0 where
+  pub ready : D.Ready p k rows ends starts q top fresh
   pub same : propagate p k ≡ path-domains p path
 
 -- what is seen of a path, and what its domains are where they are consistent
-abbrev pub Looked : Problem → List Branch → Domains → Outlook → Type 0
-Looked p path k Conflict = look p path ≡ S.conflict
-Looked p path k Complete = (look p path ≡ S.complete) × (k ≡ path-domains p path)
-Looked p path k (Fork c) = (look p path ≡ S.fork) × (k ≡ path-domains p path) × (choice (path-domains p path) ≡ slot-of c)
+abbrev pub Looked : Problem → List Branch → Domains → List ℕ → List ℕ → List ℕ → Outlook → Type 0
+Looked p path k rows ends starts Conflict = look p path ≡ S.conflict
+Looked p path k rows ends starts Complete = (look p path ≡ S.complete) × (k ≡ path-domains p path) × D.Kept p k rows ends starts
+Looked p path k rows ends starts (Fork c) =
+    (look p path ≡ S.fork) × (k ≡ path-domains p path) × (choice (path-domains p path) ≡ slot-of c) × D.Kept p k rows ends starts
 
--- domains k made j, with r seen
-pub record Seen (n : ℕ) (sizes capacity : List ℕ) (k j : Domains) (r : Outlook) : Type 0 where
-  pub well-formed : WellFormed j
-  pub looked : (os : List Precedence) (path : List Branch) → Ready (shape-problem n sizes capacity os) k path → Looked (shape-problem n sizes capacity os) path j r
+-- what a look needs: the arrays, whether an item is above the container, and domains made ready for some precedences
+pub record Lookable (n : ℕ) (sizes capacity : List ℕ) (large : Bool) (k : Domains) (rows ends starts q : List ℕ) (top fresh : ℕ) : Type 0 where
+  pub arrays : D.Arrays n sizes capacity
+  pub verdict : large ≡ D.has-large n sizes capacity
+  pub precedences : List Precedence
+  pub ready : D.Ready (shape-problem n sizes capacity precedences) k rows ends starts q top fresh
 
--- the domains of a branching point, and where they branch
+-- the domains of a branching point with their rows and tables, and where they branch
 pub record Kept (p : Problem) (s : Snapshot) (path : List Branch) : Type 0 where
   pub domains : s .domains ≡ path-domains p path
   pub place : choice (path-domains p path) ≡ slot-of (s .place)
+  pub rest : D.Kept p (s .domains) (s .rows) (s .ends) (s .starts)
 
 -- each shorter beginning of the path has its snapshot, at the number of its branches
 abbrev pub Saved : Problem → List Snapshot → List Branch → Type 0
@@ -49,11 +53,11 @@ Saved p levels [] = Unit {0}
 Saved p levels (b ∷ path) = ((d : Snapshot) → Kept p (getD levels (length path) d) path) × Saved p levels path
 
 -- the search stands at an open path
-pub record Standing (p : Problem) (levels : List Snapshot) (k : Domains) (path : List Branch) : Type 0 where
+pub record Standing (p : Problem) (levels : List Snapshot) (k : Domains) (rows ends starts q : List ℕ) (top fresh : ℕ) (path : List Branch) : Type 0 where
   pub room : length levels ≡ 270
   pub forks : S.Forking (look p) path
   pub saved : Saved p levels path
-  pub ready : Ready p k path
+  pub ready : Ready p k rows ends starts q top fresh path
 
 -- "drop the trailing second turns"
 abbrev pub without-seconds : List Branch → List Branch
@@ -69,4 +73,4 @@ pub record Holds (path : List Branch) (bs : List ℕ) (n : ℕ) : Type 0 where
 -- a path that was gone along from the root
 pub record Replayed (p : Problem) (path : List Branch) (r : Replay) : Type 0 where
   pub verdict : r .follows ≡ S.forking (look p) path
-  pub stands : r .follows ≡ true → Standing p (r .levels) (r .domains) path
+  pub stands : r .follows ≡ true → Standing p (r .levels) (r .domains) (r .rows) (r .ends) (r .starts) (r .queue) (r .top) (r .fresh) path

@@ -38,9 +38,12 @@ enum Outlook {
     Fork(Place),
 }
 
-// A branching point on the path: its domains, and where they branch.
+// A branching point on the path: its domains with their rows and tables, and where they branch.
 struct Snapshot {
     pub domains: [u8; 135],
+    pub rows: [u16; 91],
+    pub ends: [u32; 30],
+    pub starts: [u32; 30],
     pub place: Place,
 }
 
@@ -49,6 +52,12 @@ struct Replay {
     pub follows: bool,
     pub levels: [Snapshot; 270],
     pub domains: [u8; 135],
+    pub rows: [u16; 91],
+    pub ends: [u32; 30],
+    pub starts: [u32; 30],
+    pub queue: [u16; 945],
+    pub top: usize,
+    pub fresh: u16,
 }
 
 impl Answer {
@@ -116,10 +125,27 @@ fn repeat(instance: Instance, checkpoint: Checkpoint, budget: u32) -> SearchResu
     let sizes = shape.sizes;
     let capacity = shape.capacity;
     let mut k = start.domains;
-    match steps::look(&mut k, n, &sizes, &capacity) {
+    let mut rows = start.rows;
+    let mut ends = start.ends;
+    let mut starts = start.starts;
+    let mut queue = start.queue;
+    let large = domains::propagation::any_large(n, &sizes, &capacity);
+    match steps::look(
+        &mut k,
+        &mut rows,
+        &mut ends,
+        &mut starts,
+        &mut queue,
+        start.top,
+        n,
+        &sizes,
+        &capacity,
+        start.fresh,
+        large,
+    ) {
         Outlook::Complete => {
             let branches = path::path_branches(given, length);
-            let packing = domains::starts::starts_of(&k, n, &sizes, &capacity);
+            let packing = domains::starts::starts_of(&ends, n, &sizes, &capacity);
             results::packed(0, branches, length, packing)
         }
         Outlook::Conflict => results::refused(Refusal::NotFollowing, checkpoint),

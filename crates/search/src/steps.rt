@@ -1,16 +1,19 @@
 // The search itself: what a path shows, its replay, and the steps.
 ghost use mathlib.Core.Path.{_≡_};
 ghost use mathlib.Core.Bool.{true};
+ghost use mathlib.Core.List.{List};
 ghost use Prim.Native.Nat.{_≤_};
 ghost use lib.ListN as L;
 ghost use Rattle.model.specs.Search as S;
 ghost use Rattle.model.specs.Run.{search};
 ghost use Rattle.instance.specs.Valid.{valid};
 ghost use Rattle.instance.specs.Meaning.{problem-of};
-ghost use Rattle.domains.specs.Shape.{Given};
+ghost use Rattle.model.specs.Branching.{Branch};
+ghost use Rattle.model.specs.Problem.{Precedence};
+ghost use Rattle.domains.specs.Shape.{shape-problem};
 ghost use Rattle.search.specs.Checkpoints.{path-of};
 ghost use Rattle.search.specs.Results.{result-of};
-ghost use Rattle.search.specs.Standing.{Seen, Standing, Replayed, Holds};
+ghost use Rattle.search.specs.Standing.{Ready, Looked, Lookable, Standing, Replayed, Holds};
 use crate::Outlook;
 use crate::Replay;
 use crate::SearchResult;
@@ -23,11 +26,38 @@ use domains::branch;
 use instance::Instance;
 
 // Propagates, and tells what the domains show.
-pub fn look(k: &mut [u8; 135], n: usize, sizes: &[u16; 30], capacity: &[u16; 3]) -> Outlook
-    requires { ⌜ Given (now k) n (now sizes) (now capacity) ⌝ }
-    ensures { λ r. ⌜ Seen n (now (sizes .entry)) (now (capacity .entry)) (now (k .entry)) (now (k .exit)) r ⌝ }
+pub fn look(
+    k: &mut [u8; 135],
+    rows: &mut [u16; 91],
+    ends: &mut [u32; 30],
+    starts: &mut [u32; 30],
+    queue: &mut [u16; 945],
+    top: usize,
+    n: usize,
+    sizes: &[u16; 30],
+    capacity: &[u16; 3],
+    fresh: u16,
+    large: bool,
+) -> Outlook
+    requires { ⌜ Lookable n (now sizes) (now capacity) large (now k) (now rows) (now ends) (now starts) (now queue) top fresh ⌝ }
+    ensures { λ _. ⌜ L.length (now (queue .exit)) ≡ 945 ⌝ }
+    ensures { λ r. ⌜ ((os : List Precedence) (path : List Branch) → Ready (shape-problem n (now (sizes .entry)) (now (capacity .entry)) os) (now (k .entry)) (now (rows .entry)) (now (ends .entry)) (now (starts .entry)) (now (queue .entry)) top fresh path → Looked (shape-problem n (now (sizes .entry)) (now (capacity .entry)) os) path (now (k .exit)) (now (rows .exit)) (now (ends .exit)) (now (starts .exit)) r) ⌝ }
 {
-    if domains::propagation::propagate(k, n, sizes, capacity) {
+    if large {
+        return Outlook::Conflict;
+    }
+    if domains::propagation::propagate(
+        k,
+        rows,
+        ends,
+        starts,
+        queue,
+        top,
+        n,
+        sizes,
+        capacity,
+        fresh,
+    ) {
         return Outlook::Conflict;
     }
     match branch::branching(k, n) {
@@ -41,12 +71,21 @@ fn no_levels() -> [Snapshot; 270]
     ensures { λ r. ⌜ L.length r ≡ 270 ⌝ }
 {
     let domains = [0u8; 135];
+    let rows = [0u16; 91];
+    let ends = [0u32; 30];
+    let starts = [0u32; 30];
     let place = Place {
         axis: 0,
         u: 0,
         v: 0,
     };
-    [Snapshot { domains, place }; 270]
+    [Snapshot {
+        domains,
+        rows,
+        ends,
+        starts,
+        place,
+    }; 270]
 }
 
 // The path of the first `length` branches from the root on: one propagation a branch.
@@ -58,25 +97,78 @@ pub fn replay(instance: Instance, branches: [u8; 270], length: usize) -> Replay
     let n = shape.items;
     let sizes = shape.sizes;
     let capacity = shape.capacity;
+    let precedences = instance.precedences;
     let mut levels = no_levels();
-    let mut k = domains::opening::opening_domains(instance);
+    let mut k = [7u8; 135];
+    let mut rows = [0u16; 91];
+    let mut queue = [0u16; 945];
+    let mut top = domains::opening::fix_precedences(
+        &mut k,
+        &mut rows,
+        &mut queue,
+        n,
+        precedences,
+        instance.precedence_count,
+    );
+    let mut ends = domains::layout::alone(&sizes);
+    let mut starts = ends;
+    let mut fresh = domains::layout::all_items(n);
+    let large = domains::propagation::any_large(n, &sizes, &capacity);
     let mut i: usize = 0;
     while i < length {
-        match look(&mut k, n, &sizes, &capacity) {
+        match look(
+            &mut k,
+            &mut rows,
+            &mut ends,
+            &mut starts,
+            &mut queue,
+            top,
+            n,
+            &sizes,
+            &capacity,
+            fresh,
+            large,
+        ) {
             Outlook::Fork(place) => {
-                levels[i] = Snapshot { domains: k, place };
-                branch::apply_branch(&mut k, place, branches[i] != 0);
+                levels[i] = Snapshot {
+                    domains: k,
+                    rows,
+                    ends,
+                    starts,
+                    place,
+                };
+                top = branch::apply_branch(
+                    &mut k,
+                    &mut rows,
+                    &mut queue,
+                    n,
+                    place,
+                    branches[i] != 0,
+                );
+                fresh = 0;
                 i = i + 1;
             }
             Outlook::Conflict => return Replay {
                 follows: false,
                 levels,
                 domains: k,
+                rows,
+                ends,
+                starts,
+                queue,
+                top,
+                fresh,
             },
             Outlook::Complete => return Replay {
                 follows: false,
                 levels,
                 domains: k,
+                rows,
+                ends,
+                starts,
+                queue,
+                top,
+                fresh,
             },
         }
     }
@@ -84,6 +176,12 @@ pub fn replay(instance: Instance, branches: [u8; 270], length: usize) -> Replay
         follows: true,
         levels,
         domains: k,
+        rows,
+        ends,
+        starts,
+        queue,
+        top,
+        fresh,
     }
 }
 
@@ -96,21 +194,40 @@ pub fn run(
     budget: u32,
 ) -> SearchResult
     requires { ⌜ valid instance ≡ true ⌝ }
-    requires { ⌜ Standing (problem-of instance) (start .levels) (start .domains) (path-of at given) × Holds (path-of at given) given at ⌝ }
+    requires { ⌜ Standing (problem-of instance) (start .levels) (start .domains) (start .rows) (start .ends) (start .starts) (start .queue) (start .top) (start .fresh) (path-of at given) × Holds (path-of at given) given at ⌝ }
     ensures { λ r. ⌜ r ≡ result-of (problem-of instance) (search (problem-of instance) budget (S.open-at (path-of at given))) ⌝ }
 {
     let shape = domains::layout::shape_of(instance);
     let n = shape.items;
     let sizes = shape.sizes;
     let capacity = shape.capacity;
+    let large = domains::propagation::any_large(n, &sizes, &capacity);
     let mut levels = start.levels;
     let mut k = start.domains;
+    let mut rows = start.rows;
+    let mut ends = start.ends;
+    let mut starts = start.starts;
+    let mut queue = start.queue;
+    let mut top = start.top;
+    let mut fresh = start.fresh;
     let mut branches = given;
     let mut depth = at;
     let mut taken: u32 = 0;
     while taken < budget {
         taken = taken + 1;
-        match look(&mut k, n, &sizes, &capacity) {
+        match look(
+            &mut k,
+            &mut rows,
+            &mut ends,
+            &mut starts,
+            &mut queue,
+            top,
+            n,
+            &sizes,
+            &capacity,
+            fresh,
+            large,
+        ) {
             Outlook::Conflict => {
                 depth = path::drop_seconds(&mut branches, depth);
                 if depth == 0 {
@@ -118,19 +235,29 @@ pub fn run(
                 }
                 branches[depth - 1] = 1;
                 let last = levels[depth - 1];
-                let kept = last.domains;
-                k = kept;
-                branch::apply_branch(&mut k, last.place, true);
+                k = last.domains;
+                rows = last.rows;
+                ends = last.ends;
+                starts = last.starts;
+                top = branch::apply_branch(&mut k, &mut rows, &mut queue, n, last.place, true);
+                fresh = 0;
             }
             Outlook::Complete => {
-                let packing = domains::starts::starts_of(&k, n, &sizes, &capacity);
+                let packing = domains::starts::starts_of(&ends, n, &sizes, &capacity);
                 return results::packed(taken, branches, depth, packing);
             }
             Outlook::Fork(place) => {
-                levels[depth] = Snapshot { domains: k, place };
+                levels[depth] = Snapshot {
+                    domains: k,
+                    rows,
+                    ends,
+                    starts,
+                    place,
+                };
                 branches[depth] = 0;
                 depth = depth + 1;
-                branch::apply_branch(&mut k, place, false);
+                top = branch::apply_branch(&mut k, &mut rows, &mut queue, n, place, false);
+                fresh = 0;
             }
         }
     }

@@ -1,22 +1,27 @@
 -- `search::repeat` meets its contract.
 use mathlib.Core.List.{List, map}
 use mathlib.Core.Path.{_≡_, sym, _∙_}
+use Prim.Native.Nat.{ℕ}
+use native.Mathlib.Omega.{arith}
+use lib.ListN.{getD}
 use lib.ListN as L
+use mir.Syntax.{w16}
+use mir.Val.{Fits}
 use borrow.Author.Needs.{needs}
 use borrow.Author.Tests.{not-true, not-false}
 use Rattle.model.proofs.Run.{forking-so}
 use Rattle.model.specs.Admits.{Sound}
 use Rattle.model.specs.Branching.{Branch}
-use Rattle.model.specs.Domains.{Domains}
-use Rattle.model.specs.Order.{WellFormed}
 use Rattle.model.specs.Problem.{Problem}
 use Rattle.model.specs.Run.{look}
 use Rattle.model.specs.Search as S
 use Rattle.instance.specs.Meaning.{precedence-of}
 use Rattle.instance.specs.Valid.{precedences-of}
-use Rattle.domains.specs.Shape.{shape-problem, Given}
+use Rattle.domains.specs.Propagated.{Arrays}
+use Rattle.domains.specs.Shape.{shape-problem}
 use Rattle.search.specs.Checkpoints.{path-of}
 use Rattle.search.specs.Standing.{Standing, Looked}
+use Rattle.search.specs.declared.Replay.{Replay}
 use Rattle.search.proofs.Checkpoints.{path-length}
 use Rattle.search.proofs.Outcome.{comes-packed, comes-again, follows-result, refused-result, complete-follows, incomplete}
 use Rattle.search.proofs.Seeing.{startable, started-plan}
@@ -39,16 +44,23 @@ problem c =
 sound : (c : tie.After-shape-of) → Sound (problem c)
 sound c = laid-sound (c .before .before .before .before .before .args .instance) (c .shape-of .result) (c .shape-of .ensures) (c .before .before .before .before .before .pre .0) (long (c .before .before .before .before .before))
 
-arrays : (c : tie.After-shape-of) {k : Domains} → WellFormed k → Given k (c .shape-of .result .items) (c .shape-of .result .sizes) (c .shape-of .result .capacity)
-arrays c w = record { well-formed = w; limited = sound c .limited; sizes-long = search needs; capacity-long = search needs }
+small : (c : tie.After-shape-of) (i : ℕ) → Fits w16 (getD (c .shape-of .result .sizes) i 0)
+small c i = search needs
+
+arrays : (c : tie.After-shape-of) → Arrays (c .shape-of .result .items) (c .shape-of .result .sizes) (c .shape-of .result .capacity)
+arrays c = record { limited = sound c .limited; sizes-long = search needs; sizes-small = λ i. omega (arith, small c i .fits); capacity-long = search needs }
 
 -- where the replay has come to
-here : (c : tie.After-shape-of) → Standing (problem c) (c .before .before .before .replay .result .levels) (c .before .before .before .replay .result .domains) (path (c .before .before .before .before .before))
+abbrev Stands : Problem → Replay → List Branch → Type 0
+Stands p r bs = Standing p (r .levels) (r .domains) (r .rows) (r .ends) (r .starts) (r .queue) (r .top) (r .fresh) bs
+
+here : (c : tie.After-shape-of) → Stands (problem c) (c .before .before .before .replay .result) (path (c .before .before .before .before .before))
 here c = rw (c .shape-of .ensures .means) at (c .before .before .before .replay .ensures .stands (not-false _ (c .before .if1 .left)))
 
 -- what is seen there
-seen : (c : tie.After-look) → Looked (problem (c .before .before .before .before .before .before .before)) (path (c .before .before .before .before .before .before .before .before .before .before .before .before)) (c .look .last .0) (c .look .result)
-seen c = c .look .ensures .looked _ _ (here (c .before .before .before .before .before .before .before) .ready)
+seen : (c : tie.After-look)
+    → Looked (problem (c .before .before .before .before .before .before .before .before .before .before .before .before .before .before .before .before .before .before)) (path (c .before .before .before .before .before .before .before .before .before .before .before .before .before .before .before .before .before .before .before .before .before .before .before)) (c .look .last .0) (c .look .last .1 .0) (c .look .last .1 .1 .0) (c .look .last .1 .1 .1 .0) (c .look .result)
+seen c = c .look .ensures .1 _ _ (here (c .before .before .before .before .before .before .before .before .before .before .before .before .before .before .before .before .before .before) .ready)
 
 replay-requires : tie.Need-replay-requires
 replay-requires c κs = search needs
@@ -57,25 +69,25 @@ refused-requires : tie.Need-refused-requires
 refused-requires c κs = search needs
 
 returns : tie.Need-returns
-returns c =
-    rw (← (c .before .before .before .replay .ensures .verdict), not-true (c .before .before .before .replay .result .follows) (c .before .if1 .taken)) (c .refused .ensures)
+returns c = rw (← (c .before .before .before .replay .ensures .verdict), not-true (c .before .before .before .replay .result .follows) (c .before .if1 .taken)) (c .refused .ensures)
 
 shape-of-requires : tie.Need-shape-of-requires
 shape-of-requires c κs = search needs
 
+any-large-requires : tie.Need-any-large-requires
+any-large-requires c κs = (arrays (c .before .before .before .before .before .before .before .before .before) .sizes-long, arrays (c .before .before .before .before .before .before .before .before .before) .capacity-long)
+
 look-requires : tie.Need-look-requires
-look-requires c κs = arrays (c .before .before .before .before .before .before) (here (c .before .before .before .before .before .before) .ready .well-formed)
+look-requires c κs = record { arrays = arrays (c .before .before .before .before .before .before .before .before .before .before .before .before .before .before .before .before .before); verdict = c .before .before .before .before .before .before .before .any-large .ensures; precedences = _; ready = here (c .before .before .before .before .before .before .before .before .before .before .before .before .before .before .before .before .before) .ready .ready }
 
 enum-told : tie.Need-enum-told
 enum-told c = search needs
 
 path-branches-requires : tie.Need-path-branches-requires
-path-branches-requires c κs = search needs
+path-branches-requires c κs = c .before .before .before .before .before .before .before .before .before .before .before .before .before .before .before .before .before .before .before .before .before .before .before .before .before .pre .1
 
 starts-of-requires : tie.Need-starts-of-requires
-starts-of-requires c κs =
-    let l = rw (c .before .before .before .before .enum-told .given .1) at (seen (c .before .before .before .before .before .before)) in
-    startable _ _ _ _ (path (c .before .before .before .before .before .before .before .before .before .before .before .before .before .before .before .before .before .before)) (sound (c .before .before .before .before .before .before .before .before .before .before .before .before .before)) (arrays (c .before .before .before .before .before .before .before .before .before .before .before .before .before) (c .before .before .before .before .before .before .look .ensures .well-formed)) l
+starts-of-requires c κs = startable _ _ _ _ (path (c .before .before .before .before .before .before .before .before .before .before .before .before .before .before .before .before .before .before .before .before .before .before .before .before .before .before .before .before .before)) (arrays (c .before .before .before .before .before .before .before .before .before .before .before .before .before .before .before .before .before .before .before .before .before .before .before .before)) (rw (c .before .before .before .before .enum-told .given .1) at (seen (c .before .before .before .before .before .before)))
 
 packed-requires : tie.Need-packed-requires
 packed-requires c κs = search needs
@@ -94,31 +106,33 @@ refused-requires-3 c κs = search needs
 
 returns-2 : tie.Need-returns-2
 returns-2 c =
-    let p = problem (c .before .before .before .before .before .before .before .before .before .before .before .before .before .before .before) in
+    let a = c .before .before .before .before .before .before .before .before .before .before .before .before .before .before .before .before .before .before .before .before .before .before .before .before .before .before .before .before .before .before .before .args in
+    let p = problem (c .before .before .before .before .before .before .before .before .before .before .before .before .before .before .before .before .before .before .before .before .before .before .before .before .before .before) in
+    let whole = path (c .before .before .before .before .before .before .before .before .before .before .before .before .before .before .before .before .before .before .before .before .before .before .before .before .before .before .before .before .before .before .before) in
     let l = rw (c .before .before .before .before .before .before .enum-told .given .1) at (seen (c .before .before .before .before .before .before .before .before)) in
     let q : L.length (c .before .starts-of .result .positions) ≡ 10 = search length-mapped in
-    let κ = S.packed-at (path (c .before .before .before .before .before .before .before .before .before .before .before .before .before .before .before .before .before .before .before .before)) in
-    let f = complete-follows p (path (c .before .before .before .before .before .before .before .before .before .before .before .before .before .before .before .before .before .before .before .before)) (forking-so (look p) (path (c .before .before .before .before .before .before .before .before .before .before .before .before .before .before .before .before .before .before .before .before)) .1 (here (c .before .before .before .before .before .before .before .before .before .before .before .before .before .before .before) .forks)) (l .0) in
-    rw (c .before .before .before .before .before .before .before .before .before .before .before .before .before .before .before .shape-of .ensures .means)
+    let f = complete-follows p whole (forking-so (look p) whole .1 (here (c .before .before .before .before .before .before .before .before .before .before .before .before .before .before .before .before .before .before .before .before .before .before .before .before .before .before) .forks)) (l .0) in
+    rw (c .before .before .before .before .before .before .before .before .before .before .before .before .before .before .before .before .before .before .before .before .before .before .before .before .before .before .shape-of .ensures .means)
     (c .packed .ensures
-    ∙ comes-packed p (c .before .before .before .before .before .before .before .before .before .before .before .before .before .before .before .before .before .before .before .before .args .budget) κ (record { many = sym (path-length _ _); values = c .before .before .before .before .before .path-branches .ensures }) (started-plan _ _ _ _ (path (c .before .before .before .before .before .before .before .before .before .before .before .before .before .before .before .before .before .before .before .before)) l (c .before .starts-of .ensures) q) (comes-again p (c .before .before .before .before .before .before .before .before .before .before .before .before .before .before .before .before .before .before .before .before .args .budget) κ tt)
-    ∙ follows-result p (c .before .before .before .before .before .before .before .before .before .before .before .before .before .before .before .before .before .before .before .before .args .budget) κ _ f)
+    ∙ comes-packed p (a .budget) (S.packed-at whole) (record { many = sym (path-length _ _); values = c .before .before .before .before .before .path-branches .ensures })
+    (started-plan _ _ _ _ whole (arrays (c .before .before .before .before .before .before .before .before .before .before .before .before .before .before .before .before .before .before .before .before .before .before .before .before .before .before)) l (c .before .starts-of .ensures) q) (comes-again p (a .budget) (S.packed-at whole) tt)
+    ∙ follows-result p (a .budget) (S.packed-at whole) _ f)
 
 returns-3 : tie.Need-returns-3
 returns-3 c =
-    let a = c .before .before .before .before .before .before .before .before .before .before .before .before .before .before .before .args in
-    let p = problem (c .before .before .before .before .before .before .before .before .before .before) in
+    let a = c .before .before .before .before .before .before .before .before .before .before .before .before .before .before .before .before .before .before .before .before .before .before .before .before .before .before .args in
+    let p = problem (c .before .before .before .before .before .before .before .before .before .before .before .before .before .before .before .before .before .before .before .before .before) in
     let l = rw (c .before .enum-told2 .given .1) at (seen (c .before .before .before)) in
-    rw (c .before .before .before .before .before .before .before .before .before .before .shape-of .ensures .means)
-    (c .refused2 .ensures ∙ refused-result p (a .budget) (S.packed-at (path (c .before .before .before .before .before .before .before .before .before .before .before .before .before .before .before))) (a .checkpoint) (incomplete p (path (c .before .before .before .before .before .before .before .before .before .before .before .before .before .before .before)) (rw l)))
+    rw (c .before .before .before .before .before .before .before .before .before .before .before .before .before .before .before .before .before .before .before .before .before .shape-of .ensures .means)
+    (c .refused2 .ensures ∙ refused-result p (a .budget) (S.packed-at (path (c .before .before .before .before .before .before .before .before .before .before .before .before .before .before .before .before .before .before .before .before .before .before .before .before .before .before))) (a .checkpoint) (incomplete p (path (c .before .before .before .before .before .before .before .before .before .before .before .before .before .before .before .before .before .before .before .before .before .before .before .before .before .before)) (rw l)))
 
 returns-4 : tie.Need-returns-4
 returns-4 c =
-    let a = c .before .before .before .before .before .before .before .before .before .before .before .before .before .before .before .args in
-    let p = problem (c .before .before .before .before .before .before .before .before .before .before) in
+    let a = c .before .before .before .before .before .before .before .before .before .before .before .before .before .before .before .before .before .before .before .before .before .before .before .before .before .before .args in
+    let p = problem (c .before .before .before .before .before .before .before .before .before .before .before .before .before .before .before .before .before .before .before .before .before) in
     let l = rw (c .before .enum-told3 .given .1) at (seen (c .before .before .before)) in
-    rw (c .before .before .before .before .before .before .before .before .before .before .shape-of .ensures .means)
-    (c .refused3 .ensures ∙ refused-result p (a .budget) (S.packed-at (path (c .before .before .before .before .before .before .before .before .before .before .before .before .before .before .before))) (a .checkpoint) (incomplete p (path (c .before .before .before .before .before .before .before .before .before .before .before .before .before .before .before)) (rw (l .0))))
+    rw (c .before .before .before .before .before .before .before .before .before .before .before .before .before .before .before .before .before .before .before .before .before .shape-of .ensures .means)
+    (c .refused3 .ensures ∙ refused-result p (a .budget) (S.packed-at (path (c .before .before .before .before .before .before .before .before .before .before .before .before .before .before .before .before .before .before .before .before .before .before .before .before .before .before))) (a .checkpoint) (incomplete p (path (c .before .before .before .before .before .before .before .before .before .before .before .before .before .before .before .before .before .before .before .before .before .before .before .before .before .before)) (rw (l .0))))
 
 pub repeat-spec : {M : Type 1} → statement M
 repeat-spec =
@@ -128,6 +142,7 @@ repeat-spec =
     refused-requires
     returns
     shape-of-requires
+    any-large-requires
     look-requires
     enum-told
     path-branches-requires

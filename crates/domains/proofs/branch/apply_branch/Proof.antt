@@ -1,70 +1,86 @@
 -- `domains::branch::apply_branch` meets its contract.
-use Rattle.model.proofs.Removal.{fix-overlap-well-formed, remove-overlap-well-formed, remove-before-well-formed}
 use borrow.Author.Needs.{needs}
+use native.Mathlib.Omega.{arith}
+use mathlib.Core.Bool.{true, false}
+use mathlib.Core.Path.{refl, sym, _∙_}
+use Rattle.rows.specs.Rows.{without}
+use Rattle.domains.proofs.Branches.{removable, branched-once, branched-twice}
 use Rattle.domains.proofs.branch.apply_branch.Statement.{statement}
 use Rattle.domains.proofs.branch.apply_branch.Tie as tie
 
-may-overlap-requires : tie.Need-may-overlap-requires
-may-overlap-requires c κs = search needs
+bit-requires : tie.Need-bit-requires
+bit-requires c κs = search needs
 
-fix-overlap-requires : tie.Need-fix-overlap-requires
-fix-overlap-requires c κs = search needs
+mul-has : tie.Need-mul-has
+mul-has c = search needs
+
+add-has : tie.Need-add-has
+add-has c = search needs
+
+mul-has-2 : tie.Need-mul-has-2
+mul-has-2 c = search needs
+
+element-copy-out-has : tie.Need-element-copy-out-has
+element-copy-out-has c = search needs
+
+has-requires : tie.Need-has-requires
+has-requires c κs = search needs
+
+remove-requires : tie.Need-remove-requires
+remove-requires c κs = let b = c .before .before .before .before .before .before .before .before in removable (b .pre .0) (b .args .place) (b .pre .1) (c .before .before .before .before .before .before .before .bit .ensures .0) (b .pre .0) (omega arith)
 
 returns : tie.Need-returns
+unfolding without
 returns c =
-    let p = c .before .before .before .before .before .before .args .place in
-    let k = c .before .before .before .before .before .before .args .k .now in
-    record {
-      left = rw (← (c .before .before .before .before .may-overlap .ensures), c .before .before .before .if1 .taken, c .before .before .if2 .taken) (c .fix-overlap .ensures);
-      well-formed = rw (c .fix-overlap .ensures) (fix-overlap-well-formed k (p .axis) (p .u) (p .v) (c .before .before .before .before .before .before .pre .0));
-    }
+    let b = c .before .before .before .before .before .before .before .before .before in
+    branched-once (b .pre .0) (b .args .place) (b .pre .1) (c .before .before .before .before .before .before .before .before .bit .ensures .0) false true (sym (c .before .before .before .before .before .before .has .ensures) ∙ c .before .before .before .before .before .if1 .taken) (c .before .before .before .before .if2 .taken) 1 refl (c .remove .ensures)
 
-remove-overlap-requires : tie.Need-remove-overlap-requires
-remove-overlap-requires c κs = search needs
+remove-requires-2 : tie.Need-remove-requires-2
+remove-requires-2 c κs = let b = c .before .before .before .before .before .before .before .before in removable (b .pre .0) (b .args .place) (b .pre .1) (c .before .before .before .before .before .before .before .bit .ensures .0) (b .pre .0) (omega arith)
 
 returns-2 : tie.Need-returns-2
+unfolding without
 returns-2 c =
-    let p = c .before .before .before .before .before .before .args .place in
-    let k = c .before .before .before .before .before .before .args .k .now in
-    record {
-      left = rw (← (c .before .before .before .before .may-overlap .ensures), c .before .before .before .if1 .taken, c .before .before .if2 .left) (c .remove-overlap .ensures);
-      well-formed = rw (c .remove-overlap .ensures) (remove-overlap-well-formed k (p .axis) (p .u) (p .v) (c .before .before .before .before .before .before .pre .0));
-    }
+    let b = c .before .before .before .before .before .before .before .before .before in
+    branched-once (b .pre .0) (b .args .place) (b .pre .1) (c .before .before .before .before .before .before .before .before .bit .ensures .0) false false (sym (c .before .before .before .before .before .before .has .ensures) ∙ c .before .before .before .before .before .if1 .taken) (c .before .before .before .before .if2 .left) 2 refl (c .remove2 .ensures)
 
-remove-before-requires : tie.Need-remove-before-requires
-remove-before-requires c κs = search needs
+remove-requires-3 : tie.Need-remove-requires-3
+remove-requires-3 c κs = let b = c .before .before .before .before .before .before .before .before in removable (b .pre .0) (b .args .place) (b .pre .1) (c .before .before .before .before .before .before .before .bit .ensures .0) (b .pre .0) (omega arith)
+
+remove-requires-4 : tie.Need-remove-requires-4
+remove-requires-4 c κs = let b = c .before .before .before .before .before .before .before .before .before .before .before .before in removable (b .pre .0) (b .args .place) (b .pre .1) (c .before .before .before .before .before .before .before .before .before .before .before .bit .ensures .0) (c .before .before .before .remove3 .ensures .grown .good) (omega arith)
 
 returns-3 : tie.Need-returns-3
 returns-3 c =
-    let p = c .before .before .before .before .before .before .args .place in
-    let k = c .before .before .before .before .before .before .args .k .now in
-    record {
-      left = rw (← (c .before .before .before .before .may-overlap .ensures), c .before .before .before .if1 .left, c .before .before .if3 .taken) (c .remove-before .ensures);
-      well-formed = rw (c .remove-before .ensures) (remove-before-well-formed k (p .axis) (p .u) (p .v) (c .before .before .before .before .before .before .pre .0));
-    }
+    let b = c .before .before .before .before .before .before .before .before .before .before .before .before .before in
+    branched-twice (b .pre .0) (b .args .place) (b .pre .1) (c .before .before .before .before .before .before .before .before .before .before .before .before .bit .ensures .0) (sym (c .before .before .before .before .before .before .before .before .before .before .has .ensures) ∙ c .before .before .before .before .before .before .before .before .before .if1 .left) (c .before .before .before .before .before .before .before .before .if3 .taken)
+    (c .before .before .before .before .remove3 .ensures) (c .remove4 .ensures)
 
-remove-before-requires-2 : tie.Need-remove-before-requires-2
-remove-before-requires-2 c κs = search needs
+remove-requires-5 : tie.Need-remove-requires-5
+remove-requires-5 c κs = let b = c .before .before .before .before .before .before .before .before in removable (b .pre .0) (b .args .place) (b .pre .1) (c .before .before .before .before .before .before .before .bit .ensures .0) (b .pre .0) (omega arith)
 
 returns-4 : tie.Need-returns-4
+unfolding without
 returns-4 c =
-    let p = c .before .before .before .before .before .before .args .place in
-    let k = c .before .before .before .before .before .before .args .k .now in
-    record {
-      left = rw (← (c .before .before .before .before .may-overlap .ensures), c .before .before .before .if1 .left, c .before .before .if3 .left) (c .remove-before2 .ensures);
-      well-formed = rw (c .remove-before2 .ensures) (remove-before-well-formed k (p .axis) (p .v) (p .u) (c .before .before .before .before .before .before .pre .0));
-    }
+    let b = c .before .before .before .before .before .before .before .before .before in
+    branched-once (b .pre .0) (b .args .place) (b .pre .1) (c .before .before .before .before .before .before .before .before .bit .ensures .0) true false (sym (c .before .before .before .before .before .before .has .ensures) ∙ c .before .before .before .before .before .if1 .left) (c .before .before .before .before .if3 .left) 0 refl (c .remove5 .ensures)
 
 pub apply-branch-spec : {M : Type 1} → statement M
 apply-branch-spec =
     tie.close
     (tie.spec
-    may-overlap-requires
-    fix-overlap-requires
+    bit-requires
+    mul-has
+    add-has
+    mul-has-2
+    element-copy-out-has
+    has-requires
+    remove-requires
     returns
-    remove-overlap-requires
+    remove-requires-2
     returns-2
-    remove-before-requires
+    remove-requires-3
+    remove-requires-4
     returns-3
-    remove-before-requires-2
+    remove-requires-5
     returns-4)

@@ -1,34 +1,65 @@
 -- `domains::branch::separated` meets its contract.
-use Rattle.domains.proofs.Choices.{separated-is}
 use borrow.Author.Needs.{needs}
 use Rattle.domains.proofs.branch.separated.Statement.{statement}
 use Rattle.domains.proofs.branch.separated.Tie as tie
 
-separated-on-requires : tie.Need-separated-on-requires
-separated-on-requires c κs = search needs
+mul-is-separated : tie.Need-mul-is-separated
+mul-is-separated c = search needs
+
+element-copy-out-is-separated : tie.Need-element-copy-out-is-separated
+element-copy-out-is-separated c = search needs
+
+is-separated-requires : tie.Need-is-separated-requires
+is-separated-requires c κs = c .before .pre .0 .small _
 
 returns : tie.Need-returns
-returns c = let a = c .before .before .args in rw (← (separated-is (a .k .now) (a .u) (a .v)), ← (c .before .separated-on .ensures), c .if1 .taken)
+returns c = rw (← (c .before .is-separated .ensures), c .if1 .taken)
 
-separated-on-requires-2 : tie.Need-separated-on-requires-2
-separated-on-requires-2 c κs = search needs
+mul-is-separated-2 : tie.Need-mul-is-separated-2
+mul-is-separated-2 c = search needs
+
+add-is-separated : tie.Need-add-is-separated
+add-is-separated c = search needs
+
+element-copy-out-is-separated-2 : tie.Need-element-copy-out-is-separated-2
+element-copy-out-is-separated-2 c = search needs
+
+is-separated-requires-2 : tie.Need-is-separated-requires-2
+is-separated-requires-2 c κs = c .before .before .before .before .pre .0 .small _
 
 returns-2 : tie.Need-returns-2
-returns-2 c = let a = c .before .before .before .before .args in rw (← (separated-is (a .k .now) (a .u) (a .v)), ← (c .before .before .before .separated-on .ensures), c .before .before .if1 .left, ← (c .before .separated-on2 .ensures), c .if2 .taken)
+returns-2 c = rw (← (c .before .before .before .before .is-separated .ensures), c .before .before .before .if1 .left, ← (c .before .is-separated2 .ensures), c .if2 .taken)
 
-separated-on-requires-3 : tie.Need-separated-on-requires-3
-separated-on-requires-3 c κs = search needs
+mul-is-separated-3 : tie.Need-mul-is-separated-3
+mul-is-separated-3 c = search needs
+
+add-is-separated-2 : tie.Need-add-is-separated-2
+add-is-separated-2 c = search needs
+
+element-copy-out-is-separated-3 : tie.Need-element-copy-out-is-separated-3
+element-copy-out-is-separated-3 c = search needs
+
+is-separated-requires-3 : tie.Need-is-separated-requires-3
+is-separated-requires-3 c κs = c .before .before .before .before .before .before .before .pre .0 .small _
 
 returns-3 : tie.Need-returns-3
-returns-3 c = let a = c .before .before .before .before .before .args in rw (← (separated-is (a .k .now) (a .u) (a .v)), ← (c .before .before .before .before .separated-on .ensures), c .before .before .before .if1 .left, ← (c .before .before .separated-on2 .ensures), c .before .if2 .left) (c .separated-on3 .ensures)
+returns-3 c = rw (← (c .before .before .before .before .before .before .is-separated .ensures), c .before .before .before .before .before .if1 .left, ← (c .before .before .before .is-separated2 .ensures), c .before .before .if2 .left) (c .is-separated3 .ensures)
 
 pub separated-spec : {M : Type 1} → statement M
 separated-spec =
     tie.close
     (tie.spec
-    separated-on-requires
+    mul-is-separated
+    element-copy-out-is-separated
+    is-separated-requires
     returns
-    separated-on-requires-2
+    mul-is-separated-2
+    add-is-separated
+    element-copy-out-is-separated-2
+    is-separated-requires-2
     returns-2
-    separated-on-requires-3
+    mul-is-separated-3
+    add-is-separated-2
+    element-copy-out-is-separated-3
+    is-separated-requires-3
     returns-3)

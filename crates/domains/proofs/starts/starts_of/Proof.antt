@@ -8,72 +8,61 @@ use Rattle.instance.specs.declared.Position.{Position}
 use Rattle.instance.specs.Meaning.{start, positions-of}
 use Rattle.instance.specs.Values.{origin}
 use Rattle.relations.proofs.Tests.{stored-more}
-use Rattle.domains.proofs.Packings.{blank-at, position-at, start-of-position, start-is, starts-at}
+use Rattle.domains.proofs.Packings.{blank-at, position-at, start-of-position}
 use Rattle.domains.proofs.starts.starts_of.Statement.{statement}
 use Rattle.domains.proofs.starts.starts_of.Tie as tie
 
 abbrev Inv-loop : tie.InvT-loop
-Inv-loop k n sizes capacity ends positions₀ u₀ positions u = (u ≤ n) × (length positions ≡ 10) × ((x : ℕ) → x < u → getD positions x origin ≡ position-at ends sizes x) × ((x : ℕ) → u ≤ x → getD positions x origin ≡ origin)
+Inv-loop ends n sizes capacity positions₀ u₀ positions u = (u ≤ n) × (length positions ≡ 10) × ((x : ℕ) → x < u → getD positions x origin ≡ position-at ends sizes x) × ((x : ℕ) → u ≤ x → getD positions x origin ≡ origin)
 
 abbrev μ-loop : tie.MeasureT-loop
-μ-loop k n sizes capacity ends positions₀ u₀ positions u = n - u
-
-chains-requires : tie.Need-chains-requires Inv-loop μ-loop
-chains-requires c κs = let g = c .pre .given in (g .well-formed .long, g .limited, g .sizes-long)
+μ-loop ends n sizes capacity positions₀ u₀ positions u = n - u
 
 loop-holds : tie.Need-loop-holds Inv-loop μ-loop
 loop-holds c = (omega arith, refl, λ x h. absurd (omega arith), λ x h. blank-at 10 x)
 
 start-at-requires : tie.Need-start-at-requires Inv-loop μ-loop
-start-at-requires c κs =
-    let a = c .before .before .before .before .args in
-    starts-at (a .k .now) (a .n) (a .sizes .now) (a .capacity .now) (c .before .before .before .chains .result) (c .before .before .before .before .pre) (c .before .before .before .chains .ensures) 0 (c .before .before .loop .u) (omega arith) (c .before .loop-test .taken)
+start-at-requires c κs = c .before .before .pre .all 0 (c .before .loop .u) (omega arith) (c .loop-test .taken)
 
 start-at-requires-2 : tie.Need-start-at-requires-2 Inv-loop μ-loop
-start-at-requires-2 c κs =
-    let a = c .before .before .before .before .before .before .args in
-    starts-at (a .k .now) (a .n) (a .sizes .now) (a .capacity .now) (c .before .before .before .before .before .chains .result) (c .before .before .before .before .before .before .pre) (c .before .before .before .before .before .chains .ensures) 1 (c .before .before .before .before .loop .u) (omega arith) (c .before .before .before .loop-test .taken)
+start-at-requires-2 c κs = c .before .before .before .pre .all 1 (c .before .before .loop .u) (omega arith) (c .before .loop-test .taken)
 
 start-at-requires-3 : tie.Need-start-at-requires-3 Inv-loop μ-loop
-start-at-requires-3 c κs =
-    let a = c .before .before .before .before .before .before .before .before .args in
-    starts-at (a .k .now) (a .n) (a .sizes .now) (a .capacity .now) (c .before .before .before .before .before .before .before .chains .result) (c .before .before .before .before .before .before .before .before .pre) (c .before .before .before .before .before .before .before .chains .ensures) 2 (c .before .before .before .before .before .before .loop .u) (omega arith) (c .before .before .before .before .before .loop-test .taken)
+start-at-requires-3 c κs = c .before .before .before .before .pre .all 2 (c .before .before .before .loop .u) (omega arith) (c .before .before .loop-test .taken)
 
 mul-positions : tie.Need-mul-positions Inv-loop μ-loop
-mul-positions c = omega (arith, c .before .before .before .before .before .before .before .before .before .pre .given .limited)
+mul-positions c = omega (arith, c .before .before .before .before .before .pre .limited, c .before .before .before .loop-test .taken)
 
 array-set-from-positions : tie.Need-array-set-from-positions Inv-loop μ-loop
-array-set-from-positions c = omega (arith, c .before .before .before .before .before .before .before .before .before .pre .given .limited)
+array-set-from-positions c = omega (arith, c .before .before .before .before .before .pre .limited, c .before .before .before .loop-test .taken)
 
 add-u : tie.Need-add-u Inv-loop μ-loop
-add-u c = omega (arith, c .before .before .before .before .before .before .before .before .before .pre .given .limited)
+add-u c = omega (arith, c .before .before .before .before .before .pre .limited, c .before .before .before .loop-test .taken)
 
 loop-less : tie.Need-loop-less Inv-loop μ-loop
-loop-less c = omega arith
+loop-less c = omega (arith, c .before .before .before .loop-test .taken)
 
 loop-again : tie.Need-loop-again Inv-loop μ-loop
 loop-again c =
-    let a = c .before .before .before .before .before .before .before .before .before .args in
-    let l = c .before .before .before .before .before .before .before .loop in
-    let ends = c .before .before .before .before .before .before .before .before .chains .result in
-    let v : Position = record { x = c .before .before .before .before .start-at .result; y = c .before .before .start-at2 .result; t = c .start-at3 .result } in
-    let e : v ≡ position-at ends (a .sizes .now) (l .u) = λ i. record { x = (c .before .before .before .before .start-at .ensures) i; y = (c .before .before .start-at2 .ensures) i; t = (c .start-at3 .ensures) i } in (
-      omega arith,
+    let a = c .before .before .before .before .before .args in
+    let l = c .before .before .before .before .loop in
+    let h = c .before .before .before .loop-test .taken in
+    let v : Position = record { x = c .before .before .start-at .result; y = c .before .start-at2 .result; t = c .start-at3 .result } in
+    let e : v ≡ position-at (a .ends .now) (a .sizes .now) (l .u) = λ i. record { x = (c .before .before .start-at .ensures) i; y = (c .before .start-at2 .ensures) i; t = (c .start-at3 .ensures) i } in (
+      omega (arith, h),
       length-set (l .positions) (l .u) v ∙ l .inv .1,
-      stored-more origin (λ x y. y ≡ position-at ends (a .sizes .now) x) (l .positions) (l .u) v (omega (arith, c .before .before .before .before .before .before .before .before .before .pre .given .limited)) (l .inv .2) e,
-      λ x h. getD-set-other (l .positions) (l .u) x v origin (omega arith) ∙ l .inv .3 x (omega arith),
+      stored-more origin (λ x y. y ≡ position-at (a .ends .now) (a .sizes .now) x) (l .positions) (l .u) v (omega (arith, c .before .before .before .before .before .pre .limited, h, l .inv .1)) (l .inv .2) e,
+      λ x b. getD-set-other (l .positions) (l .u) x v origin (omega (arith, b)) ∙ l .inv .3 x (omega (arith, b)),
     )
 
 returns : tie.Need-returns Inv-loop μ-loop
 unfolding positions-of
 returns c =
-    let a = c .before .before .before .args in
+    let a = c .before .before .args in
     let l = c .before .loop in
-    let ends = c .before .before .chains .result in
     record {
-      placed = λ os b x hb hx. ap (start b) (l .inv .2 x (omega arith))
-          ∙ (start-of-position ends (a .sizes .now) b x hb ∙ start-is (a .k .now) (a .n) (a .sizes .now) (a .capacity .now) ends (c .before .before .before .pre) (c .before .before .chains .ensures) os b x hb hx);
-      past = λ x h. l .inv .3 x (omega arith);
+      placed = λ b x hb hx. ap (start b) (l .inv .2 x (omega (arith, hx, c .loop-test .left))) ∙ start-of-position (a .ends .now) (a .sizes .now) b x hb;
+      past = λ x h. l .inv .3 x (omega (arith, h, l .inv .0));
     }
 
 pub starts-of-spec : {M : Type 1} → statement M
@@ -82,7 +71,6 @@ starts-of-spec =
     (tie.spec
     Inv-loop
     μ-loop
-    chains-requires
     loop-holds
     start-at-requires
     start-at-requires-2

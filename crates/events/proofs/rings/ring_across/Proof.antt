@@ -1,0 +1,101 @@
+-- `events::rings::ring_across` meets its contract.
+use mathlib.Core.Path.{sym, _∙_}
+use native.Mathlib.Omega.{arith}
+use borrow.Author.Needs.{needs}
+use borrow.Author.Tests.{not-true}
+use Rattle.events.specs.Sets.{Ring}
+use Rattle.events.proofs.Reading.{readable}
+use Rattle.events.proofs.Looks.{Looked, looked-none, looked-one}
+use Rattle.events.proofs.Cycles.{both-small, both-item, diagonal-idle, diagonal-worked}
+use Rattle.events.proofs.rings.ring_across.Statement.{statement}
+use Rattle.events.proofs.rings.ring_across.Tie as tie
+
+abbrev Inv-loop : tie.InvT-loop
+Inv-loop k₀ rows₀ queue₀ top n a q s end₀ left₀ k rows queue end left = Looked n (λ r. Ring n a q r s) left₀ k₀ queue₀ top k rows queue end left
+
+abbrev μ-loop : tie.MeasureT-loop
+μ-loop k₀ rows₀ queue₀ top n a q s end₀ left₀ k rows queue end left = left
+
+mul-has : tie.Need-mul-has Inv-loop μ-loop
+mul-has c = search needs
+
+add-has : tie.Need-add-has Inv-loop μ-loop
+add-has c = search needs
+
+mul-has-2 : tie.Need-mul-has-2 Inv-loop μ-loop
+mul-has-2 c = search needs
+
+element-copy-out-has : tie.Need-element-copy-out-has Inv-loop μ-loop
+element-copy-out-has c = search needs
+
+has-requires : tie.Need-has-requires Inv-loop μ-loop
+has-requires c κs = let p = c .before .pre in omega (arith, p .0 .limited, p .3)
+
+returns : tie.Need-returns Inv-loop μ-loop
+returns c =
+    let p = c .before .before .before .pre in
+    diagonal-idle (p .0) (p .1) (p .2) (p .3) (sym (c .before .has .ensures) ∙ not-true _ (c .if1 .taken))
+
+lapping-requires : tie.Need-lapping-requires Inv-loop μ-loop
+lapping-requires c κs = let p = c .before .before .before .before .pre in readable (p .0) (p .1) (p .2) (p .2)
+
+lapping-requires-2 : tie.Need-lapping-requires-2 Inv-loop μ-loop
+lapping-requires-2 c κs = let p = c .before .before .before .before .before .before .pre in readable (p .0) (p .1) (p .3) (p .3)
+
+loop-holds : tie.Need-loop-holds Inv-loop μ-loop
+loop-holds c =
+    let p = c .before .before .before .before .before .before .before .pre in
+    looked-none (p .0) (both-small (p .0) (p .1) (p .2) (p .3) (c .before .before .lapping .ensures) (c .lapping2 .ensures))
+
+lowest-requires : tie.Need-lowest-requires Inv-loop μ-loop
+lowest-requires c κs = (c .before .loop .inv .through .small, c .loop-test .taken)
+
+without-requires : tie.Need-without-requires Inv-loop μ-loop
+without-requires c κs = (c .before .before .loop .inv .through .small, c .lowest .ensures .0)
+
+ring-at-requires : tie.Need-ring-at-requires Inv-loop μ-loop
+ring-at-requires c κs =
+    let l = c .before .before .before .before in
+    let d = l .before .before .loop .inv in
+    let e = l .lowest .ensures in
+    let r = l .lowest .result in
+    let f = l .before .before .before in
+    let p = f .before .before .before .before .before .before .before .pre in
+    let hr = both-item (p .0) (p .1) (p .2) (p .3) (f .before .before .lapping .ensures) (f .lapping2 .ensures) r (e .0) (d .through .within r (e .0) (e .1)) in
+    (d .grown .good, p .1, p .2, hr, p .3)
+
+loop-less : tie.Need-loop-less Inv-loop μ-loop
+loop-less c = c .before .before .before .before .without .ensures .less (c .before .before .before .before .before .lowest .ensures .1)
+
+loop-again : tie.Need-loop-again Inv-loop μ-loop
+loop-again c =
+    looked-one (c .before .before .before .before .before .before .before .loop .inv) (c .before .before .before .before .without .ensures)
+    (c .ring-at .ensures)
+
+returns-2 : tie.Need-returns-2 Inv-loop μ-loop
+returns-2 c =
+    let f = c .before .before in
+    let p = f .before .before .before .before .before .before .before .pre in
+    diagonal-worked (p .0) (p .1) (p .2) (p .3) (f .before .before .lapping .ensures) (f .lapping2 .ensures) (c .before .loop .inv) (c .loop-test .left)
+
+pub ring-across-spec : {M : Type 1} → statement M
+ring-across-spec =
+    tie.close
+    (tie.spec
+    Inv-loop
+    μ-loop
+    mul-has
+    add-has
+    mul-has-2
+    element-copy-out-has
+    has-requires
+    returns
+    lapping-requires
+    lapping-requires-2
+    loop-holds
+    lowest-requires
+    without-requires
+    ring-at-requires
+    loop-less
+    loop-again
+    returns-2)

@@ -1,0 +1,24 @@
+-- `events::settle::work_off` meets its contract.
+use Rattle.events.proofs.Pairs.{pair-worked}
+use borrow.Author.Needs.{needs}
+use Rattle.events.proofs.settle.work_off.Statement.{statement}
+use Rattle.events.proofs.settle.work_off.Tie as tie
+
+follow-both-requires : tie.Need-follow-both-requires
+follow-both-requires c κs = search needs
+
+work-overlap-requires : tie.Need-work-overlap-requires
+work-overlap-requires c κs = search needs
+
+ring-across-requires : tie.Need-ring-across-requires
+ring-across-requires c κs = search needs
+
+returns : tie.Need-returns
+returns c =
+    let o = c .before .before .before .before in
+    let f = o .before .before .before .before in
+    pair-worked (f .before .before .before .before .pre .1) (f .follow-both .ensures) (o .work-overlap .ensures) (c .ring-across .ensures)
+
+pub work-off-spec : {M : Type 1} → statement M
+work-off-spec =
+    tie.close (tie.spec follow-both-requires work-overlap-requires ring-across-requires returns)

@@ -1,9 +1,0 @@
--- The small halls of document 01, by computation.
-use mathlib.Core.Bool.{true}
-use mathlib.Core.Path.{_≡_, refl}
-use Rattle.model.specs.Below.{all-in}
-use Rattle.model.specs.Halls.{right, cases}
-
-pub cases-right : all-in right cases ≡ true
-unfolding right cases
-cases-right = refl

@@ -1,0 +1,86 @@
+-- Halls tried by computation: a problem, the calls made, and what they have to answer.
+use mathlib.Core.Bool.{Bool, true, false, _&&_}
+use mathlib.Core.List.{List, [], _∷_}
+use Prim.Native.Nat.{ℕ, _+_}
+use lib.Dec.{eqb}
+use lib.ListN.{getD, length}
+use Rattle.model.specs.Below.{all-below}
+use Rattle.model.specs.Problem.{Problem, Precedence, Positions, ends-before, inside-test, apart-on-some-axis, apart-test, ordered-test, feasible}
+use Rattle.model.specs.Domains.{pairs, pair-number, domain, overlap-bit, before-bit, after-bit, index, index-of, may-overlap, may-before, remove-overlap, remove-before, fixed-before, fixed-overlap, fix-before, fix-overlap}
+use Rattle.model.specs.Rules.{joined, ending, starting, greatest-ending, greatest-starting, rule1, rule2, rule3, rule4, rule5, asks-overlap, asks-before}
+use Rattle.model.specs.Propagate.{slots, kept, pass, passes, propagate}
+use Rattle.model.specs.Branching.{opening-domains, empty, inconsistent, separated, packed, undecided, choice-pair, choice-axis, choice, branched, path-domains, starts, plan}
+use Rattle.model.specs.Search.{Checkpoint, opening}
+use Rattle.model.specs.Calls.{Answer, budget-spent, no-packing, packing}
+use Rattle.model.specs.Run.{look, search, step-count}
+
+-- measures or starts on x, y, t
+abbrev pub Triple : Type 0
+Triple = List ℕ
+
+-- a call with its budget, and what it has to answer after how many steps; a packing is told by the starts of each item
+pub record Call : Type 0 where
+  pub budget : ℕ
+  pub answer : Answer (List Triple)
+  pub steps : ℕ
+
+-- a container, items and precedences, and the calls made one after the other
+pub record Case : Type 0 where
+  pub container : Triple
+  pub items : List Triple
+  pub precedences : List Precedence
+  pub calls : List Call
+
+abbrev pub problem : Case → Problem
+problem c = record {
+  items = length (c .items);
+  size = λ a u. getD (getD (c .items) u []) a 0;
+  capacity = λ a. getD (c .container) a 0;
+  precedences = c .precedences;
+}
+
+-- the answers agree, and a packing is feasible
+abbrev pub answers : Problem → Answer Positions → Answer (List Triple) → Bool
+answers p budget-spent budget-spent = true
+answers p budget-spent no-packing = false
+answers p budget-spent (packing s) = false
+answers p no-packing budget-spent = false
+answers p no-packing no-packing = true
+answers p no-packing (packing s) = false
+answers p (packing q) budget-spent = false
+answers p (packing q) no-packing = false
+answers p (packing q) (packing s) =
+    (eqb (length s) (p .items) && all-below 3 (λ a. all-below (p .items) (λ u. eqb (q a u) (getD (getD s u []) a 0)))) && feasible p q
+
+-- each call, on the checkpoint that the last one left, answers as it has to
+abbrev pub right-calls : Problem → Checkpoint → List Call → Bool
+right-calls p κ [] = true
+right-calls p κ (c ∷ cs) =
+    let r = search p (c .budget) κ in
+    let rest = right-calls p (r .checkpoint) cs in
+    (answers p (r .answer) (c .answer) && eqb (r .steps) (c .steps)) && rest
+
+abbrev pub all-steps : List Call → ℕ
+all-steps [] = 0
+all-steps (c ∷ cs) = c .steps + all-steps cs
+
+-- the calls answer as they have to, and their steps add up to the step count
+abbrev pub right-problem : Problem → List Call → Bool
+right-problem p cs = right-calls p opening cs && eqb (step-count p) (all-steps cs)
+
+-- the same of a case. This opens all that the search computes by
+unfoldable pub right : Case → Bool
+unfolding ends-before inside-test apart-on-some-axis apart-test ordered-test feasible pairs pair-number domain overlap-bit before-bit after-bit index index-of may-overlap may-before remove-overlap remove-before fixed-before fixed-overlap fix-before fix-overlap joined ending starting greatest-ending greatest-starting rule1 rule2 rule3 rule4 rule5 asks-overlap asks-before slots kept pass passes propagate opening-domains empty inconsistent separated packed undecided choice-pair choice-axis choice branched path-domains starts plan look step-count
+right c = right-problem (problem c) (c .calls)
+
+abbrev pub xyt : ℕ → ℕ → ℕ → Triple
+xyt x y t = x ∷ y ∷ t ∷ []
+
+abbrev pub with-budget : ℕ → Answer (List Triple) → ℕ → Call
+with-budget b a m = record { budget = b; answer = a; steps = m }
+
+abbrev pub case : Triple → List Triple → List Precedence → List Call → Case
+case container items precedences calls = record { container = container; items = items; precedences = precedences; calls = calls }
+
+abbrev pub unit : Triple
+unit = xyt 1 1 1

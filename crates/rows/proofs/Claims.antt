@@ -1,0 +1,75 @@
+-- Claims about domains: seen from either item, and kept as relations are removed.
+use mathlib.Core.Bool.{true, false, not, _&&_, and-comm}
+use mathlib.Core.Logic.{_≢_}
+use mathlib.Core.Path.{_≡_, refl, sym, _∙_, ap, ap₂}
+use Prim.Native.Nat.{ℕ, zero, suc, _-_, _<_}
+use native.Mathlib.Omega.{arith}
+use Rattle.model.specs.Domains.{Domains, may-before, fixed-before, fixed-overlap}
+use Rattle.model.specs.Order.{_⊑_}
+use Rattle.model.proofs.Below.{and-mono, not-mono}
+use Rattle.model.proofs.Domains.{may-overlap-sym, may-overlap-self, may-before-self}
+use Rattle.model.proofs.Monotone.{may-overlap-mono, may-before-mono}
+use Rattle.rows.specs.Rows.{gone, turned}
+use Rattle.rows.specs.Claims.{Saying, overlaps, nothing, removed, forced, Claim, says, Holds}
+
+-- What is removed from k is removed from domains below it
+pub gone-mono : (f k : Domains) → f ⊑ k → (x a u v : ℕ) → gone k x a u v ≡ true → gone f x a u v ≡ true
+unfolding gone
+gone-mono f k h zero a u v = not-mono (may-overlap-mono f k h a u v)
+gone-mono f k h (suc zero) a u v = not-mono (may-before-mono f k h a u v)
+gone-mono f k h (suc (suc x)) a u v = not-mono (may-before-mono f k h a v u)
+
+pub says-mono : (f k : Domains) → f ⊑ k → (s : Saying) (a u v : ℕ) → says s k a u v ≡ true → says s f a u v ≡ true
+unfolding says
+says-mono f k h overlaps a u v = and-mono (gone-mono f k h 1 a u v) (gone-mono f k h 2 a u v)
+says-mono f k h nothing a u v =
+    and-mono (gone-mono f k h 0 a u v) (and-mono (gone-mono f k h 1 a u v) (gone-mono f k h 2 a u v))
+says-mono f k h (removed x) a u v = gone-mono f k h x a u v
+says-mono f k h (forced x) a u v = and-mono (gone-mono f k h 0 a u v) (gone-mono f k h x a u v)
+
+pub holds-mono : (f k : Domains) → f ⊑ k → (c : Claim) → Holds k c → Holds f c
+holds-mono f k h c = says-mono f k h (c .saying) (c .axis) (c .u) (c .v)
+
+-- The same relation seen from the other item
+pub turned-small : (x : ℕ) → turned x < 3
+turned-small zero = omega arith
+turned-small (suc zero) = omega arith
+turned-small (suc (suc x)) = omega arith
+
+pub turned-is : (x : ℕ) → x < 3 → x ≢ 0 → 3 - x ≡ turned x
+turned-is zero h ne = absurd (ne refl)
+turned-is (suc zero) h ne = refl
+turned-is (suc (suc zero)) h ne = refl
+turned-is (suc (suc (suc x))) h ne = absurd (omega arith)
+
+pub gone-turned : (k : Domains) (x a u v : ℕ) → x < 3 → gone k (turned x) a v u ≡ gone k x a u v
+unfolding gone
+gone-turned k zero a u v h = ap not (may-overlap-sym k a u v)
+gone-turned k (suc zero) a u v h = refl
+gone-turned k (suc (suc x)) a u v h = refl
+
+pub gone-self : (k : Domains) (x a u : ℕ) → gone k x a u u ≡ false
+unfolding gone
+gone-self k zero a u = ap not (may-overlap-self k a u)
+gone-self k (suc zero) a u = ap not (may-before-self k a u)
+gone-self k (suc (suc x)) a u = ap not (may-before-self k a u)
+
+pub overlaps-sym : (k : Domains) (a u v : ℕ) → says overlaps k a v u ≡ says overlaps k a u v
+unfolding says gone
+overlaps-sym k a u v = and-comm (not (may-before k a v u)) (not (may-before k a u v))
+
+pub forced-turned : (k : Domains) (x a u v : ℕ) → x < 3 → says (forced (turned x)) k a v u ≡ says (forced x) k a u v
+unfolding says
+forced-turned k x a u v h = ap₂ _&&_ (gone-turned k 0 a u v (omega arith)) (gone-turned k x a u v h)
+
+-- Claims by the accessors
+pub overlaps-is : (k : Domains) (a u v : ℕ) → says overlaps k a u v ≡ fixed-overlap k a u v
+unfolding says gone fixed-overlap
+overlaps-is k a u v = refl
+
+pub forced-before-is : (k : Domains) (a u v : ℕ) → says (forced 2) k a u v ≡ fixed-before k a u v
+unfolding says gone fixed-before
+forced-before-is k a u v = refl
+
+pub forced-after-is : (k : Domains) (a u v : ℕ) → says (forced 1) k a u v ≡ fixed-before k a v u
+forced-after-is k a u v = sym (forced-turned k 1 a u v (omega arith)) ∙ forced-before-is k a v u

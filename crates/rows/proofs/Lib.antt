@@ -1,0 +1,10 @@
+pub mod Sets
+pub mod Through
+pub mod Claims
+pub mod Grown
+pub mod Without
+pub mod Mirror
+pub mod Found
+pub mod Single
+pub mod Each
+pub mod Rest
