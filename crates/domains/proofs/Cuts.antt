@@ -18,7 +18,7 @@ use Rattle.rows.specs.Bits.{bit-at}
 use Rattle.rows.specs.Rows.{gone}
 use Rattle.rows.specs.Queue.{In, Good, Grown}
 use Rattle.rows.proofs.Sets.{bit-or}
-use Rattle.rows.proofs.Claims.{gone-mono, gone-turned}
+use Rattle.rows.proofs.Claims.{gone-mono, gone-converse}
 use Rattle.rows.proofs.Grown.{grown-none, grown-then}
 use Rattle.tables.specs.Totals.{at, Within}
 use Rattle.tables.specs.Cuts.{exceeds, set-of, Cut}
@@ -53,14 +53,14 @@ module _ {n : ℕ} {capacity ends starts grown : List ℕ} {fresh : ℕ} {k : Do
         either (inl g) = or-left (bit-at fresh u) g
         either (inr g) = or-right (bit-at (set-of grown 2 b) u) g
     found u v w e (inr g) =
-        sym (gone-turned l 1 b u v (omega arith)) ∙ far .done v u (proper-sym w) (subst (λ (m : ℕ). In m v) (sym two) g) (turn u v ∙ (sym (seen u v) ∙ e))
+        sym (gone-converse l 1 b u v (omega arith)) ∙ far .done v u (proper-sym w) (subst (λ (m : ℕ). In m v) (sym two) g) (turn u v ∙ (sym (seen u v) ∙ e))
 
     pub cut-next : CutBelow n capacity ends starts grown fresh (b + 1) k q top l rows″ t end
     cut-next = record {
       grows = grown-then (below .grows) (grown-then (near .grown) (far .grown));
       done = λ a u v low w e g. done a u v low w e g (ℕ-discrete a b);
       sound = λ f less ask. far .sound f (near .sound f (below .sound f less ask) (λ u v w e. ask b u v w (seen u v ∙ e)))
-          (λ u v w e. sym (gone-turned f 2 b u v (omega arith)) ∙ ask b v u (proper-sym w) (seen v u ∙ (sym (turn v u) ∙ e)));
+          (λ u v w e. sym (gone-converse f 2 b u v (omega arith)) ∙ ask b v u (proper-sym w) (seen v u ∙ (sym (turn v u) ∙ e)));
     }
       where
         done : (a u v : ℕ) → a < b + 1 → Proper n a u v → over capacity ends starts a u v ≡ true

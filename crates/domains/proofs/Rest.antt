@@ -21,7 +21,7 @@ use Rattle.model.proofs.Consistent.{consistent-of}
 use Rattle.rows.specs.Rows.{gone, Mirror}
 use Rattle.rows.specs.Claims.{nothing, forced, says, Claim, Holds}
 use Rattle.rows.specs.Queue.{In, Queued, Good, Grown}
-use Rattle.rows.proofs.Claims.{gone-mono, gone-turned, forced-before-is, holds-mono}
+use Rattle.rows.proofs.Claims.{gone-mono, gone-converse, forced-before-is, holds-mono}
 use Rattle.events.specs.Clauses.{of, Three, Rule, d2, AllHold, Obeyed}
 use Rattle.events.specs.Worked.{SomeQueued, Pending}
 use Rattle.events.proofs.Clauses.{obeyed-rests}
@@ -101,7 +101,7 @@ module _ {n : ℕ} {k : Domains} (obeyed : Obeyed n k) (filled : Filled n k) {a 
           let x = forced-says k 2 a u v uv in
           let y : Holds k (of (forced 2) a v u) = subst (λ (i : ℕ). Holds k (of (forced 2) a v i)) (sym e) vw in
           let z = forced-says k 2 a v u y in
-          absurd (filled a u v (proper hu hv (fixed-distinct k a u v f)) (nothing-of k a u v (x .0) (sym (gone-turned k 1 a u v (omega arith)) ∙ z .1) (x .1)))
+          absurd (filled a u v (proper hu hv (fixed-distinct k a u v f)) (nothing-of k a u v (x .0) (sym (gone-converse k 1 a u v (omega arith)) ∙ z .1) (x .1)))
       go (no d) =
           let t : Three n a u v w = record { uv = proper hu hv (fixed-distinct k a u v f); vw = proper hv hw (fixed-distinct k a v w g); uw = proper hu hw d } in
           let r = obeyed _ _ (d2 2 a u v w (record { least = omega arith; most = omega arith }) t) (uv, (vw, tt)) in

@@ -52,15 +52,15 @@ three-of : (p : Problem) {a u v w : ℕ} → Three (p .items) a u v w → M.Thre
 three-of p t = record { uv = t .uv; vw = t .vw; uw = t .uw }
 
 -- the same items the other way round
-three-turned : (p : Problem) {a u v w : ℕ} → Three (p .items) a u v w → M.Three p a w v u
-three-turned p t = record { uv = proper-sym (t .vw); vw = proper-sym (t .uv); uw = proper-sym (t .uw) }
+three-converse : (p : Problem) {a u v w : ℕ} → Three (p .items) a u v w → M.Three p a w v u
+three-converse p t = record { uv = proper-sym (t .vw); vw = proper-sym (t .uv); uw = proper-sym (t .uw) }
 
 module _ (p : Problem) (k : Domains) (o : Obeys p k) where
   composed : (x a u v w : ℕ) → Order x → Three (p .items) a u v w → Holds k (of (forced x) a u v) → Holds k (of (forced x) a v w) → Holds k (of (forced x) a u w)
   unfolding says
   composed zero a u v w h t f g = absurd (omega (arith, h .least))
   composed (suc zero) a u v w h t f g =
-      let (e, b) = o .d2 a w v u (three-turned p t) (sym (forced-after-is k a v w) ∙ g) (sym (forced-after-is k a u v) ∙ f) in
+      let (e, b) = o .d2 a w v u (three-converse p t) (sym (forced-after-is k a v w) ∙ g) (sym (forced-after-is k a u v) ∙ f) in
       and-intro (overlap-gone k a u w (may-overlap-sym k a w u ∙ e)) (before-gone k a u w b)
   composed (suc (suc zero)) a u v w h t f g =
       let (e, b) = o .d2 a u v w (three-of p t) (sym (forced-before-is k a u v) ∙ f) (sym (forced-before-is k a v w) ∙ g) in

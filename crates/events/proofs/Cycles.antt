@@ -43,8 +43,8 @@ overlap-distinct : (k : Domains) (a u v : ℕ) → Holds k (of overlaps a u v) �
 unfolding says
 overlap-distinct k a u v h = gone-distinct k 1 a u v (and-both (gone k 1 a u v) (gone k 2 a u v) h .0)
 
-pub overlap-turned : (k : Domains) (a u v : ℕ) → Holds k (of overlaps a u v) → Holds k (of overlaps a v u)
-overlap-turned k a u v h = overlaps-sym k a u v ∙ h
+pub overlap-converse : (k : Domains) (a u v : ℕ) → Holds k (of overlaps a u v) → Holds k (of overlaps a v u)
+overlap-converse k a u v h = overlaps-sym k a u v ∙ h
 
 -- A ring q, r, s: what its first, second and last premise say
 module _ {n a q r s : ℕ} (k : Domains) (ps : List Claim) (c : Claim) (ring : Ring n a q r s ps c) (h : AllHold k ps) where
@@ -76,7 +76,7 @@ module _ {n a q r s : ℕ} {k : Domains} {rows u : List ℕ} {top : ℕ} (g : Go
   ring-idle-far f e = worked-none g (λ ps c x h. absurd (clash (lapping-bit r s hr hs f (ring-far k ps c x h)) e))
 
   pub ring-idle-near : {m : ℕ} → Gives m (lapping rows a r) → bit-at m q ≡ false → Worked n (Ring n a q r s) k u top k rows u top
-  ring-idle-near f e = worked-none g (λ ps c x h. absurd (clash (lapping-bit r q hr hq f (overlap-turned k a q r (ring-near k ps c x h))) e))
+  ring-idle-near f e = worked-none g (λ ps c x h. absurd (clash (lapping-bit r q hr hq f (overlap-converse k a q r (ring-near k ps c x h))) e))
 
   -- all are known
   across-gone : bit-at (getD rows (a * 10 + q) 0) s ≡ true → gone k 0 a q s ≡ true
@@ -126,8 +126,8 @@ module _ {n a q r s : ℕ} {k : Domains} {rows u : List ℕ} {top : ℕ} (g : Go
     unfolding says
     asked across rs rq f o h t ht e =
         let (_, d, qt, st) = neighbours-say t (omega (arith, g .limited)) e in
-        let qr = overlap-turned k a r q rq in
-        let tq = overlap-turned k a q t qt in
+        let qr = overlap-converse k a r q rq in
+        let tq = overlap-converse k a q t qt in
         let qs = on hq hs (gone-distinct k 0 a q s across) in
         o _ _
         (g1 a q r s t
@@ -153,7 +153,7 @@ module _ {n a q r s : ℕ} {k : Domains} {rows u : List ℕ} {top : ℕ} (g : Go
         done : (ps : List Claim) (c : Claim) (x : Ring n a q r s ps c)
             → AllHold k (of overlaps a q r ∷ of overlaps a r s ∷ of overlaps a s (x .0) ∷ of overlaps a (x .0) q ∷ of (removed 0) a q s ∷ []) → Holds j c
         done ps c (t, y, z, p, _, e) (_, (_, (st, (tq, _)))) =
-            let i = neighbours-of t (p .item-v) (λ w. p .distinct (sym w)) (overlap-turned k a t q tq) st in
+            let i = neighbours-of t (p .item-v) (λ w. p .distinct (sym w)) (overlap-converse k a t q tq) st in
             subst (λ (c : Claim). Holds j c) (sym e) (d .done t (p .item-v) i)
 
 -- The items gone through hold all that can make a ring
@@ -175,7 +175,7 @@ module _ {n a : ℕ} {k : Domains} {rows u : List ℕ} {top : ℕ} (g : Good n k
         ∙ and-intro (lapping-bit g ha hq hr hs r s hr hs f x) (across-bit g ha hq hr hs y)
 
     pub sides-idle : bit-at lr q ≡ false → Worked n (Sides n a q r) k u top k rows u top
-    sides-idle e = worked-none g (λ ps c (s, hs, x) h. absurd (clash (lapping-bit g ha hq hr hs r q hr hq f (overlap-turned k a q r (ring-near k ps c x h))) e))
+    sides-idle e = worked-none g (λ ps c (s, hs, x) h. absurd (clash (lapping-bit g ha hq hr hs r q hr hq f (overlap-converse k a q r (ring-near k ps c x h))) e))
 
     pub sides-worked : {j : Domains} {rows′ v : List ℕ} {end left : ℕ} → Looked n (Ring n a q r) (bitAnd lr (getD rows (a * 10 + q) 0)) k u top j rows′ v end left
         → left ≡ 0 → Worked n (Sides n a q r) k u top j rows′ v end
@@ -191,7 +191,7 @@ module _ {n a : ℕ} {k : Domains} {rows u : List ℕ} {top : ℕ} (g : Good n k
 
     both-in : (r : ℕ) → r < n → Holds k (of overlaps a q r) → Holds k (of overlaps a r s) → In (bitAnd lq ls) r
     both-in r hr x y =
-        bit-and lq ls r ∙ and-intro (lapping-bit g ha hq hr hs q r hq hr fq x) (lapping-bit g ha hq hr hs s r hs hr fs (overlap-turned k a r s y))
+        bit-and lq ls r ∙ and-intro (lapping-bit g ha hq hr hs q r hq hr fq x) (lapping-bit g ha hq hr hs s r hs hr fs (overlap-converse k a r s y))
 
     pub diagonal-worked : {j : Domains} {rows′ v : List ℕ} {end left : ℕ} → Looked n (λ r. Ring n a q r s) (bitAnd lq ls) k u top j rows′ v end left → left ≡ 0
         → Worked n (Diagonal n a q s) k u top j rows′ v end

@@ -8,9 +8,9 @@ use native.Mathlib.Omega.{arith}
 use Rattle.model.specs.Domains.{Domains}
 use Rattle.model.specs.Order.{Proper}
 use Rattle.model.proofs.Slots.{proper-sym}
-use Rattle.rows.specs.Rows.{turned}
+use Rattle.rows.specs.Rows.{converse}
 use Rattle.rows.specs.Claims.{Saying, overlaps, removed, forced, Claim, says, Holds}
-use Rattle.rows.proofs.Claims.{gone-turned, forced-turned, overlaps-sym}
+use Rattle.rows.proofs.Claims.{gone-converse, forced-converse, overlaps-sym}
 use Rattle.events.specs.Clauses.{of, Axes, Three, Order, c3, d2, d1-far, d1-near, g1}
 use Rattle.events.specs.Worked.{Clauses}
 use Rattle.events.specs.Sets.{Follows, Paths, Third, Overlapping, Ring, Sides, Diagonal, Mentions, Mentioning}
@@ -46,9 +46,9 @@ itself {ps = ps} {c} h = record { premises = ps; conclusion = c; listed = h; dow
 abbrev Same : ℕ → ℕ → ℕ → ℕ → Type 0
 Same s t u v = ((s ≡ u) × (t ≡ v)) ⊎ ((s ≡ v) × (t ≡ u))
 
-same-turned : {s t u v : ℕ} → Same s t u v → Same t s u v
-same-turned (inl (x, y)) = inr (y, x)
-same-turned (inr (x, y)) = inl (y, x)
+same-converse : {s t u v : ℕ} → Same s t u v → Same t s u v
+same-converse (inl (x, y)) = inr (y, x)
+same-converse (inr (x, y)) = inl (y, x)
 
 put : (P : ℕ → ℕ → ℕ → Type 0) {a u v b s t : ℕ} → b ≡ a → s ≡ u → t ≡ v → P b s t → P a u v
 put P {a} {u} {v} {b} {s} {t} e x y h = subst (λ (b : ℕ). P b u v) e (subst (λ (s : ℕ). P b s v) x (subst (λ (t : ℕ). P b s t) y h))
@@ -65,13 +65,13 @@ in-either H {ps} {c} e (inl (x, y)) h = wider (λ qs d g. inl g) (put (λ a u v.
 in-either H {ps} {c} e (inr (x, y)) h = wider (λ qs d g. inr g) (put (λ a u v. Covered (H a u v) ps c) e x y h)
 
 -- Rules 2 and 3: a path read from its other end
-order-turned : (x : ℕ) → Order x → Order (turned x)
-order-turned zero h = absurd (omega (arith, h .least))
-order-turned (suc zero) h = record { least = omega arith; most = omega arith }
-order-turned (suc (suc x)) h = record { least = omega arith; most = omega arith }
+order-converse : (x : ℕ) → Order x → Order (converse x)
+order-converse zero h = absurd (omega (arith, h .least))
+order-converse (suc zero) h = record { least = omega arith; most = omega arith }
+order-converse (suc (suc x)) h = record { least = omega arith; most = omega arith }
 
-three-turned : {n a u v w : ℕ} → Three n a u v w → Three n a w v u
-three-turned t = record { uv = proper-sym (t .vw); vw = proper-sym (t .uv); uw = proper-sym (t .uw) }
+three-converse : {n a u v w : ℕ} → Three n a u v w → Three n a w v u
+three-converse t = record { uv = proper-sym (t .vw); vw = proper-sym (t .uv); uw = proper-sym (t .uw) }
 
 module _ (n : ℕ) where
   -- the claims of a path
@@ -79,69 +79,69 @@ module _ (n : ℕ) where
     small : x < 3
     small = omega (arith, o .most)
 
-    forced-back : (k : Domains) (s t : ℕ) → Holds k (of (forced x) a s t) → Holds k (of (forced (turned x)) a t s)
-    forced-back k s t h = forced-turned k x a s t small ∙ h
+    forced-back : (k : Domains) (s t : ℕ) → Holds k (of (forced x) a s t) → Holds k (of (forced (converse x)) a t s)
+    forced-back k s t h = forced-converse k x a s t small ∙ h
 
-    removed-back : (k : Domains) (s t : ℕ) → Holds k (of (removed x) a s t) → Holds k (of (removed (turned x)) a t s)
+    removed-back : (k : Domains) (s t : ℕ) → Holds k (of (removed x) a s t) → Holds k (of (removed (converse x)) a t s)
     unfolding says
-    removed-back k s t h = gone-turned k x a s t small ∙ h
+    removed-back k s t h = gone-converse k x a s t small ∙ h
 
-    forced-on : (k : Domains) (s t : ℕ) → Holds k (of (forced (turned x)) a t s) → Holds k (of (forced x) a s t)
-    forced-on k s t h = sym (forced-turned k x a s t small) ∙ h
+    forced-on : (k : Domains) (s t : ℕ) → Holds k (of (forced (converse x)) a t s) → Holds k (of (forced x) a s t)
+    forced-on k s t h = sym (forced-converse k x a s t small) ∙ h
 
-    removed-on : (k : Domains) (s t : ℕ) → Holds k (of (removed (turned x)) a t s) → Holds k (of (removed x) a s t)
+    removed-on : (k : Domains) (s t : ℕ) → Holds k (of (removed (converse x)) a t s) → Holds k (of (removed x) a s t)
     unfolding says
-    removed-on k s t h = sym (gone-turned k x a s t small) ∙ h
+    removed-on k s t h = sym (gone-converse k x a s t small) ∙ h
 
-    back-d2 : Covered (Follows n (turned x) a w v) (of (forced x) a u v ∷ of (forced x) a v w ∷ []) (of (forced x) a u w)
+    back-d2 : Covered (Follows n (converse x) a w v) (of (forced x) a u v ∷ of (forced x) a v w ∷ []) (of (forced x) a u w)
     back-d2 = record {
-      premises = of (forced (turned x)) a w v ∷ of (forced (turned x)) a v u ∷ [];
-      conclusion = of (forced (turned x)) a w u;
-      listed = (u, three-turned t, inl (refl, refl));
+      premises = of (forced (converse x)) a w v ∷ of (forced (converse x)) a v u ∷ [];
+      conclusion = of (forced (converse x)) a w u;
+      listed = (u, three-converse t, inl (refl, refl));
       down = λ k h. (forced-back k v w (h .1 .0), (forced-back k u v (h .0), tt));
       up = λ k h. forced-on k u w h;
     }
 
-    back-far : Covered (Follows n (turned x) a w v) (of (forced x) a u v ∷ of (removed x) a v w ∷ []) (of (removed x) a u w)
+    back-far : Covered (Follows n (converse x) a w v) (of (forced x) a u v ∷ of (removed x) a v w ∷ []) (of (removed x) a u w)
     back-far = record {
-      premises = of (removed (turned x)) a w v ∷ of (forced (turned x)) a v u ∷ [];
-      conclusion = of (removed (turned x)) a w u;
-      listed = (u, three-turned t, inr (inr (refl, refl)));
+      premises = of (removed (converse x)) a w v ∷ of (forced (converse x)) a v u ∷ [];
+      conclusion = of (removed (converse x)) a w u;
+      listed = (u, three-converse t, inr (inr (refl, refl)));
       down = λ k h. (removed-back k v w (h .1 .0), (forced-back k u v (h .0), tt));
       up = λ k h. removed-on k u w h;
     }
 
-    back-near : Covered (Follows n (turned x) a w v) (of (removed x) a u v ∷ of (forced x) a v w ∷ []) (of (removed x) a u w)
+    back-near : Covered (Follows n (converse x) a w v) (of (removed x) a u v ∷ of (forced x) a v w ∷ []) (of (removed x) a u w)
     back-near = record {
-      premises = of (forced (turned x)) a w v ∷ of (removed (turned x)) a v u ∷ [];
-      conclusion = of (removed (turned x)) a w u;
-      listed = (u, three-turned t, inr (inl (refl, refl)));
+      premises = of (forced (converse x)) a w v ∷ of (removed (converse x)) a v u ∷ [];
+      conclusion = of (removed (converse x)) a w u;
+      listed = (u, three-converse t, inr (inl (refl, refl)));
       down = λ k h. (forced-back k v w (h .1 .0), (removed-back k u v (h .0), tt));
       up = λ k h. removed-on k u w h;
     }
 
   -- a path is looked at from either premise
   from-either : (x : ℕ) → Order x → (y z : Saying) {a u v b s t w : ℕ} {ps : List Claim} {c : Claim} → Covered (Follows n x b s t) ps c
-      → Covered (Follows n (turned x) b w t) ps c → Mentions a u v (of y b s t ∷ of z b t w ∷ []) → Covered (Paths n a u v) ps c
+      → Covered (Follows n (converse x) b w t) ps c → Mentions a u v (of y b s t ∷ of z b t w ∷ []) → Covered (Paths n a u v) ps c
   from-either x o y z h g (inl (e, m)) = wider (λ qs d l. (x, o, l)) (in-either (Follows n x) e m h)
-  from-either x o y z h g (inr (inl (e, m))) = wider (λ qs d l. (turned x, order-turned x o, l)) (in-either (Follows n (turned x)) e (same-turned m) g)
+  from-either x o y z h g (inr (inl (e, m))) = wider (λ qs d l. (converse x, order-converse x o, l)) (in-either (Follows n (converse x)) e (same-converse m) g)
 
   -- Rule 1
-  third-turned : (a b c u v : ℕ) → Axes a b c → Proper n a u v → Covered (Third n a b c v u) (of overlaps a u v ∷ of overlaps b u v ∷ []) (of (removed 0) c u v)
+  third-converse : (a b c u v : ℕ) → Axes a b c → Proper n a u v → Covered (Third n a b c v u) (of overlaps a u v ∷ of overlaps b u v ∷ []) (of (removed 0) c u v)
   unfolding says
-  third-turned a b c u v x s = record {
+  third-converse a b c u v x s = record {
     premises = of overlaps a v u ∷ of overlaps b v u ∷ [];
     conclusion = of (removed 0) c v u;
     listed = (x, proper-sym s, refl, refl);
     down = λ k h. (overlaps-sym k a u v ∙ h .0, (overlaps-sym k b u v ∙ h .1 .0, tt));
-    up = λ k h. gone-turned k 0 c v u (omega arith) ∙ h;
+    up = λ k h. gone-converse k 0 c v u (omega arith) ∙ h;
   }
 
   third-named : {a b c u v s t : ℕ} → Axes a b c → Proper n a s t → Same s t u v
       → Covered (Third n a b c u v) (of overlaps a s t ∷ of overlaps b s t ∷ []) (of (removed 0) c s t)
   third-named {a} {b} {c} {u} {v} {s} {t} x p m =
       in-both (λ a′ u v. Covered (Third n a b c u v) (of overlaps a s t ∷ of overlaps b s t ∷ []) (of (removed 0) c s t))
-      {a = a} {u = u} {v = v} {b = a} {s = s} {t = t} refl m (itself (x, p, refl, refl)) (third-turned a b c s t x p)
+      {a = a} {u = u} {v = v} {b = a} {s = s} {t = t} refl m (itself (x, p, refl, refl)) (third-converse a b c s t x p)
 
   -- its premises the other way round
   third-swapped : {H : Clauses} (a b c u v : ℕ) → Covered H (of overlaps b u v ∷ of overlaps a u v ∷ []) (of (removed 0) c u v)
@@ -196,15 +196,15 @@ module _ (n : ℕ) where
     unfolding ring-premises
     ring-itself = itself (t, x, y, z, refl, refl)
 
-    ring-turned : Covered (Ring n a s r q) (ring-premises a q r s t) (of overlaps a r t)
+    ring-converse : Covered (Ring n a s r q) (ring-premises a q r s t) (of overlaps a r t)
     unfolding ring-premises says
-    ring-turned = record {
+    ring-converse = record {
       premises = ring-premises a s r q t;
       conclusion = of overlaps a r t;
-      listed = (t, three-turned x, three-turned y, z, refl, refl);
+      listed = (t, three-converse x, three-converse y, z, refl, refl);
       down = λ k (qr, (rs, (st, (tq, (e, _))))). (
         overlaps-sym k a r s ∙ rs,
-        (overlaps-sym k a q r ∙ qr, (overlaps-sym k a t q ∙ tq, (overlaps-sym k a s t ∙ st, (gone-turned k 0 a q s (omega arith) ∙ e, tt)))),
+        (overlaps-sym k a q r ∙ qr, (overlaps-sym k a t q ∙ tq, (overlaps-sym k a s t ∙ st, (gone-converse k 0 a q s (omega arith) ∙ e, tt)))),
       );
       up = λ k h. h;
     }
@@ -214,7 +214,7 @@ module _ (n : ℕ) where
     ring-flipped = record {
       premises = ring-premises a q t s r;
       conclusion = of overlaps a t r;
-      listed = (r, three-turned y, three-turned x, proper-sym z, refl, refl);
+      listed = (r, three-converse y, three-converse x, proper-sym z, refl, refl);
       down = λ k (qr, (rs, (st, (tq, (e, _))))). (
         overlaps-sym k a t q ∙ tq,
         (overlaps-sym k a s t ∙ st, (overlaps-sym k a r s ∙ rs, (overlaps-sym k a q r ∙ qr, (e, tt)))),
@@ -228,7 +228,7 @@ module _ (n : ℕ) where
       premises = ring-premises a s t q r;
       conclusion = of overlaps a t r;
       listed = (r, y, x, proper-sym z, refl, refl);
-      down = λ k (qr, (rs, (st, (tq, (e, _))))). (st, (tq, (qr, (rs, (gone-turned k 0 a q s (omega arith) ∙ e, tt)))));
+      down = λ k (qr, (rs, (st, (tq, (e, _))))). (st, (tq, (qr, (rs, (gone-converse k 0 a q s (omega arith) ∙ e, tt)))));
       up = λ k h. overlaps-sym k a t r ∙ h;
     }
 
@@ -246,13 +246,13 @@ module _ (n : ℕ) where
       → Covered (Rings n a u v) (ring-premises b q r s t) (of overlaps b r t)
   unfolding ring-premises
   ring-from {b = b} {q} {r} {s} {t} x y z (inl (e, m)) = side e m (as-side (x .vw .item-v) (ring-itself b q r s t x y z))
-  ring-from {b = b} {q} {r} {s} {t} x y z (inr (inl (e, m))) = side e (same-turned m) (as-side (x .uv .item-u) (ring-turned b q r s t x y z))
+  ring-from {b = b} {q} {r} {s} {t} x y z (inr (inl (e, m))) = side e (same-converse m) (as-side (x .uv .item-u) (ring-converse b q r s t x y z))
   ring-from {b = b} {q} {r} {s} {t} x y z (inr (inr (inl (e, m)))) = side e m (as-side (x .uv .item-u) (ring-opposite b q r s t x y z))
-  ring-from {b = b} {q} {r} {s} {t} x y z (inr (inr (inr (inl (e, m))))) = side e (same-turned m) (as-side (x .vw .item-v) (ring-flipped b q r s t x y z))
+  ring-from {b = b} {q} {r} {s} {t} x y z (inr (inr (inr (inl (e, m))))) = side e (same-converse m) (as-side (x .vw .item-v) (ring-flipped b q r s t x y z))
   ring-from {a} {u} {v} {b} {q} {r} {s} {t} x y z (inr (inr (inr (inr (inl (e, m)))))) =
       wider (λ qs d g. inr g)
       (in-both (λ a u v. Covered (Diagonal n a u v) (ring-premises b q r s t) (of overlaps b r t)) e m
-      (as-diagonal (x .uv .item-v) (ring-itself b q r s t x y z)) (as-diagonal (x .uv .item-v) (ring-turned b q r s t x y z)))
+      (as-diagonal (x .uv .item-v) (ring-itself b q r s t x y z)) (as-diagonal (x .uv .item-v) (ring-converse b q r s t x y z)))
 
 -- All clauses with a premise of u and v on the axis a
 pub mentioning-covered : {n a b c u v : ℕ} → Axes a b c → (ps : List Claim) (d : Claim) → Mentioning n a u v ps d → Covered (Around n a b c u v) ps d

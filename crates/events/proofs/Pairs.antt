@@ -9,17 +9,17 @@ use Rattle.model.specs.Domains.{Domains}
 use Rattle.model.specs.Order.{Proper}
 use Rattle.model.proofs.Below.{and-both, clash}
 use Rattle.rows.specs.Bits.{bit-at}
-use Rattle.rows.specs.Rows.{gone, row, turned}
+use Rattle.rows.specs.Rows.{gone, row, converse}
 use Rattle.rows.specs.Claims.{overlaps, Claim, says, Holds}
 use Rattle.rows.specs.Queue.{Good}
-use Rattle.rows.proofs.Claims.{gone-turned}
+use Rattle.rows.proofs.Claims.{gone-converse}
 use Rattle.events.specs.Clauses.{of, Axes, AllHold}
 use Rattle.events.specs.Worked.{Clauses, Worked}
 use Rattle.events.specs.Sets.{Gives, Follows, Paths, Diagonal, Overlapping, Mentioning, lapping}
 use Rattle.events.proofs.Works.{Either, worked-none, worked-then, worked-as, worked-sub}
 use Rattle.events.proofs.Instances.{mentioning-covered}
 use Rattle.events.proofs.Reading.{struck-is, lapping-of}
-use Rattle.events.proofs.Cycles.{ring-near, overlap-turned}
+use Rattle.events.proofs.Cycles.{ring-near, overlap-converse}
 
 -- The relation x of u and v is a part of every premise of u, v
 first-gone : (k : Domains) {n x a u v : ℕ} (ps : List Claim) (c : Claim) → Follows n x a u v ps c → AllHold k ps → gone k x a u v ≡ true
@@ -32,7 +32,7 @@ first-gone k ps c (w, t, inr (inr (e, _))) h = subst (λ (qs : List Claim). AllH
 
 -- Paths along the relation x, from u and from v
 abbrev pub Along : ℕ → ℕ → ℕ → ℕ → ℕ → Clauses
-Along n x a u v = Either (Follows n x a u v) (Follows n (turned x) a v u)
+Along n x a u v = Either (Follows n x a u v) (Follows n (converse x) a v u)
 
 pub along-idle : {n x a u v : ℕ} {k : Domains} {rows q : List ℕ} {top : ℕ} → Good n k rows q top → x < 3 → Proper n a u v
     → bit-at (row rows x a u) v ≡ false → Worked n (Along n x a u v) k q top k rows q top
@@ -43,7 +43,7 @@ along-idle {n} {x} {a} {u} {v} {k} g hx s e = worked-none g (λ ps c h t. absurd
 
     go : (ps : List Claim) (c : Claim) → Along n x a u v ps c → AllHold k ps → gone k x a u v ≡ true
     go ps c (inl h) t = first-gone k ps c h t
-    go ps c (inr h) t = sym (gone-turned k x a u v hx) ∙ first-gone k ps c h t
+    go ps c (inr h) t = sym (gone-converse k x a u v hx) ∙ first-gone k ps c h t
 
 -- Both relations, the second where it is removed
 module _ {n a u v : ℕ} {k : Domains} {q : List ℕ} {top : ℕ} {j : Domains} {rows r : List ℕ} {mid : ℕ} where
@@ -75,7 +75,7 @@ overlapping-idle {n} {a} {b} {c} {u} {v} {m} {k} g s f e = worked-none g (λ ps 
     go ps t (inl (_, _, y, _)) h = subst (λ (qs : List Claim). AllHold k qs) y h .0
     go ps t (inr (inl (_, _, y, _))) h = subst (λ (qs : List Claim). AllHold k qs) y h .0
     go ps t (inr (inr (inl (_, _, x)))) h = ring-near k ps t x h
-    go ps t (inr (inr (inr (_, _, x)))) h = overlap-turned k a v u (ring-near k ps t x h)
+    go ps t (inr (inr (inr (_, _, x)))) h = overlap-converse k a v u (ring-near k ps t x h)
 
 -- All clauses that mention the pair
 pub pair-worked : {n a b c u v : ℕ} {k : Domains} {q : List ℕ} {top : ℕ} {k₁ : Domains} {rows₁ q₁ : List ℕ} {t₁ : ℕ} {k₂ : Domains} {rows₂ q₂ : List ℕ} {t₂ : ℕ}

@@ -12,7 +12,7 @@ use Rattle.model.specs.Order.{Proper}
 use Rattle.model.proofs.Below.{clash}
 use Rattle.rows.specs.Claims.{nothing, Claim, says, Holds}
 use Rattle.rows.specs.Queue.{code, Queued, Grown}
-use Rattle.rows.proofs.Claims.{holds-mono, gone-turned, overlaps-sym}
+use Rattle.rows.proofs.Claims.{holds-mono, gone-converse, overlaps-sym}
 use Rattle.events.specs.Clauses.{of, Rule, c3, d2, d1-far, d1-near, g1, AllHold, Obeyed}
 use Rattle.events.specs.Worked.{SomeQueued, Pending}
 use Rattle.events.specs.Sets.{Names, Mentions, Mentioning}
@@ -32,7 +32,7 @@ rule-proper n _ _ (g1 a q r s t x y z) = (x .uv, (x .vw, (y .uv, (y .vw, (x .uw,
 
 pub nothing-sym : (k : Domains) (a u v : ℕ) → says nothing k a v u ≡ says nothing k a u v
 unfolding says
-nothing-sym k a u v = ap₂ _&&_ (gone-turned k 0 a u v (omega arith)) (overlaps-sym k a u v)
+nothing-sym k a u v = ap₂ _&&_ (gone-converse k 0 a u v (omega arith)) (overlaps-sym k a u v)
 
 put : (k : Domains) {a u v b s t : ℕ} → b ≡ a → s ≡ u → t ≡ v → Holds k (of nothing b s t) → Holds k (of nothing a u v)
 put k e x y h = rw (sym e, sym x, sym y) h

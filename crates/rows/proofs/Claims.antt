@@ -9,7 +9,7 @@ use Rattle.model.specs.Order.{_⊑_}
 use Rattle.model.proofs.Below.{and-mono, not-mono}
 use Rattle.model.proofs.Domains.{may-overlap-sym, may-overlap-self, may-before-self}
 use Rattle.model.proofs.Monotone.{may-overlap-mono, may-before-mono}
-use Rattle.rows.specs.Rows.{gone, turned}
+use Rattle.rows.specs.Rows.{gone, converse}
 use Rattle.rows.specs.Claims.{Saying, overlaps, nothing, removed, forced, Claim, says, Holds}
 
 -- What is removed from k is removed from domains below it
@@ -31,22 +31,22 @@ pub holds-mono : (f k : Domains) → f ⊑ k → (c : Claim) → Holds k c → H
 holds-mono f k h c = says-mono f k h (c .saying) (c .axis) (c .u) (c .v)
 
 -- The same relation seen from the other item
-pub turned-small : (x : ℕ) → turned x < 3
-turned-small zero = omega arith
-turned-small (suc zero) = omega arith
-turned-small (suc (suc x)) = omega arith
+pub converse-small : (x : ℕ) → converse x < 3
+converse-small zero = omega arith
+converse-small (suc zero) = omega arith
+converse-small (suc (suc x)) = omega arith
 
-pub turned-is : (x : ℕ) → x < 3 → x ≢ 0 → 3 - x ≡ turned x
-turned-is zero h ne = absurd (ne refl)
-turned-is (suc zero) h ne = refl
-turned-is (suc (suc zero)) h ne = refl
-turned-is (suc (suc (suc x))) h ne = absurd (omega arith)
+pub converse-is : (x : ℕ) → x < 3 → x ≢ 0 → 3 - x ≡ converse x
+converse-is zero h ne = absurd (ne refl)
+converse-is (suc zero) h ne = refl
+converse-is (suc (suc zero)) h ne = refl
+converse-is (suc (suc (suc x))) h ne = absurd (omega arith)
 
-pub gone-turned : (k : Domains) (x a u v : ℕ) → x < 3 → gone k (turned x) a v u ≡ gone k x a u v
+pub gone-converse : (k : Domains) (x a u v : ℕ) → x < 3 → gone k (converse x) a v u ≡ gone k x a u v
 unfolding gone
-gone-turned k zero a u v h = ap not (may-overlap-sym k a u v)
-gone-turned k (suc zero) a u v h = refl
-gone-turned k (suc (suc x)) a u v h = refl
+gone-converse k zero a u v h = ap not (may-overlap-sym k a u v)
+gone-converse k (suc zero) a u v h = refl
+gone-converse k (suc (suc x)) a u v h = refl
 
 pub gone-self : (k : Domains) (x a u : ℕ) → gone k x a u u ≡ false
 unfolding gone
@@ -58,9 +58,9 @@ pub overlaps-sym : (k : Domains) (a u v : ℕ) → says overlaps k a v u ≡ say
 unfolding says gone
 overlaps-sym k a u v = and-comm (not (may-before k a v u)) (not (may-before k a u v))
 
-pub forced-turned : (k : Domains) (x a u v : ℕ) → x < 3 → says (forced (turned x)) k a v u ≡ says (forced x) k a u v
+pub forced-converse : (k : Domains) (x a u v : ℕ) → x < 3 → says (forced (converse x)) k a v u ≡ says (forced x) k a u v
 unfolding says
-forced-turned k x a u v h = ap₂ _&&_ (gone-turned k 0 a u v (omega arith)) (gone-turned k x a u v h)
+forced-converse k x a u v h = ap₂ _&&_ (gone-converse k 0 a u v (omega arith)) (gone-converse k x a u v h)
 
 -- Claims by the accessors
 pub overlaps-is : (k : Domains) (a u v : ℕ) → says overlaps k a u v ≡ fixed-overlap k a u v
@@ -72,4 +72,4 @@ unfolding says gone fixed-before
 forced-before-is k a u v = refl
 
 pub forced-after-is : (k : Domains) (a u v : ℕ) → says (forced 1) k a u v ≡ fixed-before k a v u
-forced-after-is k a u v = sym (forced-turned k 1 a u v (omega arith)) ∙ forced-before-is k a v u
+forced-after-is k a u v = sym (forced-converse k 1 a u v (omega arith)) ∙ forced-before-is k a v u

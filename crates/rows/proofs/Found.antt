@@ -16,10 +16,10 @@ use Rattle.model.specs.Order.{Proper, WellFormed}
 use Rattle.model.proofs.Below.{and-intro, and-both, or-case, or-left, or-right, clash}
 use Rattle.model.proofs.Slots.{proper-wide}
 use Rattle.rows.specs.Bits.{bit-at}
-use Rattle.rows.specs.Rows.{gone, without, turned, Mirror}
+use Rattle.rows.specs.Rows.{gone, without, converse, Mirror}
 use Rattle.rows.specs.Claims.{nothing, says}
 use Rattle.rows.proofs.Sets.{bit-and, bit-or, bit-zero, and-small, or-small, has-item}
-use Rattle.rows.proofs.Claims.{gone-mono, gone-turned, gone-self}
+use Rattle.rows.proofs.Claims.{gone-mono, gone-converse, gone-self}
 use Rattle.rows.proofs.Without.{without-less, says-elsewhere}
 use Rattle.rows.proofs.Mirror.{place, set-small, marked, mirrored, marked-long, marked-small, marked-last}
 
@@ -154,7 +154,7 @@ module _ {n : ℕ} {k : Domains} {rows : List ℕ} (limited : n ≤ 10) (f : Wel
       go (yes e) (inl p) =
           let same : (y : ℕ) → gone after y a u v ≡ gone after y b s t = λ y. rw (e, p .0, p .1) refl in new (same 0 ∙ e₀) (same 1 ∙ e₁) (same 2 ∙ e₂)
       go (yes e) (inr (inl p)) =
-          let same : (y : ℕ) → y < 3 → gone after (turned y) a u v ≡ gone after y b s t = λ y h. rw (e, p .0, p .1) (gone-turned after y a v u h) in
+          let same : (y : ℕ) → y < 3 → gone after (converse y) a u v ≡ gone after y b s t = λ y h. rw (e, p .0, p .1) (gone-converse after y a v u h) in
           new (same 0 (omega arith) ∙ e₀) (same 2 (omega arith) ∙ e₂) (same 1 (omega arith) ∙ e₁)
       go (yes e) (inr (inr d)) = stays (λ _. d)
       go (no e) _ = stays (λ d _ _. e d)

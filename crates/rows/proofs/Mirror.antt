@@ -15,9 +15,9 @@ use Rattle.model.specs.Order.{Proper, WellFormed}
 use Rattle.model.proofs.Below.{and-intro, and-both, clash}
 use Rattle.model.proofs.Slots.{proper-wide}
 use Rattle.rows.specs.Bits.{bit-at}
-use Rattle.rows.specs.Rows.{gone, without, turned, row, Mirror}
+use Rattle.rows.specs.Rows.{gone, without, converse, row, Mirror}
 use Rattle.rows.proofs.Sets.{bit-or, bit-power, or-small, power-small}
-use Rattle.rows.proofs.Claims.{gone-turned, gone-self, turned-small}
+use Rattle.rows.proofs.Claims.{gone-converse, gone-self, converse-small}
 use Rattle.rows.proofs.Without.{without-gone, Other, without-other}
 
 -- the number of a row
@@ -61,14 +61,14 @@ mark-small rows i v hv h = set-small rows i (bitOr (getD rows i 0) (2 ^ v)) (or-
 
 -- both rows of a removed relation
 abbrev pub marked : List ℕ → ℕ → ℕ → ℕ → ℕ → List ℕ
-marked rows x a u v = mark (mark rows (place x a u) v) (place (turned x) a v) u
+marked rows x a u v = mark (mark rows (place x a u) v) (place (converse x) a v) u
 
 module _ {n : ℕ} {k : Domains} {rows : List ℕ} (limited : n ≤ 10) (f : WellFormed k) (m : Mirror n k rows) (x a u v : ℕ) (hx : x < 3) (w : Proper n a u v) where
   abbrev near : ℕ
   near = place x a u
 
   abbrev far : ℕ
-  far = place (turned x) a v
+  far = place (converse x) a v
 
   abbrev after : Domains
   after = without k x a u v
@@ -81,7 +81,7 @@ module _ {n : ℕ} {k : Domains} {rows : List ℕ} (limited : n ≤ 10) (f : Wel
   both-marked i t ht =
       let hn : near < length rows = rw (m .long) (omega (arith, w .axis, w .item-u)) in
       let hf : far < length (mark rows near v) =
-      rw (length-set rows near (bitOr (getD rows near 0) (2 ^ v)), m .long) (omega (arith, w .axis, w .item-v, turned-small x)) in
+      rw (length-set rows near (bitOr (getD rows near 0) (2 ^ v)), m .long) (omega (arith, w .axis, w .item-v, converse-small x)) in
       mark-at (mark rows near v) far u i t hf (wide .item-u) ht
       ∙ ap (λ (b : Bool). b || (eqb i far && eqb t u)) (mark-at rows near v i t hn (wide .item-v) ht)
 
@@ -98,8 +98,8 @@ module _ {n : ℕ} {k : Domains} {rows : List ℕ} (limited : n ≤ 10) (f : Wel
     said-far : (eqb here far && eqb t u) ≡ true → (ltb t n && gone after y b s t) ≡ true
     said-far e =
         let p = and-both (eqb here far) (eqb t u) e in
-        let q = place-same {x = turned x} {y = y} (w .axis) (wide .item-v) hb (omega arith) (eqb-true here far (p .0)) in
-        rw (eqb-true t u (p .1), q .0, q .1, q .2) (and-intro (lt-ltb u n (w .item-u)) (gone-turned after x a u v hx ∙ without-gone k x f wide))
+        let q = place-same {x = converse x} {y = y} (w .axis) (wide .item-v) hb (omega arith) (eqb-true here far (p .0)) in
+        rw (eqb-true t u (p .1), q .0, q .1, q .2) (and-intro (lt-ltb u n (w .item-u)) (gone-converse after x a u v hx ∙ without-gone k x f wide))
 
     other : (eqb here near && eqb t v) ≡ false → (eqb here far && eqb t u) ≡ false → Other x a u v y b s t
     other p q = record {
@@ -134,5 +134,5 @@ module _ {n : ℕ} {k : Domains} {rows : List ℕ} (limited : n ≤ 10) (f : Wel
   -- row 90 is neither of the two
   pub marked-last : getD (marked rows x a u v) 90 0 ≡ getD rows 90 0
   marked-last =
-      getD-set-other (mark rows near v) far 90 _ 0 (omega (arith, w .axis, wide .item-v, turned-small x))
+      getD-set-other (mark rows near v) far 90 _ 0 (omega (arith, w .axis, wide .item-v, converse-small x))
       ∙ getD-set-other rows near 90 _ 0 (omega (arith, w .axis, wide .item-u))

@@ -17,7 +17,7 @@ use Rattle.model.proofs.Order.{domain-bits, domain-le}
 use Rattle.model.proofs.Domains.{before-removed, overlap-removed, before-other, overlap-other, overlap-after-before, before-after-overlap}
 use Rattle.model.proofs.Removal.{remove-before-less, remove-overlap-less, remove-before-above, remove-overlap-above, remove-before-well-formed, remove-overlap-well-formed}
 use Rattle.model.proofs.Slots.{proper-sym, index-sym, index-of-same}
-use Rattle.rows.specs.Rows.{gone, without, turned}
+use Rattle.rows.specs.Rows.{gone, without, converse}
 use Rattle.rows.specs.Claims.{Saying, overlaps, nothing, removed, forced, says}
 
 -- What is removed is gone, and nothing else
@@ -48,7 +48,7 @@ without-gone k (suc (suc x)) f w = ap not (before-removed k (f .long) (proper-sy
 -- the relation y of s and t on the axis b is not the relation x of u and v on the axis a, seen from either item
 pub record Other (x a u v y b s t : ℕ) : Type 0 where
   pub near : y ≡ x → b ≡ a → s ≡ u → t ≡ v → ⊥
-  pub far : y ≡ turned x → b ≡ a → s ≡ v → t ≡ u → ⊥
+  pub far : y ≡ converse x → b ≡ a → s ≡ v → t ≡ u → ⊥
 
 pub without-other : (k : Domains) (x y : ℕ) {a u v b s t : ℕ} → x < 3 → y < 3 → WellFormed k → Proper 10 a u v → Proper 10 b s t → Other x a u v y b s t
     → gone (without k x a u v) y b s t ≡ gone k y b s t

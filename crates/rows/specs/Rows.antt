@@ -23,10 +23,10 @@ without k (suc zero) a u v = remove-before k a u v
 without k (suc (suc x)) a u v = remove-before k a v u
 
 -- the same relation seen from v
-abbrev pub turned : ℕ → ℕ
-turned zero = 0
-turned (suc zero) = 2
-turned (suc (suc x)) = 1
+abbrev pub converse : ℕ → ℕ
+converse zero = 0
+converse (suc zero) = 2
+converse (suc (suc x)) = 1
 
 -- the row of a relation, an axis and an item: the items with which it is removed
 abbrev pub row : List ℕ → ℕ → ℕ → ℕ → ℕ

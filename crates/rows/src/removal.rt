@@ -15,9 +15,9 @@ use relations::access::remove_before;
 use relations::access::remove_overlap;
 
 // The same relation seen from the other item.
-fn turned(kind: usize) -> usize
+fn converse(kind: usize) -> usize
     requires { ⌜ kind < 3 ⌝ }
-    ensures { λ r. ⌜ r ≡ R.turned kind ⌝ }
+    ensures { λ r. ⌜ r ≡ R.converse kind ⌝ }
 {
     if kind == 0 {
         return 0;
@@ -58,7 +58,7 @@ fn remove_one(
 {
     remove_from(k, kind, a, u, v);
     let near = kind * 30 + a * 10 + u;
-    let far = turned(kind) * 30 + a * 10 + v;
+    let far = converse(kind) * 30 + a * 10 + v;
     rows[near] = rows[near] | bit(v);
     rows[far] = rows[far] | bit(u);
     let at = a * 10 + u;

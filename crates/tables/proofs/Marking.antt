@@ -16,11 +16,11 @@ use Rattle.model.specs.Domains.{Domains}
 use Rattle.model.specs.Order.{Proper}
 use Rattle.model.proofs.Below.{and-both, or-left, or-right, or-case, clash}
 use Rattle.rows.specs.Bits.{bit-at}
-use Rattle.rows.specs.Rows.{gone, turned, row, Mirror}
+use Rattle.rows.specs.Rows.{gone, converse, row, Mirror}
 use Rattle.rows.specs.Claims.{Claim, forced, says, Holds}
 use Rattle.rows.specs.Queue.{code, Coded, Queued, In}
 use Rattle.rows.proofs.Sets.{bit-or, bit-power, bit-zero, or-small, power-small}
-use Rattle.rows.proofs.Claims.{gone-turned, turned-small}
+use Rattle.rows.proofs.Claims.{gone-converse, converse-small}
 use Rattle.rows.proofs.Mirror.{row-at}
 use Rattle.tables.specs.Totals.{at, Linked, Direction, ClosedBut, Closed}
 use Rattle.tables.specs.Cuts.{Sets, set-of, Added, Markable, MarkedOne, MarkedPair, Marked}
@@ -85,7 +85,7 @@ added-then {u} {v} {s} {r} {q} f g = record {
 pub mark-none : {rows s : List ℕ} {x a u v : ℕ} → Markable rows s x a u v → bit-at (row rows x a u) v ≡ false → MarkedOne rows x a u v s s
 mark-none m e = record { added = added-none (m .sets); near = λ q. absurd (clash q e); far = λ q. absurd (clash q e) }
 
-other-set : (x a : ℕ) → Direction x → (2 - x) * 3 + a ≡ (turned x - 1) * 3 + a
+other-set : (x a : ℕ) → Direction x → (2 - x) * 3 + a ≡ (converse x - 1) * 3 + a
 other-set zero a d = absurd (omega (arith, d .least))
 other-set (suc zero) a d = refl
 other-set (suc (suc zero)) a d = refl
@@ -131,7 +131,7 @@ pub pair-both : {rows s r q : List ℕ} {a u v : ℕ} → u < 10 → v < 10 → 
 pair-both {rows} {s} {r} {q} {a} {u} {v} hu hv f g =
     record { added = added-then (f .added) (g .added); is = λ _ x d e. go x d e }
   where
-    go : (x : ℕ) → Direction x → bit-at (row rows x a u) v ≡ true → In (set-of q x a) u × In (set-of q (turned x) a) v
+    go : (x : ℕ) → Direction x → bit-at (row rows x a u) v ≡ true → In (set-of q x a) u × In (set-of q (converse x) a) v
     go zero d e = absurd (omega (arith, d .least))
     go (suc zero) d e = (g .added .more _ u hu (f .near e), g .added .more _ v hv (f .far e))
     go (suc (suc zero)) d e = (g .near e, g .far e)
@@ -174,21 +174,21 @@ module _ {n : ℕ} {k : Domains} {rows : List ℕ} (hn : n ≤ 10) (m : Mirror n
   said : (y s t : ℕ) → y < 3 → s < n → t < n → gone k y a s t ≡ true → bit-at (row rows y a s) t ≡ true
   said y s t hy hs ht e = row-at m hy (w .axis) hs t (omega arith) ht ∙ e
 
-  direction-turned : (x : ℕ) → Direction x → Direction (turned x) × (turned (turned x) ≡ x)
-  direction-turned zero d = absurd (omega (arith, d .least))
-  direction-turned (suc zero) d = (record { least = omega arith; most = omega arith }, refl)
-  direction-turned (suc (suc zero)) d = (record { least = omega arith; most = omega arith }, refl)
-  direction-turned (suc (suc (suc x))) d = absurd (omega (arith, d .most))
+  direction-converse : (x : ℕ) → Direction x → Direction (converse x) × (converse (converse x) ≡ x)
+  direction-converse zero d = absurd (omega (arith, d .least))
+  direction-converse (suc zero) d = (record { least = omega arith; most = omega arith }, refl)
+  direction-converse (suc (suc zero)) d = (record { least = omega arith; most = omega arith }, refl)
+  direction-converse (suc (suc (suc x))) d = absurd (omega (arith, d .most))
 
   marked-near : {s r : List ℕ} → MarkedPair rows a v z s r → In (set-of r x a) v
   marked-near f = f .is (said 0 v z (omega arith) (w .item-u) (w .item-v) (removed .0)) x d (said x v z hx (w .item-u) (w .item-v) (removed .1)) .0
 
   marked-far : {s r : List ℕ} → MarkedPair rows a z v s r → In (set-of r x a) v
   marked-far {s} {r} f =
-      let t = direction-turned x d in
-      let b = said 0 z v (omega arith) (w .item-v) (w .item-u) (gone-turned k 0 a v z (omega arith) ∙ removed .0) in
-      let c = said (turned x) z v (turned-small x) (w .item-v) (w .item-u) (gone-turned k x a v z hx ∙ removed .1) in
-      let e = f .is b (turned x) (t .0) c .1 in
+      let t = direction-converse x d in
+      let b = said 0 z v (omega arith) (w .item-v) (w .item-u) (gone-converse k 0 a v z (omega arith) ∙ removed .0) in
+      let c = said (converse x) z v (converse-small x) (w .item-v) (w .item-u) (gone-converse k x a v z hx ∙ removed .1) in
+      let e = f .is b (converse x) (t .0) c .1 in
       rw (t .1) at e
 
   coded : {c s t : ℕ} → s < 10 → t < 10 → c ≡ code a s t → (c / 256 ≡ a) × (c / 16 % 16 ≡ s) × (c % 16 ≡ t)

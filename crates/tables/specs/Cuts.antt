@@ -9,7 +9,7 @@ use lib.ListN.{getD, length}
 use Rattle.model.specs.Domains.{Domains}
 use Rattle.model.specs.Order.{Proper, _⊑_}
 use Rattle.rows.specs.Bits.{bit-at}
-use Rattle.rows.specs.Rows.{gone, turned, row, Mirror}
+use Rattle.rows.specs.Rows.{gone, converse, row, Mirror}
 use Rattle.rows.specs.Queue.{Coded, Queued, Grown, In}
 use Rattle.tables.specs.Totals.{at, Linked, Direction, Within}
 
@@ -72,12 +72,12 @@ pub record Added (u v : ℕ) (s r : List ℕ) : Type 0 where
 pub record MarkedOne (rows : List ℕ) (x a u v : ℕ) (s r : List ℕ) : Type 0 where
   pub added : Added u v s r
   pub near : bit-at (row rows x a u) v ≡ true → In (set-of r x a) u
-  pub far : bit-at (row rows x a u) v ≡ true → In (set-of r (turned x) a) v
+  pub far : bit-at (row rows x a u) v ≡ true → In (set-of r (converse x) a) v
 
 -- the same of both directions, where overlap is removed
 pub record MarkedPair (rows : List ℕ) (a u v : ℕ) (s r : List ℕ) : Type 0 where
   pub added : Added u v s r
-  pub is : bit-at (row rows 0 a u) v ≡ true → (x : ℕ) → Direction x → bit-at (row rows x a u) v ≡ true → In (set-of r x a) u × In (set-of r (turned x) a) v
+  pub is : bit-at (row rows 0 a u) v ≡ true → (x : ℕ) → Direction x → bit-at (row rows x a u) v ≡ true → In (set-of r x a) u × In (set-of r (converse x) a) v
 
 -- of each pair on the queue the items from which a link goes to the other; and no items that are not on the queue
 pub record Marked (rows q : List ℕ) (from to : ℕ) (r : List ℕ) : Type 0 where

@@ -1,6 +1,6 @@
 -- `rows::removal::remove_one` meets its contract.
 use native.Mathlib.Omega.{arith}
-use Rattle.rows.proofs.Claims.{turned-small}
+use Rattle.rows.proofs.Claims.{converse-small}
 use Rattle.rows.proofs.Single.{place-free, removed-one}
 use borrow.Author.Needs.{needs}
 use Rattle.rows.proofs.removal.remove_one.Statement.{statement}
@@ -21,20 +21,20 @@ add-near c = search needs
 add-near-2 : tie.Need-add-near-2
 add-near-2 c = search needs
 
-turned-requires : tie.Need-turned-requires
-turned-requires c κs = search needs
+converse-requires : tie.Need-converse-requires
+converse-requires c κs = search needs
 
 mul-far : tie.Need-mul-far
-mul-far c = omega (arith, c .turned .ensures, turned-small (c .before .before .before .args .kind))
+mul-far c = omega (arith, c .converse .ensures, converse-small (c .before .before .before .args .kind))
 
 mul-far-2 : tie.Need-mul-far-2
 mul-far-2 c = search needs
 
 add-far : tie.Need-add-far
-add-far c = omega (arith, c .turned .ensures, turned-small (c .before .before .before .args .kind))
+add-far c = omega (arith, c .converse .ensures, converse-small (c .before .before .before .args .kind))
 
 add-far-2 : tie.Need-add-far-2
-add-far-2 c = omega (arith, c .turned .ensures, turned-small (c .before .before .before .args .kind))
+add-far-2 c = omega (arith, c .converse .ensures, converse-small (c .before .before .before .args .kind))
 
 mul-rows : tie.Need-mul-rows
 mul-rows c = search needs
@@ -52,21 +52,21 @@ element-write-rows : tie.Need-element-write-rows
 element-write-rows c = search needs
 
 mul-rows-3 : tie.Need-mul-rows-3
-mul-rows-3 c = omega (arith, c .before .before .turned .ensures, turned-small (c .before .before .before .before .before .args .kind))
+mul-rows-3 c = omega (arith, c .before .before .converse .ensures, converse-small (c .before .before .before .before .before .args .kind))
 
 element-copy-out-rows-2 : tie.Need-element-copy-out-rows-2
-element-copy-out-rows-2 c = omega (arith, c .before .before .turned .ensures, turned-small (c .before .before .before .before .before .args .kind))
+element-copy-out-rows-2 c = omega (arith, c .before .before .converse .ensures, converse-small (c .before .before .before .before .before .args .kind))
 
 bit-requires-2 : tie.Need-bit-requires-2
 bit-requires-2 c κs = search needs
 
 mul-rows-4 : tie.Need-mul-rows-4
 mul-rows-4 c =
-    omega (arith, c .before .before .before .before .turned .ensures, turned-small (c .before .before .before .before .before .before .before .args .kind))
+    omega (arith, c .before .before .before .before .converse .ensures, converse-small (c .before .before .before .before .before .before .before .args .kind))
 
 element-write-rows-2 : tie.Need-element-write-rows-2
 element-write-rows-2 c =
-    omega (arith, c .before .before .before .before .turned .ensures, turned-small (c .before .before .before .before .before .before .before .args .kind))
+    omega (arith, c .before .before .before .before .converse .ensures, converse-small (c .before .before .before .before .before .before .before .args .kind))
 
 mul-at : tie.Need-mul-at
 mul-at c = search needs
@@ -135,7 +135,7 @@ returns c =
     let b = c .before .before .before .before in
     let t = b .before .before .before .before in
     let s = t .before .before .before in
-    rw (t .before .remove-from .ensures, t .turned .ensures, b .before .before .bit .ensures .0, b .bit2 .ensures .0)
+    rw (t .before .remove-from .ensures, t .converse .ensures, b .before .before .bit .ensures .0, b .bit2 .ensures .0)
     (removed-one (s .pre .0) (s .args .kind) (s .args .a) (s .args .u) (s .args .v) (s .pre .1) (s .pre .2) (s .pre .3))
 
 pub remove-one-spec : {M : Type 1} → statement M
@@ -147,7 +147,7 @@ remove-one-spec =
     mul-near-2
     add-near
     add-near-2
-    turned-requires
+    converse-requires
     mul-far
     mul-far-2
     add-far
