@@ -6,7 +6,7 @@ use native.Mathlib.Decide.{ℕ-discrete, decLt}
 use native.Mathlib.Omega.{arith}
 use native.Mathlib.Nat.{add-zero}
 use native.Mathlib.Numerals.{add-one}
-use lib.ListN.{length, getD, take, drop, set, replicate, length-set, length-map, drop-of-length-le, List·getD-eq-default}
+use lib.ListN.{length, getD, take, drop, set, replicate, length-set, drop-of-length-le, List·getD-eq-default}
 use lib.Seq.{sets, ext-getD, length-take-le, take-suc, getD-set-same, getD-set-other, getD-append-add, getD-take}
 use Rattle.records.specs.Bytes.{row-bytes}
 use Rattle.records.proofs.Writers.{sets-front, sets-append, row-next}
@@ -43,10 +43,6 @@ sets-next l s at i h =
 pub steps-fill : (m : ℕ) (out : List ℕ) → length out ≡ 4 → sets out 0 (m % 256 ∷ m / 256 % 256 ∷ m / 65536 % 256 ∷ m / 16777216 ∷ []) ≡ step-bytes m
 unfolding step-bytes
 steps-fill m out h = fills (m % 256 ∷ m / 256 % 256 ∷ m / 65536 % 256 ∷ m / 16777216 ∷ []) out h
-
--- an array's length, as a value of a struct has it
-pub length-mapped : {A B : Type 0} (f : A → B) (l : List A) (n : ℕ) → length (map f l) ≡ n → length l ≡ n
-length-mapped f l n e = sym (length-map l f) ∙ e
 
 -- positions one after the other
 pub positions-length : (ps : List Position) → length (row-bytes position-bytes ps) ≡ 6 * length ps

@@ -1,3 +1,5 @@
+pub mod Notes
 pub mod Outcomes
 pub mod Plans
+pub mod Faults
 pub mod Claim

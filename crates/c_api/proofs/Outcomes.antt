@@ -1,7 +1,7 @@
 -- What a call comes to, case by case, and that a path that is to be written has room in a note.
 use mathlib.Core.Bool.{Bool, true, false}
 use mathlib.Core.List.{List}
-use mathlib.Core.Logic.{_⊎_, inl, inr}
+use mathlib.Core.Logic.{_↔_}
 use mathlib.Core.Path.{_≡_, refl, sym, subst}
 use Prim.Native.Nat.{ℕ, _*_, _≤_}
 use native.Mathlib.Omega.{arith}
@@ -13,7 +13,8 @@ use Rattle.model.proofs.Theorems as T
 use Rattle.model.specs.Branching.{plan}
 use Rattle.model.specs.Calls as C
 use Rattle.model.specs.Problem.{Positions}
-use Rattle.model.specs.Run.{look, search}
+use Rattle.model.specs.Machine.{steps}
+use Rattle.model.specs.Run.{look, machine, plan-at}
 use Rattle.model.specs.Search as S
 use Rattle.refusal.specs.declared.Refusal.the-variants.{BadArgument, NotFollowing}
 use Rattle.instance.specs.Meaning.{problem-of}
@@ -23,26 +24,25 @@ use Rattle.instance.specs.declared.Instance.{Instance}
 use Rattle.instance.specs.declared.Packing.{Packing}
 use Rattle.packing.specs.Check.{check-answer, check-number}
 use Rattle.packing.specs.declared.CheckAnswer.{CheckAnswer}
-use Rattle.search.proofs.Claim.{refused-or-served}
+use Rattle.search.proofs.Claim.{CallIs, invalid, not-following, searched, call-is}
 use Rattle.search.proofs.Sound.{valid-sound}
 use Rattle.search.specs.Checkpoints.{checkpoint-of, value-of}
 use Rattle.search.specs.Results as R
 use Rattle.search.specs.declared.SearchResult.{SearchResult}
 use Rattle.buffers.specs.Bytes.{packing-in}
 use Rattle.buffers.specs.Checkpoints.{checkpoint-in, is-checkpoint}
-use Rattle.c_api.specs.Calls.{plan-fits, lengths-fit, checked-if, instance-searched, PathFits}
+use Rattle.c_api.specs.Calls.{plan-fits, lengths-fit, checked-if, note-follows, instance-searched, PathFits}
+use Rattle.c_api.specs.Notes.{Lengths}
 
--- buffers of the right lengths
-pub record Lengths (i : Instance) (note steps plan : ℕ) : Type 0 where
-  pub note-is : note ≡ 273
-  pub steps-are : steps ≡ 4
-  pub plan-is : plan ≡ 6 * i .«item_count»
-
-pub lengths-say : (i : Instance) (note steps plan : ℕ) → lengths-fit i note steps plan ≡ true → Lengths i note steps plan
-lengths-say i note steps plan h =
-    let (a, b) = and-both (eqb note 273) _ h in
-    let (d, e) = and-both (eqb steps 4) (plan-fits i plan) b in
-    record { note-is = eqb-true note 273 a; steps-are = eqb-true steps 4 d; plan-is = eqb-true plan (6 * i .«item_count») e }
+-- buffers of the right lengths: the test and the record agree
+pub lengths-so : (i : Instance) (note steps plan : List ℕ) → (lengths-fit i (length note) (length steps) (length plan) ≡ true) ↔ Lengths i note steps plan
+lengths-so i note steps plan = (
+  (λ h.
+      let (a, b) = and-both (eqb (length note) 273) _ h in
+      let (d, e) = and-both (eqb (length steps) 4) (plan-fits i (length plan)) b in
+      record { note-is = eqb-true (length note) 273 a; steps-are = eqb-true (length steps) 4 d; plan-is = eqb-true (length plan) (6 * i .«item_count») e }),
+  (λ l. rw (eq-eqb _ _ (l .note-is), eq-eqb _ _ (l .steps-are), eq-eqb _ _ (l .plan-is))),
+)
 
 module _ (i : Instance) (note : List ℕ) (budget steps plan : ℕ) where
   pub wrong-lengths : lengths-fit i (length note) steps plan ≡ false → instance-searched i note budget steps plan ≡ R.refused BadArgument (checkpoint-in note)
@@ -51,13 +51,13 @@ module _ (i : Instance) (note : List ℕ) (budget steps plan : ℕ) where
 
   pub no-checkpoint : lengths-fit i (length note) steps plan ≡ true → is-checkpoint note ≡ false
       → instance-searched i note budget steps plan ≡ R.refused NotFollowing (checkpoint-in note)
-  unfolding instance-searched
+  unfolding instance-searched note-follows
   no-checkpoint h k = rw (h, k)
 
-  pub as-searched : lengths-fit i (length note) steps plan ≡ true → is-checkpoint note ≡ true
+  pub as-searched : valid i ≡ true → lengths-fit i (length note) steps plan ≡ true → is-checkpoint note ≡ true
       → instance-searched i note budget steps plan ≡ R.search-result i (checkpoint-in note) budget
-  unfolding instance-searched
-  as-searched h k = rw (h, k)
+  unfolding instance-searched note-follows R.search-result
+  as-searched v h k = rw (v, h, k)
 
 -- "A row of turns has at most .. entries": what is written of a result fits a note
 module _ (i : Instance) (v : valid i ≡ true) (long : length (i .items) ≡ 10) where
@@ -74,17 +74,15 @@ module _ (i : Instance) (v : valid i ≡ true) (long : length (i .items) ≡ 10)
 
   pub path-fits : (c : Checkpoint) (budget : ℕ) → PathFits (R.search-result i c budget .answer) (R.search-result i c budget .checkpoint .length)
   unfolding R.refused R.result-of
-  path-fits c budget = go (refused-or-served i v long c budget)
+  path-fits c budget = go (call-is i c budget)
     where
-      go : (R.search-result i c budget ≡ R.refused NotFollowing c)
-          ⊎ (S.Follows (look (problem-of i)) (checkpoint-of c)
-          × (R.search-result i c budget ≡ R.result-of (problem-of i) (search (problem-of i) budget (checkpoint-of c))))
-          → PathFits (R.search-result i c budget .answer) (R.search-result i c budget .checkpoint .length)
-      go (inl r) = subst (λ (x : SearchResult). PathFits (x .answer) (x .checkpoint .length)) (sym r) tt
-      go (inr (f, r)) =
-          let μ = S.steps (look (problem-of i)) budget (checkpoint-of c) in
+      go : CallIs i c budget (R.search-result i c budget) → PathFits (R.search-result i c budget .answer) (R.search-result i c budget .checkpoint .length)
+      go (invalid d r) = subst (λ (x : SearchResult). PathFits (x .answer) (x .checkpoint .length)) (sym r) tt
+      go (not-following d n r) = subst (λ (x : SearchResult). PathFits (x .answer) (x .checkpoint .length)) (sym r) tt
+      go (searched d φ r) =
+          let μ = steps (machine (problem-of i)) budget (checkpoint-of c) in
           subst (λ (x : SearchResult). PathFits (x .answer) (x .checkpoint .length)) (sym r)
-          (fits (C.answer (plan (problem-of i)) μ) (value-of μ .length) (short μ (T.reached-follows (problem-of i) budget (checkpoint-of c) f)))
+          (fits (C.answer (machine (problem-of i)) (plan-at (problem-of i)) μ) (value-of μ .length) (short μ (T.reached-follows (problem-of i) budget (checkpoint-of c) (φ .follows))))
 
 -- the check of a plan of the right length
 pub checked-is : (i : Instance) (plan : List ℕ) (q : Packing) (r : CheckAnswer) → length plan ≡ 6 * i .«item_count» → q ≡ packing-in plan → r ≡ check-answer i q

@@ -1,118 +1,158 @@
--- What check says of plan bytes, and that it says yes to those that search leaves.
+-- What check says of sheet and plan bytes, and that it says yes to the plan bytes of a packing that fits.
 use mathlib.Core.Bool.{Bool, true, false}
 use mathlib.Core.List.{List}
 use mathlib.Core.Logic.{_↔_, _⊎_, inl, inr}
 use mathlib.Core.Path.{_≡_, refl, sym, ap, _∙_, subst}
-use Prim.Native.Nat.{ℕ, _*_, _≤_, _<_}
+use Prim.Native.Nat.{ℕ, _+_, _*_, _≤_, _<_}
 use native.Mathlib.Omega.{arith}
-use lib.ListN.{length, getD, length-replicate}
-use borrow.Author.Tests.{eq-eqb}
+use lib.ListN.{length}
+use borrow.Author.Tests.{eq-eqb, ne-eqb, eqb-true}
 use Rattle.model.proofs.Below.{clash}
 use Rattle.model.proofs.Theorems as T
-use Rattle.model.specs.Calls as C
+use Rattle.model.specs.Admits.{Sound}
 use Rattle.model.specs.Problem.{Positions, Feasible, feasible}
-use Rattle.model.specs.Run.{look, search}
+use Rattle.model.specs.Run.{plan-at}
 use Rattle.model.specs.Search as S
 use Rattle.refusal.specs.Numbers.{number-of}
-use Rattle.refusal.specs.declared.Refusal.the-variants.{NotFollowing}
+use Rattle.refusal.specs.declared.Refusal.{Refusal}
 use Rattle.records.specs.Bounds.{Bytes}
-use Rattle.records.specs.Reading.{got}
-use Rattle.instance.proofs.Inverse.{read-written}
+use Rattle.records.specs.Reading.{refused}
+use Rattle.records.proofs.Cases.{never-both}
+use Rattle.instance.proofs.Inverse.{read-valid}
 use Rattle.instance.proofs.Lookup.{made-room}
-use Rattle.instance.proofs.Sheets.{valid-says}
+use Rattle.instance.proofs.Readings.{read-or-refused}
 use Rattle.instance.specs.Decode.{decode}
 use Rattle.instance.specs.Meaning.{start, problem-of, positions-of}
+use Rattle.instance.specs.Reads.{Reads}
 use Rattle.instance.specs.Valid.{valid}
-use Rattle.instance.specs.Values.{origin, origin-packing}
-use Rattle.instance.specs.declared.Checkpoint.{Checkpoint}
 use Rattle.instance.specs.declared.Instance.{Instance}
-use Rattle.instance.specs.declared.Position.{Position}
 use Rattle.packing.specs.Check.{answer-of, check-answer, check-number}
-use Rattle.search.proofs.Claim.{packed-feasible, refused-or-served}
-use Rattle.search.proofs.Packing.{feasible-same}
+use Rattle.search.proofs.Packing as Value
 use Rattle.search.proofs.Sound.{valid-sound}
-use Rattle.search.specs.Checkpoints.{checkpoint-of}
-use Rattle.search.specs.Results as R
-use Rattle.search.specs.declared.Answer.{Answer}
-use Rattle.search.specs.declared.Answer.the-variants.{Packed, Infeasible, BudgetSpent, Refused}
-use Rattle.search.specs.declared.SearchResult.{SearchResult}
+use Rattle.search.specs.Results.{packing-of}
 use Rattle.buffers.proofs.Bytes.{packing-length, packing-back}
-use Rattle.buffers.specs.Bytes.{packing-bytes, packing-in}
-use Rattle.buffers.specs.Checkpoints.{checkpoint-in, is-checkpoint}
-use Rattle.c_api.specs.Calls.{check-code, lengths-fit, searched-if, instance-searched, plan-of, search-call, search-code, plan-after}
+use Rattle.buffers.specs.Bytes.{packing-in}
+use Rattle.c_api.specs.Calls.{plan-fits, checked-if, checked, check-code}
+use Rattle.c_api.specs.Faults.{CheckFault}
+use Rattle.c_api.specs.Lists.{plan-bytes}
+use Rattle.c_api.specs.Plans.{Checkable, Fits}
 
--- the number 1 is "placed"
-one-is-packed : (a : Answer) → R.answer-number a ≡ 1 → a ≡ Packed
-one-is-packed BudgetSpent e = absurd (omega arith)
-one-is-packed Packed e = refl
-one-is-packed Infeasible e = absurd (omega arith)
-one-is-packed (Refused r) e = absurd (omega arith)
+-- A sheet reads as one instance, which is valid
 
-module _ (sheet : List ℕ) (bytes : Bytes sheet) (i : Instance) (at : ℕ) (rest : List ℕ) (reads : decode sheet ≡ got i at rest) where
-  is-valid : valid i ≡ true
-  is-valid = read-written sheet bytes reads .1
+pub reads-one : (sheet : List ℕ) (r s : Reads sheet) → r .instance ≡ s .instance
+reads-one sheet r s = cc (r .reads, s .reads)
 
-  room : length (i .items) ≡ 10
-  room = made-room sheet bytes reads
+module _ (sheet : List ℕ) (bytes : Bytes sheet) (r : Reads sheet) where
+  pub reads-valid : valid (r .instance) ≡ true
+  reads-valid = read-valid sheet bytes (r .reads)
 
-  check-is : (plan : List ℕ) → length plan ≡ 6 * i .«item_count» → check-code sheet plan ≡ check-number (check-answer i (packing-in plan))
+  pub reads-sound : Sound (problem-of (r .instance))
+  reads-sound = valid-sound (r .instance) reads-valid (made-room sheet bytes (r .reads))
+
+-- Check by the table: it is refused with the sheet's number, or with 8, or says yes, or no
+
+data CheckIs (sheet plan : List ℕ) (n : ℕ) : Type 0 where
+  unread : (e : Refusal) → decode sheet ≡ refused e → n ≡ 100 + number-of e → CheckIs sheet plan n
+  wrong-length : (r : Reads sheet) → (length plan ≡ 6 * r .instance .«item_count» → ⊥) → n ≡ 108 → CheckIs sheet plan n
+  says-yes : (c : Checkable sheet plan) → Fits c → n ≡ 1 → CheckIs sheet plan n
+  says-no : (c : Checkable sheet plan) → (Fits c → ⊥) → n ≡ 0 → CheckIs sheet plan n
+
+module _ (sheet plan : List ℕ) where
+  by-sheet : (e : Refusal) → decode sheet ≡ refused e → check-code sheet plan ≡ 100 + number-of e
   unfolding check-code
-  check-is plan h = rw (reads, eq-eqb _ _ h)
+  by-sheet e d = rw d
+
+  by-length : (r : Reads sheet) → (length plan ≡ 6 * r .instance .«item_count» → ⊥) → check-code sheet plan ≡ 108
+  unfolding check-code
+  by-length r h = rw (r .reads, ne-eqb _ _ h)
+
+module _ (sheet plan : List ℕ) (bytes : Bytes sheet) where
+  by-test : (c : Checkable sheet plan)
+      → check-code sheet plan ≡ check-number (answer-of true (feasible (problem-of (c .sheet-reads .instance)) (positions-of (packing-in plan))))
+  unfolding check-code check-answer
+  by-test c = rw (c .sheet-reads .reads, eq-eqb _ _ (c .plan-is), reads-valid sheet bytes (c .sheet-reads))
+
+  decided : (c : Checkable sheet plan) → CheckIs sheet plan (check-code sheet plan)
+  decided c = go (feasible (problem-of (c .sheet-reads .instance)) (positions-of (packing-in plan))) refl
+    where
+      go : (b : Bool) → feasible (problem-of (c .sheet-reads .instance)) (positions-of (packing-in plan)) ≡ b → CheckIs sheet plan (check-code sheet plan)
+      go true e = says-yes c (T.feasible-test _ _ .0 e) (by-test c ∙ rw e)
+      go false e = says-no c (λ f. clash (T.feasible-test _ _ .1 f) e) (by-test c ∙ rw e)
+
+  check-is : CheckIs sheet plan (check-code sheet plan)
+  check-is = go (read-or-refused sheet)
+    where
+      read : (r : Reads sheet) (b : Bool) → plan-fits (r .instance) (length plan) ≡ b → CheckIs sheet plan (check-code sheet plan)
+      read r true h = decided (record { sheet-reads = r; plan-is = eqb-true _ _ h })
+      read r false h = let n : length plan ≡ 6 * r .instance .«item_count» → ⊥ = λ l. clash (eq-eqb _ _ l) h in wrong-length r n (by-length sheet plan r n)
+
+      go : Reads sheet ⊎ ((e : Refusal) × (decode sheet ≡ refused e)) → CheckIs sheet plan (check-code sheet plan)
+      go (inl r) = read r (plan-fits (r .instance) (length plan)) refl
+      go (inr (e, d)) = unread e d (by-sheet sheet plan e d)
+
+  -- "nothing else is refused"
+  pub check-refuses : (n : ℕ) → (check-code sheet plan ≡ 100 + n) ↔ CheckFault sheet plan n
+  check-refuses n = (fore check-is, back)
+    where
+      fore : CheckIs sheet plan (check-code sheet plan) → check-code sheet plan ≡ 100 + n → CheckFault sheet plan n
+      fore (unread x d k) e = CheckFault.unread x d (omega arith)
+      fore (wrong-length r h k) e = CheckFault.eight r h (omega arith)
+      fore (says-yes c f k) e = absurd (omega arith)
+      fore (says-no c f k) e = absurd (omega arith)
+
+      back : CheckFault sheet plan n → check-code sheet plan ≡ 100 + n
+      back (CheckFault.unread x d e) = rw e (by-sheet sheet plan x d)
+      back (CheckFault.eight r h e) = rw e (by-length sheet plan r h)
+
+  one-fit : (c d : Checkable sheet plan) → Fits c → Fits d
+  one-fit c d f =
+      subst (λ (i : Instance). Feasible (problem-of i) (positions-of (packing-in plan))) (reads-one sheet (c .sheet-reads) (d .sheet-reads)) f
 
   -- "Check returns 0 no, 1 yes": yes exactly when the plan fits
-  pub yes-exactly : (plan : List ℕ) → length plan ≡ 6 * i .«item_count» → (check-code sheet plan ≡ 1) ↔ Feasible (problem-of i) (positions-of (packing-in plan))
-  unfolding check-answer
-  yes-exactly plan h = rw (check-is plan h, is-valid) (go (feasible (problem-of i) (positions-of (packing-in plan))) refl)
+  pub yes-exactly : (check-code sheet plan ≡ 1) ↔ ((c : Checkable sheet plan) × Fits c)
+  yes-exactly = (fore check-is, (λ (c, f). back c f (decided c)))
     where
-      go : (b : Bool) → feasible (problem-of i) (positions-of (packing-in plan)) ≡ b
-          → (check-number (answer-of true b) ≡ 1) ↔ Feasible (problem-of i) (positions-of (packing-in plan))
-      go true e = ((λ _. T.feasible-test (problem-of i) (positions-of (packing-in plan)) .0 e), (λ _. refl))
-      go false e = ((λ z. absurd (omega arith)), (λ f. absurd (clash (T.feasible-test (problem-of i) (positions-of (packing-in plan)) .1 f) e)))
+      fore : CheckIs sheet plan (check-code sheet plan) → check-code sheet plan ≡ 1 → (c : Checkable sheet plan) × Fits c
+      fore (unread x d k) e = absurd (omega arith)
+      fore (wrong-length r h k) e = absurd (omega arith)
+      fore (says-yes c f k) e = (c, f)
+      fore (says-no c f k) e = absurd (omega arith)
 
-  -- a packing with ten positions
-  packing-room : (c : Checkpoint) (budget : ℕ) → length (R.search-result i c budget .packing .positions) ≡ 10
-  unfolding R.refused R.result-of R.packing-of origin-packing
-  packing-room c budget = go (refused-or-served i is-valid room c budget)
+      back : (c : Checkable sheet plan) → Fits c → CheckIs sheet plan (check-code sheet plan) → check-code sheet plan ≡ 1
+      back c f (unread x d k) = absurd (never-both (sym d ∙ c .sheet-reads .reads))
+      back c f (wrong-length r h k) = absurd (h (rw (reads-one sheet r (c .sheet-reads)) (c .plan-is)))
+      back c f (says-yes d g k) = k
+      back c f (says-no d g k) = absurd (g (one-fit c d f))
+
+  pub no-exactly : (check-code sheet plan ≡ 0) ↔ ((c : Checkable sheet plan) × (Fits c → ⊥))
+  no-exactly = (fore check-is, (λ (c, f). back c f (decided c)))
     where
-      ten : (a : C.Answer Positions) → length (R.packing-with (problem-of i) a .positions) ≡ 10
-      ten C.budget-spent = refl
-      ten C.no-packing = refl
-      ten (C.packing q) = refl
+      fore : CheckIs sheet plan (check-code sheet plan) → check-code sheet plan ≡ 0 → (c : Checkable sheet plan) × (Fits c → ⊥)
+      fore (unread x d k) e = absurd (omega arith)
+      fore (wrong-length r h k) e = absurd (omega arith)
+      fore (says-yes c f k) e = absurd (omega arith)
+      fore (says-no c f k) e = (c, f)
 
-      go : (R.search-result i c budget ≡ R.refused NotFollowing c)
-          ⊎ (S.Follows (look (problem-of i)) (checkpoint-of c)
-          × (R.search-result i c budget ≡ R.result-of (problem-of i) (search (problem-of i) budget (checkpoint-of c))))
-          → length (R.search-result i c budget .packing .positions) ≡ 10
-      go (inl r) = subst (λ (x : SearchResult). length (x .packing .positions) ≡ 10) (sym r) refl
-      go (inr (f, r)) = subst (λ (x : SearchResult). length (x .packing .positions) ≡ 10) (sym r) (ten (search (problem-of i) budget (checkpoint-of c) .answer))
+      back : (c : Checkable sheet plan) → (Fits c → ⊥) → CheckIs sheet plan (check-code sheet plan) → check-code sheet plan ≡ 0
+      back c f (unread x d k) = absurd (never-both (sym d ∙ c .sheet-reads .reads))
+      back c f (wrong-length r h k) = absurd (h (rw (reads-one sheet r (c .sheet-reads)) (c .plan-is)))
+      back c f (says-yes d g k) = absurd (f (one-fit d c g))
+      back c f (says-no d g k) = k
 
-  -- the positions come back from the plan bytes
-  same-positions : (r : SearchResult) → length (r .packing .positions) ≡ 10 → (a u : ℕ) → a < 3 → u < problem-of i .items
-      → positions-of (packing-in (packing-bytes (i .«item_count») (r .packing))) a u ≡ positions-of (r .packing) a u
-  unfolding positions-of problem-of
-  same-positions r l a u la lu =
-      let few = valid-says i is-valid .items-few in
-      ap (start a) (packing-back (i .«item_count») u (r .packing) (omega arith) few lu)
+-- the plan bytes of a plan that fits get yes
+pub placed-checks : (sheet : List ℕ) → Bytes sheet → (r : Reads sheet) (κ : S.Checkpoint) → Feasible (problem-of (r .instance)) (plan-at (problem-of (r .instance)) κ)
+    → check-code sheet (plan-bytes (r .instance) κ) ≡ 1
+unfolding positions-of packing-of problem-of
+placed-checks sheet bytes r κ f = yes-exactly sheet (plan-bytes (r .instance) κ) bytes .1 (
+  record { sheet-reads = r; plan-is = packing-length (r .instance .«item_count») (packing-of (problem-of (r .instance)) (plan-at (problem-of (r .instance)) κ)) few },
+  Value.feasible-same (problem-of (r .instance)) (reads-sound sheet bytes r) (plan-at (problem-of (r .instance)) κ) _ same f,
+)
+  where
+    few : r .instance .«item_count» ≤ 10
+    few = reads-sound sheet bytes r .limited
 
-  -- the plan bytes of a packing that fits get yes
-  feasible-checks : (r : SearchResult) → length (r .packing .positions) ≡ 10 → Feasible (problem-of i) (positions-of (r .packing))
-      → check-code sheet (packing-bytes (i .«item_count») (r .packing)) ≡ 1
-  feasible-checks r l f =
-      let few = valid-says i is-valid .items-few in
-      yes-exactly (packing-bytes (i .«item_count») (r .packing)) (packing-length (i .«item_count») (r .packing) (omega arith)) .1
-      (feasible-same (problem-of i) (valid-sound i is-valid room) (positions-of (r .packing)) _ (same-positions r l) f)
-
-  -- check says yes to the plan bytes that search leaves when it returns 1
-  pub placed-checks : (note : List ℕ) (allowance : ℕ) (steps plan : List ℕ) → search-code sheet note allowance steps plan ≡ 1
-      → check-code sheet (plan-after sheet note allowance steps plan) ≡ 1
-  unfolding search-call instance-searched R.refused
-  placed-checks note allowance steps plan = rw reads (go (lengths-fit i (length note) (length steps) (length plan)) (is-checkpoint note))
-    where
-      go : (b d : Bool) → R.answer-number (searched-if b d i note allowance .answer) ≡ 1
-          → check-code sheet (plan-of (i .«item_count») (searched-if b d i note allowance) plan) ≡ 1
-      go false d e = absurd (omega arith)
-      go true false e = absurd (omega arith)
-      go true true e =
-          let r = R.search-result i (checkpoint-in note) allowance in
-          let k = one-is-packed (r .answer) e in
-          rw k (feasible-checks r (packing-room (checkpoint-in note) allowance) (packed-feasible i is-valid room (checkpoint-in note) allowance k))
+    same : (a u : ℕ) → a < 3 → u < problem-of (r .instance) .items
+        → positions-of (packing-in (plan-bytes (r .instance) κ)) a u ≡ plan-at (problem-of (r .instance)) κ a u
+    same a u la lu =
+        ap (start a) (packing-back (r .instance .«item_count») u (packing-of (problem-of (r .instance)) (plan-at (problem-of (r .instance)) κ)) few few lu)
+        ∙ Value.packing-back (problem-of (r .instance)) few (plan-at (problem-of (r .instance)) κ) a u la lu

@@ -4,13 +4,16 @@ use mathlib.Core.List.{List}
 use Prim.Native.Nat.{ℕ, _*_, _≤_}
 use lib.Dec.{eqb}
 use lib.ListN.{length}
-use Rattle.refusal.specs.declared.Refusal.the-variants.{BadArgument, NotFollowing}
+use Rattle.model.specs.Problem.{Problem}
+use Rattle.refusal.specs.declared.Refusal.the-variants.{BadArgument}
 use Rattle.records.specs.Reading.{Read, got, refused}
 use Rattle.instance.specs.Decode.{decode}
+use Rattle.instance.specs.Meaning.{problem-of}
 use Rattle.instance.specs.declared.Instance.{Instance}
 use Rattle.packing.specs.Check.{check-answer, check-number}
 use Rattle.packing.specs.declared.CheckAnswer.{CheckAnswer}
 use Rattle.packing.specs.declared.CheckAnswer.the-variants as K
+use Rattle.search.specs.Checkpoints.{checkpoint-of, following}
 use Rattle.search.specs.Results as R
 use Rattle.search.specs.declared.Answer.{Answer}
 use Rattle.search.specs.declared.Answer.the-variants.{Packed, Infeasible, BudgetSpent, Refused}
@@ -43,15 +46,18 @@ check-code sheet plan = check-number (checked (decode sheet) plan)
 
 -- Search
 
+-- 10: "a note that doesn't follow its sheet"; "other contents get 10"
+unfoldable pub note-follows : Problem → List ℕ → Bool
+note-follows p note = is-checkpoint note && following p (checkpoint-in note)
+
 -- "8 before 10"
 abbrev pub searched-if : Bool → Bool → Instance → List ℕ → ℕ → SearchResult
-searched-if false b i note budget = R.refused BadArgument (checkpoint-in note)
-searched-if true false i note budget = R.refused NotFollowing (checkpoint-in note)
-searched-if true true i note budget = R.search-result i (checkpoint-in note) budget
+searched-if false f i note budget = R.refused BadArgument (checkpoint-in note)
+searched-if true f i note budget = R.followed-if f (problem-of i) budget (checkpoint-in note) (checkpoint-of (checkpoint-in note))
 
 -- the call on a sheet that reads as i, with so many step bytes and plan bytes
 unfoldable pub instance-searched : Instance → List ℕ → ℕ → ℕ → ℕ → SearchResult
-instance-searched i note budget steps plan = searched-if (lengths-fit i (length note) steps plan) (is-checkpoint note) i note budget
+instance-searched i note budget steps plan = searched-if (lengths-fit i (length note) steps plan) (note-follows (problem-of i) note) i note budget
 
 -- "or a refusal as check does": the sheet's first
 abbrev pub searched : Read Instance → List ℕ → ℕ → ℕ → ℕ → SearchResult

@@ -1,2 +1,5 @@
 pub mod Calls
+pub mod Notes
+pub mod Faults
+pub mod Plans
 pub mod Lists

@@ -1,52 +1,66 @@
--- A list of calls on bytes: the terms of the claim (document 01, "The search": "A list is all in values or all on the screen").
+-- A list of calls on bytes (document 01, "The search": "A list is all in values or all on the screen").
 use mathlib.Core.Bool.{Bool, true, false}
 use mathlib.Core.List.{List}
-use mathlib.Core.Option.{Option, none, some}
-use Prim.Native.Nat.{ℕ, zero, suc}
-use lib.ListN.{length}
-use Rattle.model.specs.Branching.{Branch, plan}
-use Rattle.model.specs.Calls as C
+use mathlib.Core.Path.{_≡_}
+use Prim.Native.Nat.{ℕ}
+use lib.ListN.{length, replicate}
+use Rattle.model.specs.Lists.{Service}
+use Rattle.model.specs.Run.{plan-at}
 use Rattle.model.specs.Search as S
 use Rattle.instance.specs.Meaning.{problem-of}
 use Rattle.instance.specs.declared.Instance.{Instance}
-use Rattle.search.specs.Checkpoints.{value-of}
 use Rattle.search.specs.Results.{packing-of}
 use Rattle.buffers.specs.Bytes.{packing-bytes, steps-in}
-use Rattle.buffers.specs.Checkpoints.{checkpoint-bytes}
 use Rattle.c_api.specs.Calls.{lengths-fit, search-code, note-after, steps-after, plan-after}
+use Rattle.c_api.specs.Notes.{note-bytes}
 
--- what one call is handed beside the sheet and the note: its allowance, and what the step bytes and the plan bytes hold before it
+-- what a call is handed beside the sheet and the note: its allowance, and what the step bytes and the plan bytes hold before it
 pub record Lent : Type 0 where
   pub allowance : ℕ
   pub steps : List ℕ
   pub plan : List ℕ
 
--- what the caller is told, by the number returned: "0 spent, 1 placed, 2 none, or a refusal"; the steps and the plan are read from their bytes
-abbrev pub reply-of : ℕ → List ℕ → List ℕ → C.Reply ℕ (List ℕ)
-reply-of zero steps plan = C.answered C.budget-spent (steps-in steps)
-reply-of (suc zero) steps plan = C.answered (C.packing plan) (steps-in steps)
-reply-of (suc (suc zero)) steps plan = C.answered C.no-packing (steps-in steps)
-reply-of (suc (suc (suc n))) steps plan = C.refused (suc (suc (suc n)))
+-- a call with the list's note and step and plan bytes of any length; or one that is lent bytes of another length as its note
+pub data Call : Type 0 where
+  own : Lent → Call
+  other : (note : List ℕ) → (length note ≡ 273 → ⊥) → Lent → Call
 
--- one call on a note: "each later one the note that the last .. left"
-abbrev pub exec : List ℕ → Lent → List ℕ → List ℕ × C.Reply ℕ (List ℕ)
-exec sheet c note = (
-  note-after sheet note (c .allowance) (c .steps) (c .plan),
-  reply-of (search-code sheet note (c .allowance) (c .steps) (c .plan)) (steps-after sheet note (c .allowance) (c .steps) (c .plan)) (plan-after sheet note (c .allowance) (c .steps) (c .plan)),
-)
+abbrev pub lent : Call → Lent
+lent (own c) = c
+lent (other note l c) = c
 
--- "Refused calls may stand anywhere in the list": on a sheet that is read those with buffers of a wrong length
-abbrev pub granted-if : Bool → ℕ → Option ℕ
-granted-if true allowance = some allowance
-granted-if false allowance = none
+-- the bytes that a call is lent as note, where the list's note has the bytes x
+abbrev pub lent-note : Call → List ℕ → List ℕ
+lent-note (own c) x = x
+lent-note (other note l c) x = note
 
-abbrev pub granted : Instance → Lent → Option ℕ
-granted i c = granted-if (lengths-fit i 273 (length (c .steps)) (length (c .plan))) (c .allowance)
+-- the list's note after a call: as the call leaves it, or as it was where other bytes were lent
+abbrev pub own-note : List ℕ → Call → List ℕ → List ℕ
+own-note sheet (own c) x = note-after sheet x (c .allowance) (c .steps) (c .plan)
+own-note sheet (other note l c) x = x
 
--- the note bytes of a checkpoint
-unfoldable pub note-bytes : S.Checkpoint → List ℕ
-note-bytes κ = checkpoint-bytes (value-of κ)
+-- not "plan bytes not 6 for each piece; note bytes not 273; step bytes not 4"
+abbrev pub lengths-right : Instance → Call → Bool
+lengths-right i (own c) = lengths-fit i 273 (length (c .steps)) (length (c .plan))
+lengths-right i (other note l c) = false
 
 -- "the run's whole plan, on the screen as plan bytes"
-abbrev pub plan-bytes : Instance → List Branch → List ℕ
-plan-bytes i path = packing-bytes (i .«item_count») (packing-of (problem-of i) (plan (problem-of i) path))
+abbrev pub plan-bytes : Instance → S.Checkpoint → List ℕ
+plan-bytes i κ = packing-bytes (i .«item_count») (packing-of (problem-of i) (plan-at (problem-of i) κ))
+
+-- what `hallplan_search` returns and leaves; i is the instance that the sheet reads as
+abbrev pub on-bytes : List ℕ → Instance → Service S.Checkpoint Call (List ℕ) (List ℕ)
+on-bytes sheet i = record {
+  -- "A search opens with 273 zeros"
+  opening = replicate 273 0;
+  budget = λ c. lent c .allowance;
+  admitted = lengths-right i;
+  code = λ c x. search-code sheet (lent-note c x) (lent c .allowance) (lent c .steps) (lent c .plan);
+  next = own-note sheet;
+  steps = λ c x. steps-in (steps-after sheet (lent-note c x) (lent c .allowance) (lent c .steps) (lent c .plan));
+  plan = λ c x. plan-after sheet (lent-note c x) (lent c .allowance) (lent c .steps) (lent c .plan);
+  hold = note-bytes;
+  plan-of = plan-bytes i;
+  -- "and the plan bytes only when placed"
+  no-plan = λ c. lent c .plan;
+}

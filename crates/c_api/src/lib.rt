@@ -4,6 +4,7 @@ ghost use mathlib.Core.Bool.{true};
 ghost use Prim.Native.Nat.{_+_, _*_, _≤_};
 ghost use lib.ListN.{length};
 ghost use Rattle.refusal.specs.Numbers.{number-of};
+ghost use Rattle.records.specs.Bounds.{Bytes};
 ghost use Rattle.instance.specs.Valid.{valid};
 ghost use Rattle.packing.specs.Check.{check-number};
 ghost use Rattle.search.specs.Results.{answer-number};
@@ -22,6 +23,7 @@ use search::SearchResult;
 #[no_mangle]
 pub extern "C" fn hallplan_check(sheet: &[u8], plan: &[u8]) -> u32
     ensures { λ r. ⌜ r ≡ check-code (now (sheet .entry)) (now (plan .entry)) ⌝ }
+    ensures { λ _. ⌜ Bytes (now (sheet .entry)) ⌝ }
 {
     let read = Instance::read(sheet);
     let answer = read.answer;
@@ -45,6 +47,7 @@ pub extern "C" fn hallplan_search(
     ensures { λ _. ⌜ now (note .exit) ≡ note-after (now (sheet .entry)) (now (note .entry)) allowance (now (steps .entry)) (now (plan .entry)) ⌝ }
     ensures { λ _. ⌜ now (steps .exit) ≡ steps-after (now (sheet .entry)) (now (note .entry)) allowance (now (steps .entry)) (now (plan .entry)) ⌝ }
     ensures { λ _. ⌜ now (plan .exit) ≡ plan-after (now (sheet .entry)) (now (note .entry)) allowance (now (steps .entry)) (now (plan .entry)) ⌝ }
+    ensures { λ _. ⌜ Bytes (now (sheet .entry)) × Bytes (now (note .entry)) ⌝ }
 {
     let read = Instance::read(sheet);
     let answer = read.answer;

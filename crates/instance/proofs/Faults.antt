@@ -10,7 +10,6 @@ use lib.ListN.{length, getD, drop, length-drop}
 use lib.Seq.{drop-drop, getD-drop}
 use borrow.Author.Tests.{ltb-true, leb-true, eqb-true, not-true}
 use Rattle.refusal.specs.declared.Refusal.{Refusal}
-use Rattle.refusal.specs.declared.Refusal.the-variants.{EndsEarly, UnknownBit, WrittenDefault, BadCount, BadItem, NotRising, TrailingBytes}
 use Rattle.records.specs.declared.Size.{Size}
 use Rattle.records.specs.declared.Item.{Item}
 use Rattle.records.specs.declared.Precedence.{Precedence}
@@ -21,7 +20,7 @@ use Rattle.records.specs.Reading.{Read, got, refused, after, unless, byte, word
 use Rattle.records.proofs.Cases.{after-got, unless-got}
 use Rattle.instance.specs.declared.Instance.{Instance}
 use Rattle.instance.specs.Decode.{instance-of, item-list, precedence-list, ended, from-yard, from-precedences, from-items, decode}
-use Rattle.instance.specs.Faults.{precedence-at, word-at, many, items-on, Fault}
+use Rattle.instance.specs.Faults.{precedence-at, word-at, items-on, Fault}
 
 module _ (s : List ℕ) where
   -- a place on the sheet after its first byte, and the bytes from there on
@@ -43,7 +42,7 @@ module _ (s : List ℕ) where
   right-unless true e r f g = f refl
   right-unless false e r f g = g refl
 
-  here-length : {at : ℕ} {rest : List ℕ} → Here at rest → length rest ≡ length s - at
+  pub here-length : {at : ℕ} {rest : List ℕ} → Here at rest → length rest ≡ length s - at
   here-length {at} η = ap length (η .same) ∙ length-drop at s
 
   -- one byte
@@ -221,3 +220,7 @@ right-decode (map ∷ rest) =
 -- a refused sheet has the fault of its refusal, at its place
 pub refused-fault : (s : List ℕ) (e : Refusal) → decode s ≡ refused e → Fault s e
 refused-fault s e h = subst (Right s) h (right-decode s)
+
+-- a sheet that is read is read from its bytes, at a place on it
+pub got-here : (s : List ℕ) {i : Instance} {at : ℕ} {rest : List ℕ} → decode s ≡ got i at rest → Here s at rest
+got-here s h = subst (Right s) h (right-decode s)

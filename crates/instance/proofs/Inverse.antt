@@ -1,33 +1,34 @@
--- Reading and writing undo one another (demand 2: "A written sheet reads back as the same sheet; bytes that read as a sheet are written again as those bytes").
+-- Decoding and encoding undo one another.
 use mathlib.Core.Path.{_≡_, refl, sym, ap, _∙_, subst}
-use mathlib.Core.Bool.{Bool, true, false, not, _&&_}
-use mathlib.Core.List.{List, [], _∷_, _++_, append-assoc, append-nil}
-use Prim.Native.Nat.{ℕ, zero, suc, _+_, _-_, _*_, _/_, _%_, _≤_, _<_}
+use mathlib.Core.Bool.{Bool, true, false, not}
+use mathlib.Core.List.{List, [], _∷_, _++_, append-nil}
+use Prim.Native.Nat.{ℕ, suc, _+_, _*_, _/_, _%_, _≤_}
 use native.Mathlib.Omega.{arith}
 use native.Mathlib.Nat.{add-zero}
-use lib.Dec.{eqb, leb, ltb}
-use lib.ListN.{length, take, drop, replicate, length-append}
-use lib.Seq.{take-append-seam, length-take-le}
-use borrow.Author.Tests.{le-ltb, ltb-false, ne-eqb, eq-eqb, le-leb}
+use lib.Dec.{eqb, ltb}
+use lib.ListN.{length, length-append}
+use lib.Seq.{take-append-seam}
+use borrow.Author.Tests.{le-ltb, ltb-false, ne-eqb, le-leb}
 use Rattle.refusal.specs.declared.Refusal.the-variants.{UnknownBit}
 use Rattle.records.specs.declared.Size.{Size}
 use Rattle.records.specs.declared.Item.{Item}
 use Rattle.records.specs.declared.Precedence.{Precedence}
 use Rattle.records.specs.declared.Previous.the-variants.{Nothing}
 use Rattle.records.specs.Bounds.{Bytes}
-use Rattle.records.specs.Sizes.{positive, all-have-size, no-item, no-precedence}
+use Rattle.records.specs.Sizes.{positive, all-have-size}
 use Rattle.records.specs.Precedences.{all-stand}
 use Rattle.records.specs.Bytes.{flag, field-bytes, size-flags, size-bytes, row-bytes, items-bytes, precedences-bytes}
-use Rattle.records.specs.Reading.{Read, got, refused, after, unless, byte, stands, field, size, items, count, precedences}
+use Rattle.records.specs.Reading.{got, after, byte, stands, field, size, count}
 use Rattle.records.proofs.Back.{Reads, flag-bit, flag-small, field-back, size-back, items-back, precedences-back, count-back}
 use Rattle.records.proofs.Cases.{never-both, after-got, unless-got, byte-got}
 use Rattle.records.proofs.Counts.{counted}
-use Rattle.records.proofs.Stood.{bytes-after, bit-flag, Fielded, field-got, Sized, size-got, ItemsRead, items-got, PrecedencesRead, precedences-got}
+use Rattle.records.proofs.Stood.{bytes-after, bit-flag, Fielded, field-got, Sized, size-got, items-got, precedences-got}
 use Rattle.instance.specs.declared.Instance.{Instance}
 use Rattle.instance.specs.Valid.{valid, items-of, precedences-of}
-use Rattle.instance.specs.Decode.{filled, instance-of, item-list, precedence-list, ended, from-yard, from-precedences, from-items, decode}
+use Rattle.instance.specs.Decode.{instance-of, item-list, precedence-list, ended, from-yard, from-precedences, from-items, decode}
 use Rattle.instance.specs.Encode.{map-byte, counted-bytes, encode}
-use Rattle.instance.proofs.Sheets.{counted-some, valid-says}
+use Rattle.instance.specs.Reads.{Full}
+use Rattle.instance.proofs.Sheets.{counted-some, valid-says, items-counted, precedences-counted}
 
 -- a counted row was read: its bit, its bytes, how many
 pub record Listed (standing : Bool) (limit : ℕ) (rest : List ℕ) (n : ℕ) (row rest′ : List ℕ) : Type 0 where
@@ -148,11 +149,11 @@ taken-apart s {i} {at} {rest} b h =
 
 -- the entries of an instance that is made of parts
 module _ (container : Size) (is : List Item) (os : List Precedence) (yard : ℕ) where
-  made-items : items-of (instance-of container is os yard) ≡ is
+  pub made-items : items-of (instance-of container is os yard) ≡ is
   unfolding instance-of
   made-items = take-append-seam is _
 
-  made-precedences : precedences-of (instance-of container is os yard) ≡ os
+  pub made-precedences : precedences-of (instance-of container is os yard) ≡ os
   unfolding instance-of
   made-precedences = take-append-seam os _
 
@@ -200,12 +201,16 @@ module _ (s : List ℕ) (container : Size) (is : List Item) (os : List Precedenc
   parts-valid : valid (instance-of container is os yard) ≡ true
   parts-valid = made-valid container is os yard (π .sized .has-size) (π .items-there .few) (π .have-size) (π .precedences-there .few) (π .stand)
 
--- "bytes that read as a sheet are written again as those bytes", and the sheet is an instance
-pub read-written : (s : List ℕ) {i : Instance} {at : ℕ} {rest : List ℕ} → Bytes s → decode s ≡ got i at rest → (encode i ≡ s) × (valid i ≡ true)
-read-written s {i} b h =
-    let t = taken-apart s b h in
-    subst (λ (j : Instance). (encode j ≡ s) × (valid j ≡ true)) (t .made)
-    (parts-encode s (t .container) (t .is) (t .os) (t .yard) (t .parts), parts-valid s (t .container) (t .is) (t .os) (t .yard) (t .parts))
+-- the bytes of what was read are the bytes that were read, and what was read is an instance
+module _ (s : List ℕ) {i : Instance} {at : ℕ} {rest : List ℕ} (bytes : Bytes s) (h : decode s ≡ got i at rest) where
+  taken : Taken s i
+  taken = taken-apart s bytes h
+
+  pub decode-encodes : encode i ≡ s
+  decode-encodes = let t = taken in rw (← (t .made)) (parts-encode s (t .container) (t .is) (t .os) (t .yard) (t .parts))
+
+  pub read-valid : valid i ≡ true
+  read-valid = let t = taken in rw (← (t .made)) (parts-valid s (t .container) (t .is) (t .os) (t .yard) (t .parts))
 
 -- What was written reads back.
 
@@ -231,11 +236,6 @@ module _ (map : ℕ) where
       let k = precedences-back n Nothing (o ∷ os) h (at + 1) rest in
       let p : at + 1 + length (precedences-bytes (o ∷ os)) ≡ at + suc (length (precedences-bytes (o ∷ os))) = omega arith in
       rw (s, c, k, p)
-
--- an array with its room full
-pub record Arrays (i : Instance) : Type 0 where
-  pub items-room : length (i .items) ≡ 10
-  pub precedences-room : length (i .precedences) ≡ 90
 
 -- the instance with its entries past the counts as 0
 abbrev pub blanked : Instance → Instance
@@ -295,13 +295,13 @@ encoded : (i : Instance) → length (items-of i) ≡ i .«item_count» → lengt
 unfolding encode
 encoded i n m = made-encode (i .container) (items-of i) (precedences-of i) (i .«yard_number») ∙ rw (n, m)
 
--- "A written sheet reads back as the same sheet": an instance's bytes read as that instance, with the entries past its counts as 0
-pub written-read : (i : Instance) → valid i ≡ true → Arrays i → decode (encode i) ≡ got (blanked i) (length (encode i)) []
-written-read i h α =
+-- the bytes of an instance read as that instance, with the entries past its counts as 0
+pub encode-decodes : (i : Instance) → valid i ≡ true → Full i → decode (encode i) ≡ got (blanked i) (length (encode i)) []
+encode-decodes i h full =
     let σ = valid-says i h in
-    let n : length (items-of i) ≡ i .«item_count» = length-take-le (i .«item_count») (i .items) (omega (arith, σ .items-few, α .items-room)) in
-    let m : length (precedences-of i) ≡ i .«precedence_count» = length-take-le (i .«precedence_count») (i .precedences) (omega (arith, σ .precedences-few, α .precedences-room)) in
-    let b = parts-back (i .container) (items-of i) (precedences-of i) (i .«yard_number») (σ .container-has-size) (omega (arith, σ .items-few)) (σ .items-have-size)
-    (omega (arith, σ .precedences-few)) (rw n (σ .precedences-stand)) in
-    let e : encode i ≡ encode (blanked i) = sym (encoded i n m) in
-    rw e b
+    let n = items-counted i h full in
+    let m = precedences-counted i h full in
+    let back =
+    parts-back (i .container) (items-of i) (precedences-of i) (i .«yard_number») (σ .container-has-size)
+    (omega (arith, σ .items-few)) (σ .items-have-size) (omega (arith, σ .precedences-few)) (rw n (σ .precedences-stand)) in
+    rw (← (encoded i n m)) back

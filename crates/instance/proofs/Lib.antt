@@ -1,6 +1,10 @@
+pub mod Arrays
 pub mod Drafts
 pub mod Sheets
 pub mod Inverse
 pub mod Lookup
 pub mod Faults
 pub mod Longest
+pub mod Readings
+pub mod Refusing
+pub mod RoundTrips

@@ -5,7 +5,6 @@ use mathlib.Core.List.{List, [], _∷_, _++_}
 use Prim.Native.Nat.{ℕ, zero, suc, _+_, _-_, _*_, _/_, _%_, _≤_}
 use native.Mathlib.Omega.{arith}
 use lib.ListN.{length, replicate, length-append}
-use lib.Seq.{length-take-le}
 use lib.Dec.{eqb}
 use Rattle.records.specs.declared.Size.{Size}
 use Rattle.records.specs.declared.Item.{Item}
@@ -18,8 +17,8 @@ use Rattle.instance.specs.declared.Instance.{Instance}
 use Rattle.instance.specs.Valid.{valid, items-of, precedences-of}
 use Rattle.instance.specs.Decode.{instance-of}
 use Rattle.instance.specs.Encode.{counted-bytes, encode}
-use Rattle.instance.proofs.Sheets.{valid-says, encode-length}
-use Rattle.instance.proofs.Inverse.{Arrays}
+use Rattle.instance.specs.Reads.{Full}
+use Rattle.instance.proofs.Sheets.{valid-says, items-counted, precedences-counted, encode-length}
 
 field-most : (default v : ℕ) → length (field-bytes default v) ≤ 2
 unfolding field-bytes
@@ -42,11 +41,11 @@ counted-most zero row = omega arith
 counted-most (suc n) row = omega arith
 
 -- no instance's sheet is longer
-pub sheet-most : (i : Instance) → valid i ≡ true → Arrays i → length (encode i) ≤ 261
-sheet-most i h α =
+pub sheet-most : (i : Instance) → valid i ≡ true → Full i → length (encode i) ≤ 261
+sheet-most i h full =
     let σ = valid-says i h in
-    let n : length (items-of i) ≡ i .«item_count» = length-take-le (i .«item_count») (i .items) (omega (arith, σ .items-few, α .items-room)) in
-    let m : length (precedences-of i) ≡ i .«precedence_count» = length-take-le (i .«precedence_count») (i .precedences) (omega (arith, σ .precedences-few, α .precedences-room)) in
+    let n = items-counted i h full in
+    let m = precedences-counted i h full in
     let a = items-most (items-of i) in
     let b = precedences-length (precedences-of i) in
     let c = counted-most (i .«item_count») (items-bytes (items-of i)) in

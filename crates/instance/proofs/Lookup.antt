@@ -1,29 +1,27 @@
 -- Laws of an item's record: the answer of a reading taken apart, and that the record lies within the sheet.
-use mathlib.Core.Path.{_≡_, refl, sym, ap, _∙_, subst}
-use mathlib.Core.Bool.{true, false, cond}
-use mathlib.Core.List.{List, [], _∷_, _++_}
-use Prim.Native.Nat.{ℕ, zero, suc, _+_, _-_, _≤_, _<_}
+use mathlib.Core.Path.{_≡_, sym, ap}
+use mathlib.Core.List.{List, []}
+use Prim.Native.Nat.{ℕ, _+_, _≤_, _<_}
 use native.Mathlib.Omega.{arith}
-use lib.Dec.{ltb}
-use lib.ListN.{length, getD, take, drop, length-append, length-replicate}
-use lib.Seq.{drop-append-add, take-append-seam}
+use lib.ListN.{length, take, drop, length-append, length-replicate}
 use borrow.Author.Tests.{lt-ltb, le-ltb}
 use Rattle.refusal.specs.declared.Refusal.{Refusal}
 use Rattle.refusal.specs.Numbers.{number-of, place-of}
 use Rattle.records.specs.Bounds.{Bytes}
 use Rattle.records.specs.Sizes.{no-item}
-use Rattle.records.specs.Bytes.{field-bytes, size-bytes, item-bytes, items-bytes, precedences-bytes}
+use Rattle.records.specs.Bytes.{item-bytes, items-bytes}
 use Rattle.records.specs.Reading.{Read, got, refused}
 use Rattle.records.proofs.Writers.{row-room}
 use Rattle.instance.specs.declared.Instance.{Instance}
 use Rattle.instance.specs.declared.ReadResult.{ReadResult}
 use Rattle.instance.specs.declared.ReadAnswer.the-variants as A
-use Rattle.instance.specs.Valid.{valid, items-of, precedences-of}
-use Rattle.instance.specs.Decode.{filled, instance-of, decode, read-result}
-use Rattle.instance.specs.Encode.{counted-bytes, encode}
-use Rattle.instance.specs.Record.{record-start, record-length, record-of, item-record, item-record-code, code}
+use Rattle.instance.specs.Valid.{items-of}
+use Rattle.instance.specs.Decode.{instance-of, decode, read-result}
+use Rattle.instance.specs.Encode.{encode}
+use Rattle.instance.specs.Reads.{Full}
+use Rattle.instance.specs.Record.{record-start, record-length, item-record, item-record-code, code}
 use Rattle.instance.proofs.Sheets.{valid-says, counted-some, encode-length}
-use Rattle.instance.proofs.Inverse.{taken-apart, read-written}
+use Rattle.instance.proofs.Inverse.{taken-apart, decode-encodes, read-valid}
 
 -- a reading that was answered "read"
 pub record WasRead (r : Read Instance) (i : Instance) : Type 0 where
@@ -40,13 +38,21 @@ was-refused (got i at rest) result q h = let z : _≡_ {A = ℕ} 0 1 = cc in abs
 was-refused (refused e) result q h = cc
 
 -- the arrays of an instance that was read are full
-pub made-room : (s : List ℕ) {i : Instance} {at : ℕ} {rest : List ℕ} → Bytes s → decode s ≡ got i at rest → length (i .items) ≡ 10
-unfolding instance-of
-made-room s {i} b h =
-    let t = taken-apart s b h in
-    let few = t .parts .items-there .few in
-    let l : length (instance-of (t .container) (t .is) (t .os) (t .yard) .items) ≡ 10 = simp (length-append, length-replicate) (omega arith) in
-    subst (λ (j : Instance). length (j .items) ≡ 10) (t .made) l
+module _ (s : List ℕ) {i : Instance} {at : ℕ} {rest : List ℕ} (bytes : Bytes s) (h : decode s ≡ got i at rest) where
+  pub made-full : Full i
+  unfolding instance-of
+  made-full =
+      let t = taken-apart s bytes h in
+      let few = t .parts .items-there .few in
+      let few′ = t .parts .precedences-there .few in
+      rw (← (t .made))
+      (record {
+        items-room = simp (length-append, length-replicate) (omega arith);
+        precedences-room = simp (length-append, length-replicate) (omega arith);
+      })
+
+  pub made-room : length (i .items) ≡ 10
+  made-room = made-full .items-room
 
 -- the record of an item lies within the sheet
 pub record Inside (s : List ℕ) (i : Instance) (k : ℕ) : Type 0 where
@@ -56,10 +62,9 @@ pub record Inside (s : List ℕ) (i : Instance) (k : ℕ) : Type 0 where
 pub record-inside : (s : List ℕ) {i : Instance} {at : ℕ} {rest : List ℕ} → Bytes s → decode s ≡ got i at rest → (k : ℕ) → k < i .«item_count» → Inside s i k
 unfolding record-start record-length
 record-inside s {i} b h k l =
-    let (e, v) = read-written s b h in
-    let σ = valid-says i v in
+    let σ = valid-says i (read-valid s b h) in
     let some : i .«item_count» ≡ 0 → ⊥ = λ z. omega arith in
-    let n : length s ≡ length (encode i) = ap length (sym e) in
+    let n : length s ≡ length (encode i) = ap length (sym (decode-encodes s b h)) in
     let m = rw (counted-some (i .«item_count») (items-bytes (items-of i)) some) at (encode-length i) in
     let room = row-room item-bytes (i .items) k (i .«item_count») no-item l (omega (arith, σ .items-few, made-room s b h)) in
     record { few = omega (arith, σ .items-few); within = omega arith }

@@ -1,5 +1,5 @@
 -- Laws of a sheet's bytes, part by part, and of what validity says.
-use mathlib.Core.Path.{_≡_, refl, sym, ap, _∙_}
+use mathlib.Core.Path.{_≡_, refl, ap, _∙_}
 use mathlib.Core.Bool.{true}
 use mathlib.Core.List.{List, [], _∷_, _++_, append-assoc}
 use Prim.Native.Nat.{ℕ, zero, suc, _+_, _*_, _≤_}
@@ -19,6 +19,7 @@ use Rattle.records.proofs.Writers.{precedences-length, sets-append}
 use Rattle.instance.specs.declared.Instance.{Instance}
 use Rattle.instance.specs.Valid.{valid, items-of, precedences-of}
 use Rattle.instance.specs.Encode.{map-byte, counted-bytes, encode}
+use Rattle.instance.specs.Reads.{Full}
 
 -- what validity says, part by part
 pub record Says (i : Instance) : Type 0 where
@@ -36,6 +37,18 @@ valid-says i h =
     let (e, f) = both-true (positive (i .container)) _ d in
     let (g, k) = both-true (all-have-size (items-of i)) _ f in
     record { items-few = leb-true _ _ a; precedences-few = leb-true _ _ c; container-has-size = e; items-have-size = g; precedences-stand = k }
+
+-- a valid value of the type has as many entries as it counts
+module _ (i : Instance) (h : valid i ≡ true) (full : Full i) where
+  pub items-counted : length (items-of i) ≡ i .«item_count»
+  items-counted =
+      let few = valid-says i h .items-few in
+      length-take-le (i .«item_count») (i .items) (omega (arith, full .items-room))
+
+  pub precedences-counted : length (precedences-of i) ≡ i .«precedence_count»
+  precedences-counted =
+      let few = valid-says i h .precedences-few in
+      length-take-le (i .«precedence_count») (i .precedences) (omega (arith, full .precedences-room))
 
 pub counted-none : (n : ℕ) (row : List ℕ) → n ≡ 0 → counted-bytes n row ≡ []
 counted-none zero row h = refl

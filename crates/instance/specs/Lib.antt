@@ -5,3 +5,5 @@ pub mod Decode
 pub mod Encode
 pub mod Record
 pub mod Faults
+pub mod Reads
+pub mod Refusing

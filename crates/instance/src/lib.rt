@@ -5,6 +5,7 @@ ghost use Rattle.instance.specs.Values.{opening-checkpoint, origin-packi
 ghost use lib.ListN.{length};
 ghost use Rattle.instance.specs.Decode.{decode, read-result};
 ghost use Rattle.instance.specs.Encode.{write-answer, written-room};
+ghost use Rattle.instance.specs.Reads.{Full};
 use records::Item;
 use records::Precedence;
 use records::Size;
@@ -103,6 +104,7 @@ impl Instance {
     pub fn write(self, out: &mut [u8]) -> WriteAnswer
         ensures { λ r. ⌜ r ≡ write-answer self (length (now (out .entry))) ⌝ }
         ensures { λ _. ⌜ now (out .exit) ≡ written-room self (now (out .entry)) ⌝ }
+        ensures { λ _. ⌜ Full self ⌝ }
     {
         if !self.is_valid() {
             return WriteAnswer::Refused(Refusal::InvalidInstance);

@@ -21,9 +21,12 @@ pub mod Packed
 pub mod Fork
 pub mod Weight
 pub mod Path
+pub mod Removals
 pub mod Asks
 pub mod Obeys
+pub mod Machine
 pub mod Run
 pub mod Calls
+pub mod Lists
 pub mod Search
 pub mod Examples

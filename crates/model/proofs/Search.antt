@@ -11,12 +11,12 @@ use Rattle.model.specs.Branching.{Branch, inconsistent, packed, path-dom
 use Rattle.model.specs.Admits.{Sound, Admits}
 use Rattle.model.specs.Weight.{weight}
 use Rattle.model.specs.Search.{conflict, complete, fork, opening, path-count, Laws}
-use Rattle.model.specs.Run.{outlook, look, path-limit, step-count}
+use Rattle.model.specs.Run.{outlook, look, machine, path-limit, step-count}
 use Rattle.model.proofs.Below.{all-at}
 use Rattle.model.proofs.Weight.{weight-bound}
 use Rattle.model.proofs.Path.{path-fork, path-weight, path-split, path-consistent, root-admits}
 use Rattle.model.proofs.Run.{Ends, ends}
-use Rattle.model.proofs.Calls.{taken-is}
+use Rattle.model.proofs.Machine.{taken-is}
 
 -- what the tests say where a path shows this or that
 shows-conflict : (i c : Bool) → outlook i c ≡ conflict → i ≡ true
@@ -90,4 +90,4 @@ module _ (p : Problem) (σ : Sound p) where
 
   pub count-is : step-count p ≡ ended .count
   unfolding step-count
-  count-is = omega (arith, taken-is (look p) (path-count (path-limit p)) (ended .count) opening (ended .counts), ended .bounded)
+  count-is = omega (arith, taken-is (machine p) (path-count (path-limit p)) (ended .count) opening (ended .counts), ended .bounded)

@@ -2,7 +2,6 @@
 use mathlib.Core.Bool.{true}
 use mathlib.Core.List.{List}
 use mathlib.Core.Logic.{_↔_, _⊎_, inl, inr}
-use mathlib.Core.Option.{Option, none, some}
 use mathlib.Core.Path.{_≡_, refl, sym, _∙_, subst}
 use Prim.Native.Nat.{ℕ, _+_, _≤_, _<_}
 use native.Mathlib.Omega.{arith}
@@ -10,18 +9,24 @@ use lib.ListN.{length}
 use Rattle.model.specs.Problem.{Problem, Positions, Feasible, feasible}
 use Rattle.model.specs.Domains.{Domains}
 use Rattle.model.specs.Propagate.{propagate}
-use Rattle.model.specs.Branching.{Branch, plan}
+use Rattle.model.specs.Branching.{Branch, path-domains, plan}
 use Rattle.model.specs.Order.{WellFormed, Between, AtRest}
+use Rattle.model.specs.Removals.{Removed, path-removals}
 use Rattle.model.specs.Admits.{Sound, Admits}
-use Rattle.model.specs.Search.{complete, fork, Checkpoint, open-at, infeasible, packed-at, steps, opening, Finished, Count, Forking, Follows, follows, path-count}
-use Rattle.model.specs.Calls.{taken, budget-spent, packing, answer, Reply, refused, answered, Serves, Claim, Refuses, RefusedClaim}
-use Rattle.model.specs.Run.{look, search, path-limit, run, step-count}
+use Rattle.model.specs.Machine.{steps, taken, Finished, Count}
+use Rattle.model.specs.Search.{complete, fork, Checkpoint, open-at, infeasible, packed-at, opening, Forking, Follows, follows, path-count}
+use Rattle.model.specs.Calls.{budget-spent, packing, answer}
+use Rattle.model.specs.Lists.{Service, Serves, Claim}
+use Rattle.model.specs.Run.{look, machine, plan-at, search, path-limit, run, step-count}
 use Rattle.model.proofs.Feasible.{feasible-so}
 use Rattle.model.proofs.Propagate.{propagate-at-rest, between-rest}
 use Rattle.model.proofs.Sound.{propagate-admits}
 use Rattle.model.proofs.Path.{plan-feasible}
-use Rattle.model.proofs.Run.{steps-add, finished-stays, past-count, count-unique, steps-follow, follows-so, path-bound, fork-bound}
-use Rattle.model.proofs.Calls.{taken-add, spent-takes-all, finished-takes-none, claim, refused-claim}
+use Rattle.model.proofs.Removals.{any-order, one-propagation}
+use Rattle.model.proofs.Machine.{steps-add, taken-add, finished-stays, finished-takes-none, past-count, count-unique}
+use Rattle.model.proofs.Run.{follows-invariant, steps-follow, follows-so, path-bound, fork-bound}
+use Rattle.model.proofs.Calls.{spent-takes-all}
+use Rattle.model.proofs.Lists.{claim}
 use Rattle.model.proofs.Search.{look-complete, FeasiblePacking, search-laws, limit-270, root-weight, ended, count-is}
 
 -- Document 01, "Fit"
@@ -47,6 +52,15 @@ rules-rest p σ = propagate-at-rest p (σ .limited)
 pub one-rest : (p : Problem) (k : Domains) → WellFormed k → (j : Domains) → Between p k j → AtRest p j → j ≡ propagate p k
 one-rest = between-rest
 
+-- in particular whoever removes one relation at a time, each asked for by a rule, in any order
+pub any-rest : (p : Problem) → Sound p → (k : Domains) → WellFormed k → (j : Domains) → Removed p k j → AtRest p j → j ≡ propagate p k
+any-rest p σ k w = any-order p (σ .limited) k w
+
+-- "A row stands for the opening knowledge with its turns struck and everything above applied": one propagation of all branches gives the
+-- domains of a path, though the search propagates after each
+pub path-at-once : (p : Problem) (path : List Branch) → propagate p (path-removals p path) ≡ path-domains p path
+path-at-once = one-propagation
+
 -- "The search"
 
 -- how the run ends: "none, or placed with its plan"
@@ -66,18 +80,18 @@ module _ (p : Problem) (σ : Sound p) where
   path-270 path f = omega (arith, path-most path f, limit-270 p (σ .limited))
 
   -- "The number of these steps is finite; it is the sheet's step count", and there is no other
-  pub counted : Count (look p) opening (step-count p)
+  pub counted : Count (machine p) opening (step-count p)
   counted = rw (count-is p σ) (ended p σ .counts)
 
-  pub one-count : (c : ℕ) → Count (look p) opening c → c ≡ step-count p
-  one-count c k = count-unique (look p) opening c (step-count p) k counted
+  pub one-count : (c : ℕ) → Count (machine p) opening c → c ≡ step-count p
+  one-count c k = count-unique (machine p) opening c (step-count p) k counted
 
   -- "takes steps from the opening note until the note is finished": the run is where the search stands after so many steps, or more
-  pub run-after : (i : ℕ) → step-count p ≤ i → steps (look p) i opening ≡ run p
+  pub run-after : (i : ℕ) → step-count p ≤ i → steps (machine p) i opening ≡ run p
   unfolding run
   run-after i h =
-      past-count (look p) opening (step-count p) i counted h
-      ∙ sym (past-count (look p) opening (step-count p) (path-count (path-limit p)) counted (omega (arith, count-is p σ, ended p σ .bounded)))
+      past-count (machine p) opening (step-count p) i counted h
+      ∙ sym (past-count (machine p) opening (step-count p) (path-count (path-limit p)) counted (omega (arith, count-is p σ, ended p σ .bounded)))
 
   -- a packed checkpoint that follows its problem has a feasible plan, whether the run comes to it or not
   pub packed-feasible : (path : List Branch) → Follows (look p) (packed-at path) → Feasible p (plan p path)
@@ -87,11 +101,11 @@ module _ (p : Problem) (σ : Sound p) where
   pub run-ends : RunEnds p
   run-ends = go (ended p σ .end)
     where
-      at-end : run p ≡ steps (look p) (ended p σ .count) opening
+      at-end : run p ≡ steps (machine p) (ended p σ .count) opening
       at-end = sym (run-after (ended p σ .count) (omega (arith, count-is p σ)))
 
-      go : ((steps (look p) (ended p σ .count) opening ≡ infeasible) × (FeasiblePacking p → ⊥))
-          ⊎ ((path : List Branch) × (steps (look p) (ended p σ .count) opening ≡ packed-at path) × (Forking (look p) path × (look p path ≡ complete)))
+      go : ((steps (machine p) (ended p σ .count) opening ≡ infeasible) × (FeasiblePacking p → ⊥))
+          ⊎ ((path : List Branch) × (steps (machine p) (ended p σ .count) opening ≡ packed-at path) × (Forking (look p) path × (look p path ≡ complete)))
           → RunEnds p
       go (inl (e, f)) = ends-infeasible (at-end ∙ e) (λ q h. f (q, h))
       go (inr (path, e, f)) = ends-packed path (at-end ∙ e) (packed-feasible path f)
@@ -106,51 +120,38 @@ module _ (p : Problem) (σ : Sound p) where
 
   -- whatever call answers with a plan, it fits
   pub answer-feasible : (budget : ℕ) (κ : Checkpoint) → Follows (look p) κ → (q : Positions) → search p budget κ .answer ≡ packing q → Feasible p q
-  answer-feasible budget κ f q e = go (steps (look p) budget κ) (steps-follow (look p) budget κ f) e
+  answer-feasible budget κ f q e = go (steps (machine p) budget κ) (steps-follow (look p) budget κ f) e
     where
-      go : (μ : Checkpoint) → Follows (look p) μ → answer (plan p) μ ≡ packing q → Feasible p q
+      go : (μ : Checkpoint) → Follows (look p) μ → answer (machine p) (plan-at p) μ ≡ packing q → Feasible p q
       go (open-at path) f e = let z : _≡_ {A = ℕ} 0 1 = cc in absurd (omega arith)
       go infeasible f e = let z : _≡_ {A = ℕ} 0 1 = cc in absurd (omega arith)
       go (packed-at path) f e = let z : plan p path ≡ q = cc in subst (Feasible p) z (packed-feasible path f)
 
   -- the claim about a whole list of calls, for whoever serves each call by the search: "After every list on a sheet that isn't refused"
-  pub every-list : {C X E P : Type 0} (plan-of : List Branch → P) (hold : Checkpoint → X) (budget : C → Option ℕ) (exec : C → X → X × Reply E P)
-      → Serves (look p) plan-of hold budget exec → (cs : List C) → Claim (look p) plan-of hold budget exec (step-count p) cs
-  every-list plan-of hold budget exec υ cs = claim (look p) plan-of hold budget exec (step-count p) counted υ cs
-
--- "on a refused sheet every call is refused, and the note stays the opening one"
-pub every-refused-list : {C X E P : Type 0} (e : E) (x : X) (exec : C → X → X × Reply E P) → Refuses e x exec → (cs : List C) → RefusedClaim e x exec cs
-every-refused-list = refused-claim
+  pub every-list : {C X P : Type 0} (w : Service Checkpoint C X P) → Serves (machine p) w (Follows (look p)) → (calls : List C) → Claim (machine p) w (step-count p) calls
+  every-list w υ = claim (machine p) (Follows (look p)) (follows-invariant (look p)) w υ (step-count p) counted
 
 module _ (p : Problem) where
   -- "spent has taken exactly the allowance"
   pub spent-exactly : (budget : ℕ) (κ : Checkpoint) → search p budget κ .answer ≡ budget-spent → search p budget κ .steps ≡ budget
-  spent-exactly = spent-takes-all (look p) (plan p)
+  spent-exactly = spent-takes-all (machine p) (plan-at p)
 
   -- "A finished note repeats its answer with 0 steps"
-  pub finished-repeats : (budget : ℕ) (κ : Checkpoint) → Finished κ → (search p budget κ .checkpoint ≡ κ) × (search p budget κ .steps ≡ 0)
-  finished-repeats budget κ f = (finished-stays (look p) budget κ f, finished-takes-none (look p) budget κ f)
+  pub finished-repeats : (budget : ℕ) (κ : Checkpoint) → Finished (machine p) κ
+      → search p budget κ ≡ record { answer = answer (machine p) (plan-at p) κ; steps = 0; checkpoint = κ }
+  finished-repeats budget κ f = rw (finished-stays (machine p) budget κ f, finished-takes-none (machine p) budget κ f)
 
   -- i steps and then j are i + j steps
-  pub steps-compose : (i j : ℕ) (κ : Checkpoint) → steps (look p) (i + j) κ ≡ steps (look p) j (steps (look p) i κ)
-  steps-compose = steps-add (look p)
+  pub steps-compose : (i j : ℕ) (κ : Checkpoint) → steps (machine p) (i + j) κ ≡ steps (machine p) j (steps (machine p) i κ)
+  steps-compose = steps-add (machine p)
 
-  pub steps-add-up : (i j : ℕ) (κ : Checkpoint) → taken (look p) (i + j) κ ≡ taken (look p) i κ + taken (look p) j (steps (look p) i κ)
-  steps-add-up = taken-add (look p)
+  pub steps-add-up : (i j : ℕ) (κ : Checkpoint) → taken (machine p) (i + j) κ ≡ taken (machine p) i κ + taken (machine p) j (steps (machine p) i κ)
+  steps-add-up = taken-add (machine p)
 
   -- what the search comes to from a checkpoint that follows its problem follows it too; the opening does
-  pub reached-follows : (i : ℕ) (κ : Checkpoint) → Follows (look p) κ → Follows (look p) (steps (look p) i κ)
+  pub reached-follows : (i : ℕ) (κ : Checkpoint) → Follows (look p) κ → Follows (look p) (steps (machine p) i κ)
   reached-follows = steps-follow (look p)
 
   -- the test of a checkpoint says yes exactly when it follows
   pub follows-exactly : (κ : Checkpoint) → (follows (look p) κ ≡ true) ↔ Follows (look p) κ
   follows-exactly = follows-so (look p)
-
--- The written search itself serves calls, each with its budget or refused
-pub written-search : (p : Problem) → Option ℕ → Checkpoint → Checkpoint × Reply (Unit {0}) Positions
-written-search p none κ = (κ, refused tt)
-written-search p (some i) κ = let r = search p i κ in (r .checkpoint, answered (r .answer) (r .steps))
-
-pub written-serves : (p : Problem) → Serves (look p) (plan p) (λ κ. κ) (λ c. c) (written-search p)
-unfolding written-search
-written-serves p = record { refuses = λ c κ f e. (tt, (rw e refl)); serves = λ c i κ f e. rw e refl }

@@ -7,10 +7,13 @@ pub mod Chain
 pub mod Propagate
 pub mod Branching
 pub mod Order
+pub mod Removals
 pub mod Obeys
 pub mod Admits
 pub mod Weight
+pub mod Machine
 pub mod Search
 pub mod Calls
+pub mod Lists
 pub mod Run
 pub mod Trials

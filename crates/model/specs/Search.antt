@@ -4,6 +4,7 @@ use mathlib.Core.Logic.{_⊎_}
 use mathlib.Core.Bool.{Bool, true, false, _&&_}
 use mathlib.Core.List.{List, [], _∷_}
 use Prim.Native.Nat.{ℕ, zero, suc, _+_, _<_}
+use Rattle.model.specs.Machine.{Status, running, failed, succeeded, Machine}
 use Rattle.model.specs.Branching.{Branch, first, second}
 
 -- what a path shows: its domains are inconsistent ("contradictory"); each pair has a fixed "before"; or neither, "a branching point"
@@ -31,33 +32,28 @@ act fork path = open-at (first ∷ path)
 abbrev pub step : (List Branch → Outlook) → List Branch → Checkpoint
 step look path = act (look path) path
 
--- the checkpoint after i steps, or fewer where it is finished
-abbrev pub steps : (List Branch → Outlook) → ℕ → Checkpoint → Checkpoint
-steps look zero κ = κ
-steps look (suc i) (open-at path) = steps look i (step look path)
-steps look (suc i) infeasible = infeasible
-steps look (suc i) (packed-at path) = packed-at path
-
 -- "The opening note is open with an empty row"
 abbrev pub opening : Checkpoint
 opening = open-at []
 
--- the checkpoint is open
-abbrev pub Open : Checkpoint → Type 0
-Open (open-at path) = Unit {0}
-Open infeasible = ⊥
-Open (packed-at path) = ⊥
+abbrev pub status : Checkpoint → Status
+status (open-at path) = running
+status infeasible = failed
+status (packed-at path) = succeeded
 
--- "finished": none or placed
-abbrev pub Finished : Checkpoint → Type 0
-Finished (open-at path) = ⊥
-Finished infeasible = Unit {0}
-Finished (packed-at path) = Unit {0}
+abbrev pub checkpoint-path : Checkpoint → List Branch
+checkpoint-path (open-at path) = path
+checkpoint-path infeasible = []
+checkpoint-path (packed-at path) = path
 
--- "takes steps from the opening note until the note is finished. The number of these steps": c steps on it is finished, and before that it is open
-pub record Count (look : List Branch → Outlook) (κ : Checkpoint) (c : ℕ) : Type 0 where
-  pub finished : Finished (steps look c κ)
-  pub before : (i : ℕ) → i < c → Open (steps look i κ)
+-- the search as a machine: its step, by cases and not by a λ, so that a rewriting finds `look` in it
+abbrev pub next : (List Branch → Outlook) → Checkpoint → Checkpoint
+next look (open-at path) = step look path
+next look infeasible = infeasible
+next look (packed-at path) = packed-at path
+
+abbrev pub searching : (List Branch → Outlook) → Machine Checkpoint
+searching look = record { opening = opening; step = next look; status = status }
 
 -- "each shorter beginning of its row is a branching point"
 abbrev pub Forking : (List Branch → Outlook) → List Branch → Type 0

@@ -30,13 +30,9 @@ check-number (Refused e) = 100 + number-of e
 
 -- The answer, by the definition of a feasible packing alone.
 pub record Decides (i : Instance) (q : Packing) (r : CheckAnswer) : Type 0 where
-  -- "A plan fits when": yes exactly for a packing that is feasible
-  pub yes-when : valid i ≡ true → (r ≡ Feasible) ↔ M.Feasible (problem-of i) (positions-of q)
-  -- and no exactly for one that is not
-  pub no-when : valid i ≡ true → (r ≡ NotFeasible) ↔ (M.Feasible (problem-of i) (positions-of q) → ⊥)
-  -- refused exactly where the value is no instance, with number 9
-  pub refused-when : (valid i ≡ false) ↔ (r ≡ Refused InvalidInstance)
-  -- the same in numbers
-  pub one-when : valid i ≡ true → M.Feasible (problem-of i) (positions-of q) → check-number r ≡ 1
-  pub zero-when : valid i ≡ true → (M.Feasible (problem-of i) (positions-of q) → ⊥) → check-number r ≡ 0
-  pub nine-when : valid i ≡ false → check-number r ≡ 109
+  -- 1, "yes": "A plan fits when ..", exactly for an instance and a packing that is feasible in it
+  pub yes : (check-number r ≡ 1) ↔ ((valid i ≡ true) × M.Feasible (problem-of i) (positions-of q))
+  -- 0, "no": exactly for an instance and a packing that is not
+  pub no : (check-number r ≡ 0) ↔ ((valid i ≡ true) × (M.Feasible (problem-of i) (positions-of q) → ⊥))
+  -- 9: "a sheet value with over 10 pieces, ..", and no other refusal
+  pub refused : (n : ℕ) → (check-number r ≡ 100 + n) ↔ ((valid i ≡ false) × (n ≡ 9))

@@ -1,6 +1,6 @@
 -- The clearance of two items on an axis, and what is answered (document 01, "Fit" and the refusals 9, 5, 8).
 use mathlib.Core.Bool.{Bool, true, false, cond, _&&_}
-use mathlib.Core.Logic.{_⊎_, inl, inr}
+use mathlib.Core.Logic.{_⊎_, inl, inr, _↔_}
 use mathlib.Core.Path.{_≡_}
 use Prim.Native.Nat.{ℕ, _+_, _≤_, _<_}
 use lib.Dec.{ltb}
@@ -47,15 +47,23 @@ abbrev pub clearance-values : ClearanceAnswer → ℤ ⊎ (ℕ × ℕ)
 clearance-values (Clearance z) = inl z
 clearance-values (Refused e) = inr (number-of e, place-of e)
 
--- The same answer in numbers, condition by condition.
-pub record Answers (i : Instance) (q : Packing) (u v a : ℕ) (r : ClearanceAnswer) : Type 0 where
-  -- 9: the value is no instance
-  pub nine : valid i ≡ false → clearance-values r ≡ inr (9, 0)
+-- The table's conditions for the clearance, in the order of the tests
+pub data ClearanceFault (i : Instance) (u v a n : ℕ) : Type 0 where
+  -- 9: "a sheet value with over 10 pieces, .."
+  nine : valid i ≡ false → n ≡ 9 → ClearanceFault i u v a n
   -- 5: "a piece not on the sheet"
-  pub five : valid i ≡ true → (i .«item_count» ≤ u) ⊎ (i .«item_count» ≤ v) → clearance-values r ≡ inr (5, 0)
+  five : valid i ≡ true → (i .«item_count» ≤ u) ⊎ (i .«item_count» ≤ v) → n ≡ 5 → ClearanceFault i u v a n
   -- 8: "clearance axis not 0, 1 or 2"
-  pub eight : valid i ≡ true → u < i .«item_count» → v < i .«item_count» → 3 ≤ a → clearance-values r ≡ inr (8, 0)
-  pub value : valid i ≡ true → u < i .«item_count» → v < i .«item_count» → a < 3 → clearance-values r ≡ inl (clearance-between (problem-of i) (positions-of q) a u v)
+  eight : valid i ≡ true → u < i .«item_count» → v < i .«item_count» → 3 ≤ a → n ≡ 8 → ClearanceFault i u v a n
+
+-- The answer, by these conditions and the definition of the clearance alone
+pub record Answers (i : Instance) (q : Packing) (u v a : ℕ) (r : ClearanceAnswer) : Type 0 where
+  -- refused exactly for a condition that holds where none before it does; the place is "0 from clearance and label record"
+  pub refused : (n place : ℕ) → (clearance-values r ≡ inr (n, place)) ↔ (ClearanceFault i u v a n × (place ≡ 0))
+  -- the clearance exactly where none holds
+  pub value : (z : ℤ) → (clearance-values r ≡ inl z)
+      ↔ ((valid i ≡ true) × (u < i .«item_count») × (v < i .«item_count») × (a < 3)
+      × (z ≡ clearance-between (problem-of i) (positions-of q) a u v))
 
 -- "above 0 a gap, 0 touching": one item ends so many modules before the other starts
 unfoldable pub Gap : Problem → Positions → ℕ → ℕ → ℕ → ℕ → Type 0

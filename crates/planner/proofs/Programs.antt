@@ -9,7 +9,7 @@ use Rattle.instance.specs.declared.ReadAnswer.the-variants as A
 use Rattle.instance.specs.Decode.{decode, read-result}
 use Rattle.instance.specs.Values.{opening-checkpoint}
 use Rattle.instance.proofs.Sheets.{valid-says}
-use Rattle.instance.proofs.Inverse.{read-written}
+use Rattle.instance.proofs.Inverse.{read-valid}
 use Rattle.instance.proofs.Lookup.{was-read, was-refused}
 use Rattle.search.specs.Results.{search-result}
 use Rattle.search.specs.declared.Answer.the-variants as S
@@ -31,8 +31,7 @@ module _ (s : List ℕ) (r : ReadResult) (e : r ≡ read-result (decode s)) wher
   pub few-items : Bytes s → r .answer ≡ A.Read → r .instance .«item_count» ≤ 10
   few-items b h =
       let w = was-read (decode s) r e h in
-      let v = read-written s b (w .was) in
-      valid-says (r .instance) (v .1) .items-few
+      valid-says (r .instance) (read-valid s b (w .was)) .items-few
 
 -- the text of a result, by its answer
 module _ (n : ℕ) (r : SearchResult) where

@@ -2,32 +2,32 @@
 -- An instance's array of items holds ten, as every value of the type does.
 use mathlib.Core.Bool.{Bool, true, false}
 use mathlib.Core.List.{List}
-use mathlib.Core.Logic.{_↔_, _⊎_, inl, inr}
-use mathlib.Core.Option.{some}
+use mathlib.Core.Logic.{_↔_}
 use mathlib.Core.Path.{_≡_, refl, sym, ap, _∙_, subst}
-use Prim.Native.Nat.{ℕ, _≤_, _<_}
-use native.Mathlib.Decide.{decLt}
+use Prim.Native.Nat.{ℕ, _+_, _≤_, _<_}
 use native.Mathlib.Omega.{arith}
 use lib.ListN.{length}
+use Rattle.model.proofs.Below.{and-intro, and-both, clash}
+use Rattle.model.proofs.Lists.{all-refused}
 use Rattle.model.proofs.Theorems as T
 use Rattle.model.specs.Admits.{Sound}
 use Rattle.model.specs.Branching.{plan}
 use Rattle.model.specs.Calls as C
+use Rattle.model.specs.Lists.{Reaches, served, Serves, AllRefused}
+use Rattle.model.specs.Machine.{steps, taken}
 use Rattle.model.specs.Problem.{Problem, Positions, Feasible}
-use Rattle.model.specs.Run.{look, search, step-count}
+use Rattle.model.specs.Run.{look, machine, plan-at, search}
 use Rattle.model.specs.Search as S
-use Rattle.refusal.specs.declared.Refusal.{Refusal}
 use Rattle.refusal.specs.declared.Refusal.the-variants.{InvalidInstance, NotFollowing}
 use Rattle.instance.specs.Meaning.{problem-of, positions-of}
 use Rattle.instance.specs.Valid.{valid}
-use Rattle.instance.specs.Values.{opening-checkpoint}
+use Rattle.instance.specs.Values.{opening-checkpoint, origin-packing}
 use Rattle.instance.specs.declared.Checkpoint.{Checkpoint}
 use Rattle.instance.specs.declared.Instance.{Instance}
-use Rattle.instance.specs.declared.Packing.{Packing}
-use Rattle.search.specs.Calls.{reply-of, exec, plan-of}
-use Rattle.search.specs.Checkpoints.{checkpoint-of, well-formed, branches-of, value-of}
-use Rattle.search.specs.Results.{answer-of, packing-with, result-of, refused, result-if, search-result}
-use Rattle.search.specs.declared.Answer.the-variants.{Packed, Infeasible, BudgetSpent}
+use Rattle.search.specs.Calls.{values}
+use Rattle.search.specs.Checkpoints.{checkpoint-of, well-formed, following, Following, branches-of, value-of}
+use Rattle.search.specs.Results.{answer-number, answer-of, packing-with, result-of, refused, followed-if, result-if, search-result, SearchFault, nine, ten}
+use Rattle.search.specs.declared.Answer.the-variants.{Packed, BudgetSpent}
 use Rattle.search.specs.declared.SearchResult.{SearchResult}
 use Rattle.search.proofs.Checkpoints.{Short, checkpoint-back, value-well-formed}
 use Rattle.search.proofs.Packing.{packing-back, feasible-same}
@@ -38,17 +38,83 @@ pub opening-value : value-of S.opening ≡ opening-checkpoint
 unfolding value-of branches-of opening-checkpoint
 opening-value = refl
 
--- what a caller is told of a call that is not refused
-reply-is : (p : Problem) (r : C.Result Positions) → (κ : S.Checkpoint) → r .answer ≡ C.answer (plan p) κ
-    → reply-of (result-of p r) ≡ C.answered (C.answer (plan-of p) κ) (r .steps)
+-- the test of a checkpoint says yes exactly when it follows
+pub following-so : (p : Problem) (c : Checkpoint) → (following p c ≡ true) ↔ Following p c
+unfolding following
+following-so p c = (
+  (λ h. let (w, f) = and-both (well-formed c) (S.follows (look p) (checkpoint-of c)) h in
+      record { is-well-formed = w; follows = T.follows-exactly p (checkpoint-of c) .0 f }),
+  (λ φ. and-intro (φ .is-well-formed) (T.follows-exactly p (checkpoint-of c) .1 (φ .follows))),
+)
+
+-- an answer of the search is no refusal
+pub answered-small : (p : Problem) (r : C.Result S.Checkpoint Positions) → answer-number (result-of p r .answer) < 100
 unfolding result-of
-reply-is p r κ e = rw e (go κ)
+answered-small p r = go (r .answer)
   where
-    go : (κ : S.Checkpoint) → reply-of (record { answer = answer-of (C.answer (plan p) κ); steps = r .steps; checkpoint = value-of (r .checkpoint); packing = packing-with p (C.answer (plan p) κ) })
-        ≡ C.answered (C.answer (plan-of p) κ) (r .steps)
-    go (S.open-at path) = refl
-    go S.infeasible = refl
-    go (S.packed-at path) = refl
+    go : (a : C.Answer Positions) → answer-number (answer-of a) < 100
+    go C.budget-spent = omega arith
+    go C.no-packing = omega arith
+    go (C.packing q) = omega arith
+
+-- One call by the table: it is refused with 9, or with 10, or it is the search's
+pub data CallIs (i : Instance) (c : Checkpoint) (budget : ℕ) (r : SearchResult) : Type 0 where
+  invalid : valid i ≡ false → r ≡ refused InvalidInstance c → CallIs i c budget r
+  not-following : valid i ≡ true → (Following (problem-of i) c → ⊥) → r ≡ refused NotFollowing c → CallIs i c budget r
+  searched : valid i ≡ true → Following (problem-of i) c → r ≡ result-of (problem-of i) (search (problem-of i) budget (checkpoint-of c))
+      → CallIs i c budget r
+
+module _ (i : Instance) (c : Checkpoint) (budget : ℕ) where
+  pub call-is : CallIs i c budget (search-result i c budget)
+  unfolding search-result
+  call-is = go (valid i) (following (problem-of i) c) refl refl
+    where
+      go : (v f : Bool) → valid i ≡ v → following (problem-of i) c ≡ f → CallIs i c budget (result-if (valid i) (problem-of i) c budget)
+      go false f d e = invalid d (rw d)
+      go true false d e = not-following d (λ φ. clash (following-so (problem-of i) c .1 φ) e) (rw (d, e))
+      go true true d e = searched d (following-so (problem-of i) c .0 e) (rw (d, e))
+
+  -- a call on a checkpoint that follows is refused for nothing
+  pub served-is : valid i ≡ true → Following (problem-of i) c → search-result i c budget ≡ result-of (problem-of i) (search (problem-of i) budget (checkpoint-of c))
+  served-is v φ = go call-is
+    where
+      go : CallIs i c budget (search-result i c budget) → search-result i c budget ≡ result-of (problem-of i) (search (problem-of i) budget (checkpoint-of c))
+      go (invalid d r) = absurd (clash v d)
+      go (not-following d n r) = absurd (n φ)
+      go (searched d f r) = r
+
+  code : {r : SearchResult} → search-result i c budget ≡ r → answer-number (search-result i c budget .answer) ≡ answer-number (r .answer)
+  code e = ap (λ (x : SearchResult). answer-number (x .answer)) e
+
+  -- "A call that meets no condition of the table is not refused", and any other gets its number
+  pub refuses : (n : ℕ) → (answer-number (search-result i c budget .answer) ≡ 100 + n) ↔ SearchFault i c n
+  unfolding refused
+  refuses n = (fore call-is, back call-is)
+    where
+      fore : CallIs i c budget (search-result i c budget) → answer-number (search-result i c budget .answer) ≡ 100 + n → SearchFault i c n
+      fore (invalid d r) e = nine d (omega (arith, code r))
+      fore (not-following d f r) e = ten d f (omega (arith, code r))
+      fore (searched d φ r) e = absurd (omega (arith, code r, answered-small (problem-of i) (search (problem-of i) budget (checkpoint-of c))))
+
+      back : CallIs i c budget (search-result i c budget) → SearchFault i c n → answer-number (search-result i c budget .answer) ≡ 100 + n
+      back (invalid d r) (nine v k) = rw k (code r)
+      back (invalid d r) (ten v f k) = absurd (clash v d)
+      back (not-following d f r) (nine v k) = absurd (clash d v)
+      back (not-following d f r) (ten v g k) = rw k (code r)
+      back (searched d φ r) (nine v k) = absurd (clash d v)
+      back (searched d φ r) (ten v f k) = absurd (f φ)
+
+  -- "a refused search hands its note back with 0 steps", and "all ten are 0": 100 and above are a refusal's numbers
+  pub handed-back : 100 ≤ answer-number (search-result i c budget .answer)
+      → (search-result i c budget .checkpoint ≡ c) × (search-result i c budget .steps ≡ 0) × (search-result i c budget .packing ≡ origin-packing)
+  unfolding refused
+  handed-back h = go call-is
+    where
+      go : CallIs i c budget (search-result i c budget)
+          → (search-result i c budget .checkpoint ≡ c) × (search-result i c budget .steps ≡ 0) × (search-result i c budget .packing ≡ origin-packing)
+      go (invalid d r) = (rw r, rw r, rw r)
+      go (not-following d f r) = (rw r, rw r, rw r)
+      go (searched d φ r) = absurd (omega (arith, code r, answered-small (problem-of i) (search (problem-of i) budget (checkpoint-of c))))
 
 module _ (i : Instance) (v : valid i ≡ true) (long : length (i .items) ≡ 10) where
   sound : Sound (problem-of i)
@@ -60,123 +126,67 @@ module _ (i : Instance) (v : valid i ≡ true) (long : length (i .items) ≡ 10)
   short (S.packed-at path) f = T.path-270 (problem-of i) sound path (f .0)
 
   -- a call on the value of a checkpoint that follows is the model's
-  pub call-is : (κ : S.Checkpoint) → S.Follows (look (problem-of i)) κ → (budget : ℕ)
+  pub call-held : (κ : S.Checkpoint) → S.Follows (look (problem-of i)) κ → (budget : ℕ)
       → search-result i (value-of κ) budget ≡ result-of (problem-of i) (search (problem-of i) budget κ)
-  unfolding search-result
-  call-is κ f budget =
-      let s = short κ f in
-      rw (v, value-well-formed κ s, checkpoint-back κ s, T.follows-exactly (problem-of i) κ .1 f)
+  call-held κ f budget =
+      let e = checkpoint-back κ (short κ f) in
+      served-is i (value-of κ) budget v (record { is-well-formed = value-well-formed κ (short κ f); follows = subst (S.Follows (look (problem-of i))) (sym e) f })
+      ∙ ap (λ (μ : S.Checkpoint). result-of (problem-of i) (search (problem-of i) budget μ)) e
 
-  served : (κ : S.Checkpoint) → S.Follows (look (problem-of i)) κ → (budget : ℕ) → let r = C.call (look (problem-of i)) (plan-of (problem-of i)) budget κ in
-      exec i budget (value-of κ) ≡ (value-of (r .checkpoint), C.answered (r .answer) (r .steps))
+  comes : (m t : ℕ) (κ μ : S.Checkpoint) → t ≡ taken (machine (problem-of i)) m κ
+      → search-result i (value-of κ) m ≡ result-of (problem-of i) (record { answer = C.answer (machine (problem-of i)) (plan-at (problem-of i)) μ; steps = t; checkpoint = μ })
+      → Reaches (machine (problem-of i)) (values i) m κ μ
   unfolding result-of
-  served κ f budget =
-      let r = search (problem-of i) budget κ in
-      ap (λ (x : SearchResult). (x .checkpoint, reply-of x)) (call-is κ f budget)
-      ∙ ap (λ (x : C.Reply Refusal Packing). (value-of (r .checkpoint), x)) (reply-is (problem-of i) r (r .checkpoint) refl)
+  comes m t κ (S.open-at path) d e = record { code = rw e; next = rw e; steps = rw e d; plan = rw e }
+  comes m t κ S.infeasible d e = record { code = rw e; next = rw e; steps = rw e d; plan = rw e }
+  comes m t κ (S.packed-at path) d e = record { code = rw e; next = rw e; steps = rw e d; plan = rw e }
 
-  -- what is asked of one call holds of `search`: C are the budgets, and none is refused
-  pub search-serves : C.Serves (look (problem-of i)) (plan-of (problem-of i)) value-of some (exec i)
-  search-serves = record {
-    refuses = λ c κ f e. let z : _≡_ {A = ℕ} 0 1 = cc in absurd (omega arith);
-    serves = λ c b κ f e. let d : c ≡ b = cc in rw d (served κ f b);
+  -- what is asked of one call holds of `search`
+  pub values-serve : Serves (machine (problem-of i)) (values i) (S.Follows (look (problem-of i)))
+  values-serve = record {
+    opens = sym opening-value;
+    calls = λ m κ f. served refl (comes m _ κ (steps (machine (problem-of i)) m κ) refl (call-held κ f m));
   }
-
-  -- the mission's third point in values: after every list of calls on an instance that is not refused
-  pub every-list : (budgets : List ℕ)
-      → C.Claim (look (problem-of i)) (plan-of (problem-of i)) value-of some (exec i) (step-count (problem-of i)) budgets
-  every-list budgets = T.every-list (problem-of i) sound (plan-of (problem-of i)) value-of some (exec i) search-serves budgets
-
-  -- "A call that meets no condition of the table is not refused": a call is refused with 10, or its checkpoint follows and it is the model's
-  pub refused-or-served : (c : Checkpoint) (budget : ℕ)
-      → (search-result i c budget ≡ refused NotFollowing c)
-      ⊎ (S.Follows (look (problem-of i)) (checkpoint-of c)
-      × (search-result i c budget ≡ result-of (problem-of i) (search (problem-of i) budget (checkpoint-of c))))
-  unfolding search-result
-  refused-or-served c budget = rw v (go (well-formed c) (S.follows (look (problem-of i)) (checkpoint-of c)) refl)
-    where
-      go : (w b : Bool) → S.follows (look (problem-of i)) (checkpoint-of c) ≡ b
-          → (result-if true w i c budget ≡ refused NotFollowing c)
-          ⊎ (S.Follows (look (problem-of i)) (checkpoint-of c)
-          × (result-if true w i c budget ≡ result-of (problem-of i) (search (problem-of i) budget (checkpoint-of c))))
-      go false b d = inl refl
-      go true false d = inl (rw d)
-      go true true d = inr (T.follows-exactly (problem-of i) (checkpoint-of c) .0 d, (rw d))
 
   -- placed comes with a packing that fits, whatever checkpoint was handed in
   pub packed-feasible : (c : Checkpoint) (budget : ℕ) → search-result i c budget .answer ≡ Packed
       → Feasible (problem-of i) (positions-of (search-result i c budget .packing))
   unfolding refused result-of
-  packed-feasible c budget e = go (refused-or-served c budget)
+  packed-feasible c budget e = go (call-is i c budget)
     where
-      fits : (μ : S.Checkpoint) → S.Follows (look (problem-of i)) μ → answer-of (C.answer (plan (problem-of i)) μ) ≡ Packed
-          → Feasible (problem-of i) (positions-of (packing-with (problem-of i) (C.answer (plan (problem-of i)) μ)))
+      fits : (μ : S.Checkpoint) → S.Follows (look (problem-of i)) μ → answer-of (C.answer (machine (problem-of i)) (plan-at (problem-of i)) μ) ≡ Packed
+          → Feasible (problem-of i) (positions-of (packing-with (problem-of i) (C.answer (machine (problem-of i)) (plan-at (problem-of i)) μ)))
       fits (S.open-at path) f e = let z : _≡_ {A = ℕ} 0 1 = cc in absurd (omega arith)
       fits S.infeasible f e = let z : _≡_ {A = ℕ} 0 1 = cc in absurd (omega arith)
       fits (S.packed-at path) f e =
           feasible-same (problem-of i) sound (plan (problem-of i) path) _
           (packing-back (problem-of i) (sound .limited) (plan (problem-of i) path)) (T.packed-feasible (problem-of i) sound path f)
 
-      go : (search-result i c budget ≡ refused NotFollowing c)
-          ⊎ (S.Follows (look (problem-of i)) (checkpoint-of c)
-          × (search-result i c budget ≡ result-of (problem-of i) (search (problem-of i) budget (checkpoint-of c))))
-          → Feasible (problem-of i) (positions-of (search-result i c budget .packing))
-      go (inl r) = let z : _≡_ {A = ℕ} 0 1 = cc (ap (λ (x : SearchResult). x .answer) r) in absurd (omega arith)
-      go (inr (f, r)) =
+      go : CallIs i c budget (search-result i c budget) → Feasible (problem-of i) (positions-of (search-result i c budget .packing))
+      go (invalid d r) = let z : _≡_ {A = ℕ} 0 1 = cc (ap (λ (x : SearchResult). x .answer) r) in absurd (omega arith)
+      go (not-following d n r) = let z : _≡_ {A = ℕ} 0 1 = cc (ap (λ (x : SearchResult). x .answer) r) in absurd (omega arith)
+      go (searched d φ r) =
           subst (λ (x : SearchResult). Feasible (problem-of i) (positions-of (x .packing))) (sym r)
-          (fits (S.steps (look (problem-of i)) budget (checkpoint-of c)) (T.reached-follows (problem-of i) budget (checkpoint-of c) f) (sym (ap (λ (x : SearchResult). x .answer) r) ∙ e))
+          (fits (steps (machine (problem-of i)) budget (checkpoint-of c)) (T.reached-follows (problem-of i) budget (checkpoint-of c) (φ .follows)) (sym (ap (λ (x : SearchResult). x .answer) r) ∙ e))
 
-  -- "spent has taken exactly the allowance"
-  pub spent-exactly : (c : Checkpoint) (budget : ℕ) → search-result i c budget .answer ≡ BudgetSpent → search-result i c budget .steps ≡ budget
-  unfolding refused result-of
-  spent-exactly c budget e = go (refused-or-served c budget)
-    where
-      is-spent : (a : C.Answer Positions) → answer-of a ≡ BudgetSpent → a ≡ C.budget-spent
-      is-spent C.budget-spent e = refl
-      is-spent C.no-packing e = let z : _≡_ {A = ℕ} 0 1 = cc in absurd (omega arith)
-      is-spent (C.packing q) e = let z : _≡_ {A = ℕ} 0 1 = cc in absurd (omega arith)
-
-      go : (search-result i c budget ≡ refused NotFollowing c)
-          ⊎ (S.Follows (look (problem-of i)) (checkpoint-of c)
-          × (search-result i c budget ≡ result-of (problem-of i) (search (problem-of i) budget (checkpoint-of c))))
-          → search-result i c budget .steps ≡ budget
-      go (inl r) = let z : _≡_ {A = ℕ} 0 1 = cc (ap (λ (x : SearchResult). x .answer) r) in absurd (omega arith)
-      go (inr (f, r)) =
-          ap (λ (x : SearchResult). x .steps) r
-          ∙ T.spent-exactly (problem-of i) budget (checkpoint-of c) (is-spent _ (sym (ap (λ (x : SearchResult). x .answer) r) ∙ e))
-
-  -- none exactly when nothing fits: from the opening checkpoint on, with a budget that the run does not exceed
-  pub infeasible-exactly : (budget : ℕ)
-      → (search-result i opening-checkpoint budget .answer ≡ Infeasible)
-      ↔ ((step-count (problem-of i) ≤ budget) × ((q : Positions) → Feasible (problem-of i) q → ⊥))
-  unfolding result-of
-  infeasible-exactly budget = rw (← opening-value, call-is S.opening tt budget) (fore, back)
-    where
-      κ : S.Checkpoint
-      κ = S.steps (look (problem-of i)) budget S.opening
-
-      is-none : (μ : S.Checkpoint) → answer-of (C.answer (plan (problem-of i)) μ) ≡ Infeasible → μ ≡ S.infeasible
-      is-none (S.open-at path) e = let z : _≡_ {A = ℕ} 0 1 = cc in absurd (omega arith)
-      is-none S.infeasible e = refl
-      is-none (S.packed-at path) e = let z : _≡_ {A = ℕ} 0 1 = cc in absurd (omega arith)
-
-      enough : κ ≡ S.infeasible → Dec (budget < step-count (problem-of i)) → step-count (problem-of i) ≤ budget
-      enough e (yes h) = absurd (subst S.Open e (T.counted (problem-of i) sound .before budget h))
-      enough e (no h) = omega arith
-
-      fore : answer-of (C.answer (plan (problem-of i)) κ) ≡ Infeasible → (step-count (problem-of i) ≤ budget) × ((q : Positions) → Feasible (problem-of i) q → ⊥)
-      fore e =
-          let d = is-none κ e in
-          let l = enough d (decLt budget (step-count (problem-of i))) in
-          (l, T.infeasible-exactly (problem-of i) sound .0 (sym (T.run-after (problem-of i) sound budget l) ∙ d))
-
-      back : (step-count (problem-of i) ≤ budget) × ((q : Positions) → Feasible (problem-of i) q → ⊥) → answer-of (C.answer (plan (problem-of i)) κ) ≡ Infeasible
-      back (l, f) = rw (T.run-after (problem-of i) sound budget l ∙ T.infeasible-exactly (problem-of i) sound .1 f)
-
--- "on a refused sheet every call is refused, and the note stays the opening one"
-pub every-refused-list : (i : Instance) → valid i ≡ false → (budgets : List ℕ) → C.RefusedClaim InvalidInstance opening-checkpoint (exec i) budgets
-unfolding search-result refused
-every-refused-list i v = T.every-refused-list InvalidInstance opening-checkpoint (exec i) refuses
+-- "spent has taken exactly the allowance"
+pub spent-exactly : (i : Instance) (c : Checkpoint) (budget : ℕ) → search-result i c budget .answer ≡ BudgetSpent → search-result i c budget .steps ≡ budget
+unfolding refused result-of
+spent-exactly i c budget e = go (call-is i c budget)
   where
-    refuses : C.Refuses InvalidInstance opening-checkpoint (exec i)
-    refuses budget = rw v
+    is-spent : (a : C.Answer Positions) → answer-of a ≡ BudgetSpent → a ≡ C.budget-spent
+    is-spent C.budget-spent e = refl
+    is-spent C.no-packing e = let z : _≡_ {A = ℕ} 0 1 = cc in absurd (omega arith)
+    is-spent (C.packing q) e = let z : _≡_ {A = ℕ} 0 1 = cc in absurd (omega arith)
+
+    go : CallIs i c budget (search-result i c budget) → search-result i c budget .steps ≡ budget
+    go (invalid d r) = let z : _≡_ {A = ℕ} 0 1 = cc (ap (λ (x : SearchResult). x .answer) r) in absurd (omega arith)
+    go (not-following d n r) = let z : _≡_ {A = ℕ} 0 1 = cc (ap (λ (x : SearchResult). x .answer) r) in absurd (omega arith)
+    go (searched d φ r) =
+        ap (λ (x : SearchResult). x .steps) r
+        ∙ T.spent-exactly (problem-of i) budget (checkpoint-of c) (is-spent _ (sym (ap (λ (x : SearchResult). x .answer) r) ∙ e))
+
+-- "on a refused sheet every call is refused, and the note stays the opening one": 109 is 9's
+pub every-call-refused : (i : Instance) → valid i ≡ false → (budgets : List ℕ) → AllRefused (values i) 109 budgets
+unfolding search-result refused
+every-call-refused i v = all-refused (values i) 109 (λ m c. rw v) (λ m c. rw v)

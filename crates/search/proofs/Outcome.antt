@@ -2,17 +2,15 @@
 use mathlib.Core.Bool.{Bool, true, false, _&&_}
 use mathlib.Core.List.{List}
 use mathlib.Core.Path.{_≡_, refl}
-use Prim.Native.Nat.{ℕ, _≤_}
-use native.Mathlib.Omega.{arith}
+use Prim.Native.Nat.{ℕ}
 use Rattle.model.proofs.Below.{and-intro}
 use Rattle.model.specs.Branching.{Branch, plan}
 use Rattle.model.specs.Calls as C
 use Rattle.model.specs.Problem.{Problem}
-use Rattle.model.specs.Run.{look, search}
+use Rattle.model.specs.Machine.{Finished}
+use Rattle.model.specs.Run.{look, machine, plan-at, search}
 use Rattle.model.specs.Search as S
-use Rattle.refusal.specs.Numbers.{number-of}
-use Rattle.refusal.specs.declared.Refusal.{Refusal}
-use Rattle.refusal.specs.declared.Refusal.the-variants.{EndsEarly, UnknownBit, WrittenDefault, BadCount, BadItem, NotRising, TrailingBytes, BadArgument, InvalidInstance, NotFollowing}
+use Rattle.refusal.specs.declared.Refusal.the-variants.{NotFollowing}
 use Rattle.instance.specs.declared.Checkpoint.{Checkpoint}
 use Rattle.instance.specs.declared.Packing.{Packing}
 use Rattle.search.specs.Checkpoints.{value-of}
@@ -20,22 +18,10 @@ use Rattle.search.specs.Results.{packing-of, result-of, refused, followe
 use Rattle.search.specs.Standing.{Holds}
 use Rattle.search.proofs.Budget.{Comes, rest-start, rest-finished}
 
-pub number-small : (e : Refusal) → number-of e ≤ 10
-number-small (EndsEarly place) = omega arith
-number-small (UnknownBit place) = omega arith
-number-small (WrittenDefault place) = omega arith
-number-small (BadCount place) = omega arith
-number-small (BadItem place) = omega arith
-number-small (NotRising place) = omega arith
-number-small (TrailingBytes place) = omega arith
-number-small BadArgument = omega arith
-number-small InvalidInstance = omega arith
-number-small NotFollowing = omega arith
-
 module _ (p : Problem) (budget : ℕ) (start : S.Checkpoint) where
   -- a call comes to this checkpoint in so many steps
   at-end : {t : ℕ} {κ : S.Checkpoint} → Comes (look p) budget start t κ
-      → result-of p (record { answer = C.answer (plan p) κ; steps = t; checkpoint = κ }) ≡ result-of p (search p budget start)
+      → result-of p (record { answer = C.answer (machine p) (plan-at p) κ; steps = t; checkpoint = κ }) ≡ result-of p (search p budget start)
   at-end {t} {κ} γ = rw (γ .checkpoint, γ .count)
 
   pub comes-infeasible : {t : ℕ} → Comes (look p) budget start t S.infeasible → infeasible-after t ≡ result-of p (search p budget start)
@@ -53,7 +39,7 @@ module _ (p : Problem) (budget : ℕ) (start : S.Checkpoint) where
   comes-packed h e γ = rw (h .many, h .values, e) (at-end γ)
 
   -- a finished checkpoint repeats its answer
-  pub comes-again : S.Finished start → Comes (look p) budget start 0 start
+  pub comes-again : Finished (machine p) start → Comes (look p) budget start 0 start
   comes-again f = rest-finished (look p) budget start (rest-start (look p) budget start) f
 
   -- a checkpoint that follows, and one that does not

@@ -2,11 +2,11 @@
 use mathlib.Core.Bool.{true, not, _&&_}
 use mathlib.Core.List.{List, [], _∷_, map, List·Memᴰ, List·Memᴰ·not-nil, List·Memᴰ·cases-cons}
 use mathlib.Core.Logic.{_⊎_, inl, inr}
-use mathlib.Core.Path.{_≡_, sym, _∙_, subst}
+use mathlib.Core.Path.{_≡_, subst}
 use Prim.Native.Nat.{ℕ, zero, suc, _≤_, _<_}
 use native.Mathlib.Omega.{arith}
 use lib.Dec.{leb, ltb, eqb}
-use lib.ListN.{length, getD, length-map}
+use lib.ListN.{length, getD}
 use lib.Seq.{getD-take, length-take-le}
 use borrow.Author.Tests.{leb-true, ltb-true, eqb-false, not-true}
 use Rattle.model.proofs.Below.{and-both}
@@ -88,7 +88,3 @@ valid-sound i h long =
 pub laid-sound : (i : Instance) (s : Shape) → Laid i s → valid i ≡ true → length (i .items) ≡ 10
     → Sound (shape-problem (s .items) (s .sizes) (s .capacity) (map precedence-of (precedences-of i)))
 laid-sound i s l h long = subst Sound (l .means) (valid-sound i h long)
-
--- an array of structs is as long as what it is in memory
-pub length-mapped : {A B : Type 0} (f : A → B) (l : List A) (n : ℕ) → length (map f l) ≡ n → length l ≡ n
-length-mapped f l n e = sym (length-map l f) ∙ e

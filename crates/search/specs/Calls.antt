@@ -1,32 +1,29 @@
--- A list of calls in values: the terms of the claim (document 01, "The search").
-use mathlib.Core.List.{List}
+-- A list of calls in values (document 01, "The search": "A list is all in values or all on the screen"). A call is its budget; each is handed
+-- the checkpoint that the last returned, which follows, so none meets a condition of the table.
+use mathlib.Core.Bool.{true}
 use Prim.Native.Nat.{ℕ}
-use Rattle.model.specs.Branching.{Branch, plan}
-use Rattle.model.specs.Calls as C
-use Rattle.model.specs.Problem.{Problem}
-use Rattle.refusal.specs.declared.Refusal.{Refusal}
+use Rattle.model.specs.Lists.{Service}
+use Rattle.model.specs.Run.{plan-at}
+use Rattle.model.specs.Search as S
+use Rattle.instance.specs.Meaning.{problem-of}
+use Rattle.instance.specs.Values.{opening-checkpoint, origin-packing}
 use Rattle.instance.specs.declared.Checkpoint.{Checkpoint}
 use Rattle.instance.specs.declared.Instance.{Instance}
 use Rattle.instance.specs.declared.Packing.{Packing}
-use Rattle.search.specs.Results.{packing-of, search-result}
-use Rattle.search.specs.declared.Answer.{Answer}
-use Rattle.search.specs.declared.Answer.the-variants.{Packed, Infeasible, BudgetSpent, Refused}
-use Rattle.search.specs.declared.SearchResult.{SearchResult}
+use Rattle.search.specs.Checkpoints.{value-of}
+use Rattle.search.specs.Results.{answer-number, packing-of, search-result}
 
--- what a caller is told: "It answers placed with the plan, none, or spent", with the steps, or the refusal
-abbrev pub told : Answer → ℕ → Packing → C.Reply Refusal Packing
-told Packed m q = C.answered (C.packing q) m
-told Infeasible m q = C.answered C.no-packing m
-told BudgetSpent m q = C.answered C.budget-spent m
-told (Refused e) m q = C.refused e
-
-abbrev pub reply-of : SearchResult → C.Reply Refusal Packing
-reply-of r = told (r .answer) (r .steps) (r .packing)
-
--- one call with a budget: "each later one the note that the last returned"
-abbrev pub exec : Instance → ℕ → Checkpoint → Checkpoint × C.Reply Refusal Packing
-exec i budget c = let r = search-result i c budget in (r .checkpoint, reply-of r)
-
--- "the run's whole plan"
-abbrev pub plan-of : Problem → List Branch → Packing
-plan-of p path = packing-of p (plan p path)
+-- what `Instance::opening` and `search::search` return
+abbrev pub values : Instance → Service S.Checkpoint ℕ Checkpoint Packing
+values i = record {
+  opening = opening-checkpoint;
+  budget = λ m. m;
+  admitted = λ m. true;
+  code = λ m c. answer-number (search-result i c m .answer);
+  next = λ m c. search-result i c m .checkpoint;
+  steps = λ m c. search-result i c m .steps;
+  plan = λ m c. search-result i c m .packing;
+  hold = value-of;
+  plan-of = λ κ. packing-of (problem-of i) (plan-at (problem-of i) κ);
+  no-plan = λ m. origin-packing;
+}

@@ -8,6 +8,8 @@ use lib.Dec.{leb, ltb, eqb}
 use lib.ListN.{length, getD, set, replicate}
 use Rattle.model.specs.Below.{all-below}
 use Rattle.model.specs.Branching.{Branch, first, second}
+use Rattle.model.specs.Problem.{Problem}
+use Rattle.model.specs.Run.{look}
 use Rattle.model.specs.Search as S
 use Rattle.instance.specs.declared.Checkpoint.{Checkpoint}
 use Rattle.instance.specs.declared.Status.{Status}
@@ -49,6 +51,15 @@ all-branches n bs = all-below n (λ i. ltb (getD bs i 0) 2)
 -- "270 turns are limits"
 unfoldable pub well-formed : Checkpoint → Bool
 well-formed c = leb (c .length) 270 && (length-allowed (c .status) (c .length) && all-branches (c .length) (c .branches))
+
+-- 10 is for any other value than one "that follows its sheet"
+unfoldable pub following : Problem → Checkpoint → Bool
+following p c = well-formed c && S.follows (look p) (checkpoint-of c)
+
+-- the same as a statement. proofs/Checkpoints shows that they agree
+pub record Following (p : Problem) (c : Checkpoint) : Type 0 where
+  pub is-well-formed : well-formed c ≡ true
+  pub follows : S.Follows (look p) (checkpoint-of c)
 
 -- the first n are branches of a path
 pub record Bits (n : ℕ) (bs : List ℕ) : Type 0 where

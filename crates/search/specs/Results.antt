@@ -1,6 +1,7 @@
 -- One call of the search as a value (document 01, "The search").
 use mathlib.Core.Bool.{Bool, true, false}
 use mathlib.Core.List.{List, [], _∷_, map}
+use mathlib.Core.Path.{_≡_}
 use Prim.Native.Nat.{ℕ, _+_}
 use lib.Dec.{ltb}
 use Rattle.model.specs.Calls as C
@@ -18,7 +19,7 @@ use Rattle.instance.specs.declared.Instance.{Instance}
 use Rattle.instance.specs.declared.Packing.{Packing}
 use Rattle.instance.specs.declared.Position.{Position}
 use Rattle.instance.specs.declared.Status.the-variants as Status
-use Rattle.search.specs.Checkpoints.{checkpoint-of, well-formed, value-of}
+use Rattle.search.specs.Checkpoints.{checkpoint-of, following, Following, value-of}
 use Rattle.search.specs.declared.Answer.{Answer}
 use Rattle.search.specs.declared.Answer.the-variants.{Packed, Infeasible, BudgetSpent, Refused}
 use Rattle.search.specs.declared.SearchResult.{SearchResult}
@@ -54,7 +55,7 @@ packing-with p C.no-packing = origin-packing
 packing-with p (C.packing q) = packing-of p q
 
 -- "each with the note and the steps taken"
-unfoldable pub result-of : Problem → C.Result Positions → SearchResult
+unfoldable pub result-of : Problem → C.Result S.Checkpoint Positions → SearchResult
 result-of p r = record {
   answer = answer-of (r .answer);
   steps = r .steps;
@@ -78,7 +79,7 @@ unfoldable pub packed-after : ℕ → List ℕ → ℕ → Packing → SearchRes
 packed-after m bs n q =
     record { answer = Packed; steps = m; checkpoint = record { status = Status.Packed; length = n; branches = bs }; packing = q }
 
--- 10: "a note that doesn't follow its sheet"
+-- 10: "a note that doesn't follow its sheet"; κ is what the checkpoint c holds
 abbrev pub followed-if : Bool → Problem → ℕ → Checkpoint → S.Checkpoint → SearchResult
 followed-if true p budget c κ = result-of p (R.search p budget κ)
 followed-if false p budget c κ = refused NotFollowing c
@@ -86,11 +87,17 @@ followed-if false p budget c κ = refused NotFollowing c
 abbrev pub followed : Problem → ℕ → Checkpoint → S.Checkpoint → SearchResult
 followed p budget c κ = followed-if (S.follows (R.look p) κ) p budget c κ
 
--- "9 is tested before .. 10"; "other contents get 10"
-abbrev pub result-if : Bool → Bool → Instance → Checkpoint → ℕ → SearchResult
-result-if true true i c budget = followed (problem-of i) budget c (checkpoint-of c)
-result-if true false i c budget = refused NotFollowing c
-result-if false w i c budget = refused InvalidInstance c
+-- "9 is tested before .. 10"
+abbrev pub result-if : Bool → Problem → Checkpoint → ℕ → SearchResult
+result-if true p c budget = followed-if (following p c) p budget c (checkpoint-of c)
+result-if false p c budget = refused InvalidInstance c
 
 unfoldable pub search-result : Instance → Checkpoint → ℕ → SearchResult
-search-result i c budget = result-if (valid i) (well-formed c) i c budget
+search-result i c budget = result-if (valid i) (problem-of i) c budget
+
+-- The table's conditions for a call in values, in their order
+pub data SearchFault (i : Instance) (c : Checkpoint) (n : ℕ) : Type 0 where
+  -- 9: "a sheet value with over 10 pieces, over 90 orders, a measure 0, or an order that would get 5 or 6"
+  nine : valid i ≡ false → n ≡ 9 → SearchFault i c n
+  -- 10: "a note that doesn't follow its sheet"
+  ten : valid i ≡ true → (Following (problem-of i) c → ⊥) → n ≡ 10 → SearchFault i c n

@@ -1,6 +1,7 @@
 // One call of the search: with a budget of steps, from a checkpoint to the next.
 ghost use mathlib.Core.Path.{_≡_};
 ghost use mathlib.Core.Bool.{true};
+ghost use Rattle.instance.specs.Reads.{Full};
 ghost use Rattle.instance.specs.Valid.{valid};
 ghost use Rattle.instance.specs.Meaning.{problem-of};
 ghost use Rattle.search.specs.Checkpoints.{Bits, path-of};
@@ -77,6 +78,7 @@ impl Answer {
 // One call: the answer, the steps taken, the checkpoint that they lead to and, where packed, the packing.
 pub fn search(instance: Instance, checkpoint: Checkpoint, budget: u32) -> SearchResult
     ensures { λ r. ⌜ r ≡ search-result instance checkpoint budget ⌝ }
+    ensures { λ _. ⌜ Full instance ⌝ }
 {
     if !instance.is_valid() {
         return results::refused(Refusal::InvalidInstance, checkpoint);

@@ -1,7 +1,7 @@
 -- `c_api::hallplan_check` meets its contract.
 use native.Mathlib.Omega.{arith}
 use Rattle.instance.specs.Decode.{decode}
-use Rattle.instance.proofs.Inverse.{read-written}
+use Rattle.instance.proofs.Inverse.{read-valid}
 use Rattle.instance.proofs.Lookup.{was-read, was-refused}
 use Rattle.c_api.specs.Calls.{check-code}
 use borrow.Author.Needs.{needs}
@@ -24,20 +24,21 @@ check-instance-requires : tie.Need-check-instance-requires
 check-instance-requires c κs =
     let s = c .before .before .before .before .before .before .args .sheet .now in
     let w = was-read (decode s) (c .before .before .before .read .result) (c .before .before .before .read .ensures) (c .enum-told .given .1) in
-    read-written s (λ k. omega (arith, c .before .before .before .before .before .shared-slice-known .given k)) (w .was) .1
+    read-valid s (λ k. omega (arith, c .before .before .before .before .before .shared-slice-known .given k)) (w .was)
 
 returns : tie.Need-returns
 unfolding check-code
 returns c =
     let s = c .before .before .before .before .before .before .before .before .args .sheet .now in
-    rw (c .refusal-code .ensures, was-refused (decode s) (c .before .before .before .before .before .read .result) (c .before .before .before .before .before .read .ensures) (c .before .before .answer .given .1))
+    rw (was-refused (decode s) (c .before .before .before .before .before .read .result) (c .before .before .before .before .before .read .ensures) (c .before .before .answer .given .1))
+    (c .refusal-code .ensures, (λ k. omega (arith, c .before .before .before .before .before .before .before .shared-slice-known .given k)))
 
 returns-2 : tie.Need-returns-2
 unfolding check-code
 returns-2 c =
     let s = c .before .before .before .before .before .before .before .args .sheet .now in
     let w = was-read (decode s) (c .before .before .before .before .read .result) (c .before .before .before .before .read .ensures) (c .before .enum-told .given .1) in
-    rw (c .check-instance .ensures, w .was)
+    rw (w .was) (c .check-instance .ensures, (λ k. omega (arith, c .before .before .before .before .before .before .shared-slice-known .given k)))
 
 pub hallplan-check-spec : {M : Type 1} → statement M
 hallplan-check-spec =

@@ -2,7 +2,7 @@
 use native.Mathlib.Omega.{arith}
 use mathlib.Core.Path.{refl}
 use Rattle.instance.specs.Decode.{decode}
-use Rattle.instance.proofs.Inverse.{read-written}
+use Rattle.instance.proofs.Inverse.{read-valid}
 use Rattle.instance.proofs.Lookup.{was-read, was-refused}
 use Rattle.search.specs.Results.{refused}
 use Rattle.c_api.specs.Calls.{search-call}
@@ -26,13 +26,13 @@ search-instance-requires : tie.Need-search-instance-requires
 search-instance-requires c κs =
     let s = c .before .before .before .before .before .before .before .before .before .before .before .args .sheet .now in
     let w = was-read (decode s) (c .before .before .before .before .before .before .read .result) (c .before .before .before .before .before .before .read .ensures) (c .before .before .before .enum-told .given .1) in
-    read-written s (λ k. omega (arith, c .before .before .before .before .before .before .before .before .before .before .shared-slice-known .given k)) (w .was) .1
+    read-valid s (λ k. omega (arith, c .before .before .before .before .before .before .before .before .before .before .shared-slice-known .given k)) (w .was)
 
 returns : tie.Need-returns
 unfolding search-call refused
 returns c =
     let s = c .before .before .before .before .before .before .before .before .before .before .args .sheet .now in
-    rw (was-refused (decode s) (c .before .before .before .before .before .read .result) (c .before .before .before .before .before .read .ensures) (c .before .before .answer .given .1)) (c .refusal-code .ensures, (refl, (refl, refl)))
+    rw (was-refused (decode s) (c .before .before .before .before .before .read .result) (c .before .before .before .before .before .read .ensures) (c .before .before .answer .given .1)) (c .refusal-code .ensures, (refl, (refl, (refl, ((λ k. omega (arith, c .before .before .before .before .before .before .before .before .before .shared-slice-known .given k)), (λ k. omega (arith, c .before .before .before .before .before .before .before .before .slice-known .given k)))))))
 
 same-length : tie.Need-same-length
 same-length c = search needs
@@ -48,7 +48,8 @@ unfolding search-call
 returns-2 c =
     let s = c .before .before .before .before .before .before .before .before .before .before .before .before .before .before .before .before .before .before .args .sheet .now in
     let w = was-read (decode s) (c .before .before .before .before .before .before .before .before .before .before .before .before .before .read .result) (c .before .before .before .before .before .before .before .before .before .before .before .before .before .read .ensures) (c .before .before .before .before .before .before .before .before .before .before .enum-told .given .1) in
-    rw (w .was) (c .before .before .before .before .before .before .search-instance .ensures)
+    let q = c .before .before .before .before .before .before .search-instance .ensures in
+    rw (w .was) (q .0, (q .1 .0, (q .1 .1 .0, (q .1 .1 .1, ((λ k. omega (arith, c .before .before .before .before .before .before .before .before .before .before .before .before .before .before .before .before .before .shared-slice-known .given k)), (λ k. omega (arith, c .before .before .before .before .before .before .before .before .before .before .before .before .before .before .before .before .slice-known .given k)))))))
 
 pub hallplan-search-spec : {M : Type 1} → statement M
 hallplan-search-spec =

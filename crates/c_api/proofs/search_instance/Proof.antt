@@ -3,10 +3,11 @@ use mathlib.Core.Path.{_≡_, refl, sym, ap, _∙_}
 use lib.ListN.{length}
 use borrow.Author.Tests.{not-true, not-false}
 use Rattle.instance.proofs.Sheets.{valid-says}
-use Rattle.search.proofs.Sound.{length-mapped}
+use Rattle.instance.proofs.Arrays.{length-mapped}
 use Rattle.search.specs.Results.{refused, search-result}
 use Rattle.instance.specs.declared.Checkpoint.{Checkpoint}
-use Rattle.c_api.proofs.Outcomes.{Lengths, lengths-say, wrong-lengths, no-checkpoint, as-searched, path-fits}
+use Rattle.c_api.specs.Notes.{Lengths}
+use Rattle.c_api.proofs.Outcomes.{lengths-so, wrong-lengths, no-checkpoint, as-searched, path-fits}
 use mathlib.Core.Bool.{true}
 use Rattle.c_api.specs.Calls.{lengths-fit}
 use borrow.Author.Needs.{needs}
@@ -22,10 +23,10 @@ fit : (c : tie.Else1) → let a = c .before .before .before .before .before .arg
 fit c = sym (c .before .lengths-fit .ensures) ∙ not-false _ (c .if1 .left)
 
 right : (c : tie.Else1) → let a = c .before .before .before .before .before .args in
-    Lengths (a .instance) (length (a .note .now)) (length (a .steps .now)) (length (a .plan .now))
+    Lengths (a .instance) (a .note .now) (a .steps .now) (a .plan .now)
 right c =
     let a = c .before .before .before .before .before .args in
-    lengths-say (a .instance) (length (a .note .now)) (length (a .steps .now)) (length (a .plan .now)) (fit c)
+    lengths-so (a .instance) (a .note .now) (a .steps .now) (a .plan .now) .0 (fit c)
 
 lengths-fit-requires : tie.Need-lengths-fit-requires
 lengths-fit-requires c κs = search needs
@@ -66,7 +67,7 @@ hand-over-requires : tie.Need-hand-over-requires
 hand-over-requires c κs =
     let a = c .before .before .before .before .before .before .before .before .before .before .before .before .before .before .args in
     let l = right (c .before .before .before .before .before .before .before .before .before) in (
-      rw (c .before .before .before .search .ensures) (path-fits (a .instance) (c .before .before .before .before .before .before .before .before .before .before .before .before .before .before .pre) (long (c .before .before .before .before .before .before .before .before .before .before .before .before .before .before)) (c .before .before .before .before .read-checkpoint .result) (a .allowance)),
+      rw (c .before .before .before .search .ensures .0) (path-fits (a .instance) (c .before .before .before .before .before .before .before .before .before .before .before .before .before .before .pre) (long (c .before .before .before .before .before .before .before .before .before .before .before .before .before .before)) (c .before .before .before .before .read-checkpoint .result) (a .allowance)),
       (l .note-is, l .steps-are, l .plan-is, valid-says (a .instance) (c .before .before .before .before .before .before .before .before .before .before .before .before .before .before .pre) .items-few),
     )
 
@@ -83,8 +84,8 @@ returns-3 : tie.Need-returns-3
 returns-3 c =
     let a = c .before .before .before .before .before .before .before .before .before .before .before .before .before .before .before .before .before .before .before .before .before .args in
     let k = sym (c .before .before .before .before .before .before .before .before .before .before .before .before .before .before .is-checkpoint .ensures) ∙ not-false _ (c .before .before .before .before .before .before .before .before .before .before .before .before .before .if2 .left) in
-    let e = as-searched (a .instance) (a .note .now) (a .allowance) (length (a .steps .now)) (length (a .plan .now)) (fit (c .before .before .before .before .before .before .before .before .before .before .before .before .before .before .before .before)) k
-    ∙ sym (c .before .before .before .before .before .before .before .before .before .before .search .ensures ∙ ap (λ (x : Checkpoint). search-result (a .instance) x (a .allowance)) (c .before .before .before .before .before .before .before .before .before .before .before .read-checkpoint .ensures)) in
+    let e = as-searched (a .instance) (a .note .now) (a .allowance) (length (a .steps .now)) (length (a .plan .now)) (c .before .before .before .before .before .before .before .before .before .before .before .before .before .before .before .before .before .before .before .before .before .pre) (fit (c .before .before .before .before .before .before .before .before .before .before .before .before .before .before .before .before)) k
+    ∙ sym (c .before .before .before .before .before .before .before .before .before .before .search .ensures .0 ∙ ap (λ (x : Checkpoint). search-result (a .instance) x (a .allowance)) (c .before .before .before .before .before .before .before .before .before .before .before .read-checkpoint .ensures)) in
     rw e (c .before .before .before .before .before .before .hand-over .ensures)
 
 pub search-instance-spec : {M : Type 1} → statement M

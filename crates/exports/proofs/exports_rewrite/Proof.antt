@@ -36,7 +36,7 @@ same-length c = search needs
 returns : tie.Need-returns
 returns c =
     let w = rewrote _ _ (c .before .before .before .before .before .before .before .before .read .ensures) (c .before .before .before .before .before .enum-told .given .1) _ in
-    (c .written .ensures ∙ ap rewritten-length (c .before .before .before .write .ensures .0) ∙ sym (w .0), c .before .before .before .write .ensures .1 ∙ sym (w .1))
+    (c .written .ensures ∙ ap rewritten-length (c .before .before .before .write .ensures .0) ∙ sym (w .0), c .before .before .before .write .ensures .1 .0 ∙ sym (w .1))
 
 returns-2 : tie.Need-returns-2
 unfolding decode

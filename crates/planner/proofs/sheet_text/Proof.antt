@@ -33,7 +33,7 @@ returns : tie.Need-returns
 returns c =
     let w = c .before .before .result-text .ensures in
     let e = text-read (c .before .before .before .before .before .before .before .before .before .before .before .before .args .sheet .now) (c .before .before .before .before .before .before .before .before .before .read .result) (c .before .before .before .before .before .before .before .before .before .read .ensures) (c .before .before .before .before .before .before .before .enum-told .given .1) in
-    rw (e, ← (c .before .before .before .before .before .opening .ensures), ← (c .before .before .before .before .search .ensures)) (w .0, w .1)
+    rw (e, ← (c .before .before .before .before .before .opening .ensures), ← (c .before .before .before .before .search .ensures .0)) (w .0, w .1)
 
 same-length-2 : tie.Need-same-length-2
 same-length-2 c = search needs

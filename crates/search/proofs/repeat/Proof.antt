@@ -25,7 +25,8 @@ use Rattle.search.specs.declared.Replay.{Replay}
 use Rattle.search.proofs.Checkpoints.{path-length}
 use Rattle.search.proofs.Outcome.{comes-packed, comes-again, follows-result, refused-result, complete-follows, incomplete}
 use Rattle.search.proofs.Seeing.{startable, started-plan}
-use Rattle.search.proofs.Sound.{length-mapped, laid-sound}
+use Rattle.instance.proofs.Arrays.{length-mapped}
+use Rattle.search.proofs.Sound.{laid-sound}
 use Rattle.search.proofs.repeat.Statement.{statement}
 use Rattle.search.proofs.repeat.Tie as tie
 

@@ -4,11 +4,18 @@ use borrow.Author.Needs.{needs}
 use borrow.Author.Tests.{not-true, not-false}
 use Rattle.model.specs.Search as S
 use Rattle.instance.specs.Meaning.{problem-of}
+use Rattle.instance.specs.Reads.{Full}
+use Rattle.search.specs.Checkpoints.{following}
 use Rattle.search.specs.Results.{search-result}
 use Rattle.search.proofs.Checkpoints.{checkpoint-as, well-formed-bits}
 use Rattle.search.proofs.Outcome.{comes-infeasible, comes-again}
+use Rattle.instance.proofs.Arrays.{length-mapped}
 use Rattle.search.proofs.search.Statement.{statement}
 use Rattle.search.proofs.search.Tie as tie
+
+-- as every value of the type
+full : (c : tie.Start) → Full (c .args .instance)
+full c = record { items-room = search length-mapped; precedences-room = search length-mapped }
 
 is-valid-requires : tie.Need-is-valid-requires
 is-valid-requires c κs = search needs
@@ -17,8 +24,11 @@ refused-requires : tie.Need-refused-requires
 refused-requires c κs = search needs
 
 returns : tie.Need-returns
-unfolding search-result
-returns c = rw (← (c .before .before .is-valid .ensures), not-true (c .before .before .is-valid .result) (c .before .if1 .taken)) (c .refused .ensures)
+unfolding search-result following
+returns c = (
+  rw (← (c .before .before .is-valid .ensures), not-true (c .before .before .is-valid .result) (c .before .if1 .taken)) (c .refused .ensures),
+  full (c .before .before .before),
+)
 
 is-well-formed-requires : tie.Need-is-well-formed-requires
 is-well-formed-requires c κs = search needs
@@ -27,10 +37,12 @@ refused-requires-2 : tie.Need-refused-requires-2
 refused-requires-2 c κs = search needs
 
 returns-2 : tie.Need-returns-2
-unfolding search-result
-returns-2 c =
-    rw (← (c .before .before .before .before .is-valid .ensures), not-false (c .before .before .before .before .is-valid .result) (c .before .before .before .if1 .left), ← (c .before .before .is-well-formed .ensures), not-true (c .before .before .is-well-formed .result) (c .before .if2 .taken))
-    (c .refused2 .ensures)
+unfolding search-result following
+returns-2 c = (
+  rw (← (c .before .before .before .before .is-valid .ensures), not-false (c .before .before .before .before .is-valid .result) (c .before .before .before .if1 .left), ← (c .before .before .is-well-formed .ensures), not-true (c .before .before .is-well-formed .result) (c .before .if2 .taken))
+      (c .refused2 .ensures),
+  full (c .before .before .before .before .before),
+)
 
 enum-told : tie.Need-enum-told
 enum-told c = search needs
@@ -53,22 +65,28 @@ repeat-requires c κs =
     (sym (c .before .before .before .before .before .is-valid .ensures) ∙ not-false _ (c .before .before .before .before .if1 .left), well-formed-bits _ (sym (c .before .before .before .is-well-formed .ensures) ∙ not-false _ (c .before .before .if2 .left)))
 
 returns-3 : tie.Need-returns-3
-unfolding search-result
-returns-3 c =
-    rw (← (c .before .before .before .before .before .before .is-valid .ensures), not-false (c .before .before .before .before .before .before .is-valid .result) (c .before .before .before .before .before .if1 .left), ← (c .before .before .before .before .is-well-formed .ensures), not-false (c .before .before .before .before .is-well-formed .result) (c .before .before .before .if2 .left), checkpoint-as (c .before .before .before .before .before .before .before .args .checkpoint) (c .before .enum-told .given .1))
-    (c .resume .ensures)
+unfolding search-result following
+returns-3 c = (
+  rw (← (c .before .before .before .before .before .before .is-valid .ensures), not-false (c .before .before .before .before .before .before .is-valid .result) (c .before .before .before .before .before .if1 .left), ← (c .before .before .before .before .is-well-formed .ensures), not-false (c .before .before .before .before .is-well-formed .result) (c .before .before .before .if2 .left), checkpoint-as (c .before .before .before .before .before .before .before .args .checkpoint) (c .before .enum-told .given .1))
+      (c .resume .ensures),
+  full (c .before .before .before .before .before .before .before),
+)
 
 returns-4 : tie.Need-returns-4
-unfolding search-result
-returns-4 c =
-    rw (← (c .before .before .before .before .before .before .is-valid .ensures), not-false (c .before .before .before .before .before .before .is-valid .result) (c .before .before .before .before .before .if1 .left), ← (c .before .before .before .before .is-well-formed .ensures), not-false (c .before .before .before .before .is-well-formed .result) (c .before .before .before .if2 .left), checkpoint-as (c .before .before .before .before .before .before .before .args .checkpoint) (c .before .enum-told2 .given .1))
-    (c .infeasible .ensures ∙ comes-infeasible (problem-of (c .before .before .before .before .before .before .before .args .instance)) (c .before .before .before .before .before .before .before .args .budget) S.infeasible (comes-again (problem-of (c .before .before .before .before .before .before .before .args .instance)) (c .before .before .before .before .before .before .before .args .budget) S.infeasible tt))
+unfolding search-result following
+returns-4 c = (
+  rw (← (c .before .before .before .before .before .before .is-valid .ensures), not-false (c .before .before .before .before .before .before .is-valid .result) (c .before .before .before .before .before .if1 .left), ← (c .before .before .before .before .is-well-formed .ensures), not-false (c .before .before .before .before .is-well-formed .result) (c .before .before .before .if2 .left), checkpoint-as (c .before .before .before .before .before .before .before .args .checkpoint) (c .before .enum-told2 .given .1))
+      (c .infeasible .ensures ∙ comes-infeasible (problem-of (c .before .before .before .before .before .before .before .args .instance)) (c .before .before .before .before .before .before .before .args .budget) S.infeasible (comes-again (problem-of (c .before .before .before .before .before .before .before .args .instance)) (c .before .before .before .before .before .before .before .args .budget) S.infeasible tt)),
+  full (c .before .before .before .before .before .before .before),
+)
 
 returns-5 : tie.Need-returns-5
-unfolding search-result
-returns-5 c =
-    rw (← (c .before .before .before .before .before .before .is-valid .ensures), not-false (c .before .before .before .before .before .before .is-valid .result) (c .before .before .before .before .before .if1 .left), ← (c .before .before .before .before .is-well-formed .ensures), not-false (c .before .before .before .before .is-well-formed .result) (c .before .before .before .if2 .left), checkpoint-as (c .before .before .before .before .before .before .before .args .checkpoint) (c .before .enum-told3 .given .1))
-    (c .repeat .ensures)
+unfolding search-result following
+returns-5 c = (
+  rw (← (c .before .before .before .before .before .before .is-valid .ensures), not-false (c .before .before .before .before .before .before .is-valid .result) (c .before .before .before .before .before .if1 .left), ← (c .before .before .before .before .is-well-formed .ensures), not-false (c .before .before .before .before .is-well-formed .result) (c .before .before .before .if2 .left), checkpoint-as (c .before .before .before .before .before .before .before .args .checkpoint) (c .before .enum-told3 .given .1))
+      (c .repeat .ensures),
+  full (c .before .before .before .before .before .before .before),
+)
 
 pub search-spec : {M : Type 1} → statement M
 search-spec =

@@ -8,7 +8,8 @@ use borrow.Author.Needs.{needs}
 use Rattle.records.specs.Bytes.{row-bytes}
 use Rattle.records.proofs.Writers.{row-none}
 use Rattle.buffers.specs.Bytes.{position-bytes}
-use Rattle.buffers.proofs.Bytes.{length-mapped, positions-next, packing-fills}
+use Rattle.instance.proofs.Arrays.{length-mapped}
+use Rattle.buffers.proofs.Bytes.{positions-next, packing-fills}
 use Rattle.buffers.proofs.positions.write_packing.Statement.{statement}
 use Rattle.buffers.proofs.positions.write_packing.Tie as tie
 

@@ -6,9 +6,15 @@ use lib.ListN.{length}
 use borrow.Author.Tests.{lt-ltb, le-ltb, le-leb, lt-leb, not-true, not-false}
 use Rattle.records.proofs.Writers.{sets-front}
 use Rattle.instance.specs.Encode.{encode, write-answer, written-room}
+use Rattle.instance.specs.Reads.{Full}
+use Rattle.instance.proofs.Arrays.{length-mapped}
 use borrow.Author.Needs.{needs}
 use Rattle.instance.proofs.Instance.write.Statement.{statement}
 use Rattle.instance.proofs.Instance.write.Tie as tie
+
+-- as every value of the type
+full : (c : tie.Start) → Full (c .args .self)
+full c = record { items-room = search length-mapped; precedences-room = search length-mapped }
 
 is-valid-requires : tie.Need-is-valid-requires
 is-valid-requires c κs = search needs
@@ -17,7 +23,7 @@ returns : tie.Need-returns
 unfolding write-answer written-room
 returns c =
     let h = sym (c .before .is-valid .ensures) ∙ not-true (c .before .is-valid .result) (c .if1 .taken) in
-    (rw h, rw h)
+    (rw h, (rw h, full (c .before .before .before)))
 
 sheet-len-requires : tie.Need-sheet-len-requires
 sheet-len-requires c κs = sym (c .before .is-valid .ensures) ∙ not-false (c .before .is-valid .result) (c .if1 .left)
@@ -28,7 +34,7 @@ returns-2 c =
     let a = c .before .before .before .before .before .args in
     let h = sym (c .before .before .before .is-valid .ensures) ∙ not-false (c .before .before .before .is-valid .result) (c .before .before .if1 .left) in
     let l : length (a .out .now) < length (encode (a .self)) = omega arith in
-    (rw (h, lt-ltb _ _ l), rw (h, lt-leb _ _ l))
+    (rw (h, lt-ltb _ _ l), (rw (h, lt-leb _ _ l), full (c .before .before .before .before .before)))
 
 write-sheet-requires : tie.Need-write-sheet-requires
 write-sheet-requires c κs = (sym (c .before .before .before .before .is-valid .ensures) ∙ not-false (c .before .before .before .before .is-valid .result) (c .before .before .before .if1 .left), omega arith)
@@ -42,7 +48,7 @@ returns-3 c =
     let a = c .before .before .before .before .before .before .before .before .before .args in
     let h = sym (c .before .before .before .before .before .before .before .is-valid .ensures) ∙ not-false (c .before .before .before .before .before .before .before .is-valid .result) (c .before .before .before .before .before .before .if1 .left) in
     let l : length (encode (a .self)) ≤ length (a .out .now) = omega arith in
-    (rw (h, le-ltb _ _ l, c .before .before .write-sheet .ensures .0), rw (h, le-leb _ _ l) (c .before .before .write-sheet .ensures .1 ∙ sets-front (encode (a .self)) (a .out .now) l))
+    (rw (h, le-ltb _ _ l, c .before .before .write-sheet .ensures .0), (rw (h, le-leb _ _ l) (c .before .before .write-sheet .ensures .1 ∙ sets-front (encode (a .self)) (a .out .now) l), full (c .before .before .before .before .before .before .before .before .before)))
 
 pub write-spec : {M : Type 1} → statement M
 write-spec =

@@ -3,7 +3,7 @@ use mathlib.Core.Path.{ap}
 use Prim.Native.Nat.{ℕ, _+_}
 use native.Mathlib.Omega.{arith}
 use borrow.Author.Needs.{needs}
-use Rattle.search.proofs.Outcome.{number-small}
+use Rattle.refusal.proofs.Numbers.{number-most}
 use Rattle.search.proofs.Answer.number.Statement.{statement}
 use Rattle.search.proofs.Answer.number.Tie as tie
 
@@ -23,7 +23,7 @@ number-requires : tie.Need-number-requires
 number-requires c κs = search needs
 
 add-result : tie.Need-add-result
-add-result c = omega (arith, c .number .ensures, number-small (c .before .before .self .given .0 .0))
+add-result c = omega (arith, c .number .ensures, number-most (c .before .before .self .given .0 .0))
 
 returns : tie.Need-returns
 returns c = search needs

@@ -19,7 +19,8 @@ use Rattle.search.specs.Checkpoints.{path-of}
 use Rattle.search.specs.Standing.{Looked, Standing}
 use Rattle.search.proofs.Checkpoints.{path-length, path-next}
 use Rattle.search.proofs.Root.{full-good, ready-root}
-use Rattle.search.proofs.Sound.{laid-sound, length-mapped}
+use Rattle.instance.proofs.Arrays.{length-mapped}
+use Rattle.search.proofs.Sound.{laid-sound}
 use Rattle.search.proofs.Standing.{replayed-of, side-of, kept-good, fork-rising, replayed, replayed-not, stand-root, stand-next}
 use Rattle.search.proofs.steps.replay.Statement.{statement}
 use Rattle.search.proofs.steps.replay.Tie as tie

@@ -1,6 +1,6 @@
 -- So many steps lead from the start to where the search stands; what they come to within the rest of the budget is what the whole call comes to.
 use mathlib.Core.List.{List, [], map}
-use mathlib.Core.Path.{_≡_, ap, _∙_}
+use mathlib.Core.Path.{_≡_, sym, ap, _∙_}
 use Prim.Native.Nat.{ℕ, _-_, _<_}
 use native.Mathlib.Omega.{arith}
 use lib.ListN.{getD}
@@ -11,12 +11,15 @@ use borrow.Author.Needs.{needs}
 use Rattle.model.specs.Admits.{Sound}
 use Rattle.model.specs.Branching.{Branch}
 use Rattle.model.specs.Problem.{Problem, Precedence}
+use Rattle.model.specs.Run as R
 use Rattle.model.specs.Search as S
 use Rattle.instance.specs.Meaning.{precedence-of}
 use Rattle.instance.specs.Valid.{precedences-of}
 use Rattle.domains.specs.Propagated.{Arrays}
 use Rattle.domains.specs.Shape.{shape-problem}
 use Rattle.search.specs.Checkpoints.{path-of}
+use Rattle.search.specs.Results.{result-of}
+use Rattle.search.specs.declared.SearchResult.{SearchResult}
 use Rattle.search.specs.Standing.{without-seconds, Standing, Holds, Looked}
 use Rattle.search.specs.declared.Snapshot.{Snapshot}
 use Rattle.search.proofs.Budget.{rest-spent}
@@ -24,10 +27,15 @@ use Rattle.search.proofs.Checkpoints.{branches-length}
 use Rattle.search.proofs.Going.{going-start, going-depth, complete-comes, fork-depth, fork-goes, conflict-comes, there, turn-depth, turn-rising, turn-good, turn-goes, Going}
 use Rattle.search.proofs.Outcome.{comes-infeasible, comes-spent, comes-packed}
 use Rattle.search.proofs.Seeing.{startable, started-plan}
-use Rattle.search.proofs.Sound.{length-mapped, laid-sound}
+use Rattle.instance.proofs.Arrays.{length-mapped}
+use Rattle.search.proofs.Sound.{laid-sound}
 use Rattle.search.proofs.Standing.{Turn, kept-good, fork-rising}
 use Rattle.search.proofs.steps.run.Statement.{statement}
 use Rattle.search.proofs.steps.run.Tie as tie
+
+-- `rw` does not find the problem in a machine: the family is written out
+searched-of : (budget : ℕ) (κ : S.Checkpoint) {p q : Problem} {r : SearchResult} → p ≡ q → r ≡ result-of q (R.search q budget κ) → r ≡ result-of p (R.search p budget κ)
+searched-of budget κ e h = h ∙ ap (λ (x : Problem). result-of x (R.search x budget κ)) (sym e)
 
 abbrev Inv-loop : tie.InvT-loop
 Inv-loop at budget n sizes capacity large levels₀ k₀ rows₀ ends₀ starts₀ queue₀ top₀ fresh₀ branches₀ depth₀ taken₀ levels k rows ends starts queue top fresh branches depth taken =
@@ -115,7 +123,7 @@ infeasible-requires c κs = search needs
 returns : tie.Need-returns Inv-loop μ-loop
 returns c =
     let l = rw (c .before .before .before .before .enum-told .given .1) at (seen (c .before .before .before .before .before .before)) in
-    rw (c .before .before .before .before .before .before .before .before .before .before .before .before .before .before .before .before .before .before .before .before .before .before .before .before .before .before .before .shape-of .ensures .means)
+    searched-of (c .before .before .before .before .before .before .before .before .before .before .before .before .before .before .before .before .before .before .before .before .before .before .before .before .before .before .before .before .args .budget) (S.open-at (start (c .before .before .before .before .before .before .before .before .before .before .before .before .before .before .before .before .before .before .before .before .before .before .before .before .before .before .before .before))) (c .before .before .before .before .before .before .before .before .before .before .before .before .before .before .before .before .before .before .before .before .before .before .before .before .before .before .before .shape-of .ensures .means)
     (c .infeasible .ensures
     ∙ comes-infeasible (problem (c .before .before .before .before .before .before .before .before .before .before .before .before .before .before .before .before .before .before .before .before .before .before .before .before .before .before .before)) (c .before .before .before .before .before .before .before .before .before .before .before .before .before .before .before .before .before .before .before .before .before .before .before .before .before .before .before .before .args .budget) (S.open-at (start (c .before .before .before .before .before .before .before .before .before .before .before .before .before .before .before .before .before .before .before .before .before .before .before .before .before .before .before .before)))
     (conflict-comes (going (c .before .before .before .before .before .before .before .before .before .before .before .before .before .before .before)) (kept (c .before .before)) (c .before .if1 .taken) (c .before .before .before .before .before .before .before .before .before .before .before .before .before .before .loop-test .taken) l))
@@ -170,7 +178,7 @@ returns-2 c =
     let γ = going (c .before .before .before .before .before .before .before .before .before .before .before .before .before .before .before .before) in
     let l = rw (c .before .before .before .before .before .enum-told2 .given .1) at (seen (c .before .before .before .before .before .before .before)) in
     let q : L.length (c .before .starts-of .result .positions) ≡ 10 = search length-mapped in
-    rw (c .before .before .before .before .before .before .before .before .before .before .before .before .before .before .before .before .before .before .before .before .before .before .before .before .before .before .before .before .shape-of .ensures .means)
+    searched-of (c .before .before .before .before .before .before .before .before .before .before .before .before .before .before .before .before .before .before .before .before .before .before .before .before .before .before .before .before .before .args .budget) (S.open-at (start (c .before .before .before .before .before .before .before .before .before .before .before .before .before .before .before .before .before .before .before .before .before .before .before .before .before .before .before .before .before))) (c .before .before .before .before .before .before .before .before .before .before .before .before .before .before .before .before .before .before .before .before .before .before .before .before .before .before .before .before .shape-of .ensures .means)
     (c .packed .ensures
     ∙ comes-packed (problem (c .before .before .before .before .before .before .before .before .before .before .before .before .before .before .before .before .before .before .before .before .before .before .before .before .before .before .before .before)) (c .before .before .before .before .before .before .before .before .before .before .before .before .before .before .before .before .before .before .before .before .before .before .before .before .before .before .before .before .before .args .budget) (S.open-at (start (c .before .before .before .before .before .before .before .before .before .before .before .before .before .before .before .before .before .before .before .before .before .before .before .before .before .before .before .before .before))) (γ .holds)
     (started-plan _ _ _ _ (γ .path) (arrays (c .before .before .before .before .before .before .before .before .before .before .before .before .before .before .before .before .before .before .before .before .before .before .before .before .before .before .before .before)) l (c .before .starts-of .ensures) q) (complete-comes γ (c .before .before .before .before .before .before .before .before .before .before .before .before .before .before .before .loop-test .taken) (l .0)))
@@ -213,7 +221,7 @@ spent-requires c κs = search needs
 returns-3 : tie.Need-returns-3 Inv-loop μ-loop
 returns-3 c =
     let γ = going (c .before .before) in
-    rw (c .before .before .before .before .before .before .before .before .before .before .before .before .before .before .shape-of .ensures .means)
+    searched-of (c .before .before .before .before .before .before .before .before .before .before .before .before .before .before .before .args .budget) (S.open-at (start (c .before .before .before .before .before .before .before .before .before .before .before .before .before .before .before))) (c .before .before .before .before .before .before .before .before .before .before .before .before .before .before .shape-of .ensures .means)
     (c .spent .ensures
     ∙ comes-spent (problem (c .before .before .before .before .before .before .before .before .before .before .before .before .before .before)) (c .before .before .before .before .before .before .before .before .before .before .before .before .before .before .before .args .budget) (S.open-at (start (c .before .before .before .before .before .before .before .before .before .before .before .before .before .before .before))) (γ .holds) (rest-spent _ _ _ (γ .rest) (c .before .loop-test .left)))
 

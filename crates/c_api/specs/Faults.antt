@@ -1,0 +1,29 @@
+-- The table's conditions for check and search on bytes, in their order (document 01, "Refusals": "the sheet's refusals come first", "8 before 10").
+use mathlib.Core.List.{List}
+use mathlib.Core.Path.{_≡_}
+use Prim.Native.Nat.{ℕ, _*_}
+use lib.ListN.{length}
+use Rattle.refusal.specs.Numbers.{number-of}
+use Rattle.refusal.specs.declared.Refusal.{Refusal}
+use Rattle.records.specs.Reading.{refused}
+use Rattle.instance.specs.Decode.{decode}
+use Rattle.instance.specs.Meaning.{problem-of}
+use Rattle.instance.specs.Reads.{Reads}
+use Rattle.c_api.specs.Notes.{Lengths, NoteFollows}
+
+-- check refuses with the number n
+pub data CheckFault (sheet plan : List ℕ) (n : ℕ) : Type 0 where
+  -- 1 to 7
+  unread : (e : Refusal) → decode sheet ≡ refused e → n ≡ number-of e → CheckFault sheet plan n
+  -- 8: "plan bytes not 6 for each piece"
+  eight : (r : Reads sheet) → (length plan ≡ 6 * r .instance .«item_count» → ⊥) → n ≡ 8 → CheckFault sheet plan n
+
+-- search refuses with the number n
+pub data SearchFault (sheet note steps plan : List ℕ) (n : ℕ) : Type 0 where
+  -- 1 to 7
+  unread : (e : Refusal) → decode sheet ≡ refused e → n ≡ number-of e → SearchFault sheet note steps plan n
+  -- 8: "plan bytes not 6 for each piece; note bytes not 273; step bytes not 4"
+  eight : (r : Reads sheet) → (Lengths (r .instance) note steps plan → ⊥) → n ≡ 8 → SearchFault sheet note steps plan n
+  -- 10: "a note that doesn't follow its sheet"
+  ten : (r : Reads sheet) → Lengths (r .instance) note steps plan → (NoteFollows (problem-of (r .instance)) note → ⊥) → n ≡ 10
+      → SearchFault sheet note steps plan n

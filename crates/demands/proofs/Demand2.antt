@@ -1,0 +1,15 @@
+-- The mission's second demand holds.
+use Rattle.instance.proofs.RoundTrips.{written-read-back, read-written-again}
+use Rattle.packing.proofs.Decides.{decides}
+use Rattle.c_api.proofs.Plans.{yes-exactly, no-exactly}
+use Rattle.demands.specs.Demand2.{Demand2}
+
+pub demand2 : Demand2
+demand2 = record {
+  yes = λ i q. decides i q .yes;
+  no = λ i q. decides i q .no;
+  yes-on-bytes = yes-exactly;
+  no-on-bytes = no-exactly;
+  written-reads-back = written-read-back;
+  read-written-again = read-written-again;
+}

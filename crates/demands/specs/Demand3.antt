@@ -1,0 +1,60 @@
+-- The mission's third demand, as one theorem: the search, for every list of calls, in values and on bytes.
+use mathlib.Core.Bool.{true, false}
+use mathlib.Core.List.{List}
+use mathlib.Core.Logic.{_↔_}
+use mathlib.Core.Path.{_≡_}
+use Prim.Native.Nat.{ℕ, _+_, _≤_, _<_}
+use Rattle.model.specs.Lists.{Service, status-number, budget-sum, returned-code, returned-plan, Claim, AllRefused}
+use Rattle.model.specs.Machine.{Count, steps}
+use Rattle.model.specs.Problem.{Problem, Positions, Feasible}
+use Rattle.model.specs.Run.{machine, step-count}
+use Rattle.model.specs.Search as S
+use Rattle.refusal.specs.Numbers.{number-of}
+use Rattle.refusal.specs.declared.Refusal.{Refusal}
+use Rattle.records.specs.Bounds.{Bytes}
+use Rattle.records.specs.Reading.{refused}
+use Rattle.instance.specs.Decode.{decode}
+use Rattle.instance.specs.Meaning.{problem-of}
+use Rattle.instance.specs.Reads.{Reads, Full}
+use Rattle.instance.specs.Valid.{valid}
+use Rattle.instance.specs.declared.Instance.{Instance}
+use Rattle.packing.specs.Check.{check-answer, check-number}
+use Rattle.search.specs.Calls.{values}
+use Rattle.c_api.specs.Calls.{check-code}
+use Rattle.c_api.specs.Lists.{Call, on-bytes}
+
+-- what the one run answers: "0 spent, 1 placed, 2 none"
+abbrev pub run-number : Problem → ℕ
+run-number p = status-number (S.status (steps (machine p) (step-count p) S.opening))
+
+-- What holds of the calls C on a sheet that isn't refused and means the problem p; `check` is demand 2's, 1 for yes
+pub record Holds {C X P : Type 0} (p : Problem) (w : Service S.Checkpoint C X P) (check : P → ℕ) : Type 0 where
+  -- "Every sheet that isn't refused has a finite step count, that of document 01's search in one run."
+  pub count : Count (machine p) S.opening (step-count p)
+  pub one-count : (n : ℕ) → Count (machine p) S.opening n → n ≡ step-count p
+  -- "For ANY list of search calls that starts at a new note and hands each call the last note, with any allowances and refused calls among them:
+  -- the steps add up to the lesser of the count and the sum of allowances; a call answers spent exactly when the sum so far is below the count, and
+  -- otherwise as the one run does, with the same plan." (model Lists has the five sentences one by one)
+  pub every-list : (calls : List C) → Claim (machine p) w (step-count p) calls
+  -- "It answers none exactly when no placement exists." The run does, and otherwise it answers placed
+  pub run-none : (run-number p ≡ 2) ↔ ((q : Positions) → Feasible p q → ⊥)
+  pub run-placed : (run-number p ≡ 2 → ⊥) → run-number p ≡ 1
+  -- so does each call of a list: where it says none, no placement exists and no plan gets the check's yes;
+  pub none-means : (earlier : List C) (c : C) → returned-code w earlier c ≡ 2 → (q : Positions) → Feasible p q → ⊥
+  pub none-unchecked : (earlier : List C) (c : C) → returned-code w earlier c ≡ 2 → (q : P) → check q ≡ 1 → ⊥
+  -- where no placement exists, each call that is not refused and not spent says none;
+  pub nothing-fits : ((q : Positions) → Feasible p q → ⊥) → (earlier : List C) (c : C) → returned-code w earlier c < 100
+      → step-count p ≤ budget-sum w earlier + w .budget c → returned-code w earlier c ≡ 2
+  -- and where it says placed, the check says yes to the very plan that it returned or left
+  pub placed-checks : (earlier : List C) (c : C) → returned-code w earlier c ≡ 1 → check (returned-plan w earlier c) ≡ 1
+
+pub record Demand3 : Type 0 where
+  -- in values: a sheet value that gets no 9. Full: its arrays have ten and ninety entries, as every value of the type has
+  pub in-values : (i : Instance) → valid i ≡ true → Full i → Holds (problem-of i) (values i) (λ q. check-number (check-answer i q))
+  -- on bytes: a sheet that reads. Bytes: its elements are below 256, as in every slice of u8
+  pub on-the-screen : (sheet : List ℕ) → Bytes sheet → (r : Reads sheet)
+      → Holds (problem-of (r .instance)) (on-bytes sheet (r .instance)) (check-code sheet)
+  -- "on a refused sheet every call is refused, and the note stays the opening one" (document 01)
+  pub refused-in-values : (i : Instance) → valid i ≡ false → (calls : List ℕ) → AllRefused (values i) 109 calls
+  pub refused-on-the-screen : (sheet : List ℕ) (e : Refusal) → decode sheet ≡ refused e → (i : Instance) (calls : List Call)
+      → AllRefused (on-bytes sheet i) (100 + number-of e) calls
