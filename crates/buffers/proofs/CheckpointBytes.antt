@@ -5,10 +5,12 @@ use mathlib.Core.Path.{_≡_, refl, sym, ap, _∙_}
 use Prim.Native.Nat.{ℕ, zero, suc, _+_, _*_, _/_, _%_, _≤_, _<_}
 use native.Mathlib.Omega.{arith}
 use native.Mathlib.Numerals.{add-one}
-use borrow.Author.Tests.{eq-eqb, ne-eqb}
+use borrow.Author.Tests.{eq-eqb, ne-eqb, eqb-true}
 use lib.Dec.{ltb, eqb}
 use lib.ListN.{length, getD, take, drop, set, length-drop, drop-of-length-le}
 use lib.Seq.{sets, drop-cons, drop-append-add, getD-drop, take-all}
+use Rattle.model.proofs.Below.{and-both}
+use Rattle.records.specs.Bounds.{Bytes}
 use Rattle.records.proofs.Writers.{sets-append}
 use Rattle.instance.specs.declared.Checkpoint.{Checkpoint}
 use Rattle.instance.specs.declared.Status.{Status}
@@ -91,3 +93,28 @@ pub branches-read : (note bs : List ℕ) → length note ≡ 273 → length bs �
 branches-read note bs h l =
     let d : length (drop 3 note) ≡ 270 = simp length-drop (omega arith) in
     rw (take-all 270 (drop 3 note) (omega arith)) (fills (drop 3 note) bs (l ∙ sym d))
+
+-- Bytes that hold a checkpoint are its bytes
+
+pub zero-at : (s : List ℕ) → all-zero s ≡ true → (k : ℕ) → getD s k 0 ≡ 0
+unfolding all-zero
+zero-at [] h k = refl
+zero-at (b ∷ s) h zero = eqb-true _ _ (and-both (eqb b 0) (all-zero s) h .0)
+zero-at (b ∷ s) h (suc k) = zero-at s (and-both (eqb b 0) (all-zero s) h .1) k
+
+status-again : (b : ℕ) → b < 3 → status-byte (status-of b) ≡ b
+status-again zero h = refl
+status-again (suc zero) h = refl
+status-again (suc (suc zero)) h = refl
+status-again (suc (suc (suc b))) h = absurd (omega arith)
+
+pub bytes-again : (note : List ℕ) → Bytes note → length note ≡ 273 → getD note 0 0 < 3 → checkpoint-bytes (checkpoint-in note) ≡ note
+unfolding checkpoint-bytes checkpoint-in
+bytes-again [] β l h = absurd (omega arith)
+bytes-again (s ∷ []) β l h = absurd (omega arith)
+bytes-again (s ∷ a ∷ []) β l h = absurd (omega arith)
+bytes-again (s ∷ a ∷ b ∷ bs) β l h =
+    let x : a < 256 = β 1 in
+    let m : (a + 256 * b) % 256 ≡ a = omega arith in
+    let d : (a + 256 * b) / 256 ≡ b = omega arith in
+    rw (status-again s h, m, d)

@@ -9,8 +9,10 @@ use lib.ListN.{length}
 use borrow.Author.Tests.{ne-eqb}
 use Rattle.model.proofs.Lists.{all-refused}
 use Rattle.model.specs.Calls as C
-use Rattle.model.specs.Lists.{Reaches, refused, served, Served, Serves, AllRefused}
+use Rattle.model.specs.Lists.{Reaches, call-refused, call-served, Served, Serves, AllRefused}
 use Rattle.model.specs.Machine.{steps, taken}
+use Rattle.model.specs.Admits.{Sound}
+use Rattle.model.specs.Problem.{Problem}
 use Rattle.model.specs.Run.{look, machine, plan-at, search}
 use Rattle.model.specs.Search as S
 use Rattle.refusal.specs.Numbers.{number-of}
@@ -22,57 +24,59 @@ use Rattle.instance.specs.Meaning.{problem-of}
 use Rattle.instance.specs.Reads.{Reads}
 use Rattle.instance.specs.declared.Instance.{Instance}
 use Rattle.search.proofs.Checkpoints.{checkpoint-back}
-use Rattle.search.specs.Checkpoints.{checkpoint-of, value-of}
+use Rattle.search.proofs.Claim.{following-so, short, held-follows}
+use Rattle.search.specs.Checkpoints.{value-of}
 use Rattle.search.specs.Results as R
 use Rattle.search.specs.declared.SearchResult.{SearchResult}
 use Rattle.buffers.proofs.Bytes.{steps-back}
-use Rattle.buffers.specs.Checkpoints.{checkpoint-in}
 use Rattle.c_api.specs.Calls.{lengths-fit, note-follows, instance-searched, search-call, search-code}
 use Rattle.c_api.specs.Lists.{Lent, Call, own, other, on-bytes}
 use Rattle.c_api.specs.Notes.{note-bytes}
 use Rattle.c_api.proofs.Faults.{untouched}
-use Rattle.c_api.proofs.Notes.{opening-zeros, note-length, note-holds, note-back, short, held-follows}
-use Rattle.c_api.proofs.Outcomes.{wrong-lengths}
+use Rattle.c_api.proofs.Notes.{opening-zeros, note-length, note-holds, note-back}
 use Rattle.c_api.proofs.Plans.{reads-sound}
 
 module _ (sheet : List ℕ) (bytes : Bytes sheet) (r : Reads sheet) where
+  abbrev i : Instance
+  i = r .instance
+
+  abbrev p : Problem
+  p = problem-of (r .instance)
+
+  sound : Sound p
+  sound = reads-sound sheet bytes r
+
   module _ (c : Lent) (κ : S.Checkpoint) where
-    -- the call where the buffers have the right lengths: the model's
-    right-lengths : S.Follows (look (problem-of (r .instance))) κ → lengths-fit (r .instance) 273 (length (c .steps)) (length (c .plan)) ≡ true
-        → search-call sheet (note-bytes κ) (c .allowance) (c .steps) (c .plan)
-        ≡ R.result-of (problem-of (r .instance)) (search (problem-of (r .instance)) (c .allowance) κ)
+    -- the call on the note bytes of a checkpoint
+    abbrev call : SearchResult
+    call = search-call sheet (note-bytes κ) (c .allowance) (c .steps) (c .plan)
+
+    -- where the buffers have the right lengths it is the model's
+    right-lengths : S.Follows (look p) κ → lengths-fit i 273 (length (c .steps)) (length (c .plan)) ≡ true → call ≡ R.result-of p (search p (c .allowance) κ)
     unfolding search-call instance-searched note-follows
     right-lengths f h =
-        let σ = reads-sound sheet bytes r in
-        rw (
-          r .reads,
-          note-length κ,
-          h,
-          note-holds κ,
-          note-back κ,
-          held-follows (problem-of (r .instance)) σ κ f,
-          checkpoint-back κ (short (problem-of (r .instance)) σ κ f),
-        )
+        let g = following-so p (value-of κ) .1 (held-follows p sound κ f) in
+        rw (r .reads, note-length κ, h, note-holds κ, note-back κ, g, checkpoint-back κ (short p sound κ f))
 
-    -- and where one has a wrong length
-    wrong-length : lengths-fit (r .instance) 273 (length (c .steps)) (length (c .plan)) ≡ false
+    -- and where one has a wrong length it is refused
+    wrong-length : lengths-fit i 273 (length (c .steps)) (length (c .plan)) ≡ false
         → 100 ≤ search-code sheet (note-bytes κ) (c .allowance) (c .steps) (c .plan)
     unfolding search-call instance-searched R.refused
     wrong-length h = rw (r .reads, note-length κ, h) (omega arith)
 
-    reaches : (t : ℕ) (μ : S.Checkpoint) → t ≡ taken (machine (problem-of (r .instance))) (c .allowance) κ
-        → search-call sheet (note-bytes κ) (c .allowance) (c .steps) (c .plan)
-        ≡ R.result-of (problem-of (r .instance)) (record { answer = C.answer (machine (problem-of (r .instance))) (plan-at (problem-of (r .instance))) μ; steps = t; checkpoint = μ })
-        → Reaches (machine (problem-of (r .instance))) (on-bytes sheet (r .instance)) (own c) κ μ
+    reaches : (t : ℕ) (μ : S.Checkpoint) → t ≡ taken (machine p) (c .allowance) κ
+        → call ≡ R.result-of p (record { answer = C.answer (machine p) (plan-at p) μ; steps = t; checkpoint = μ })
+        → Reaches (machine p) (on-bytes sheet i) (own c) κ μ
     unfolding R.result-of note-bytes
     reaches t (S.open-at path) d e = record { code = rw e; next = rw e; steps = rw (e, steps-back t) d; plan = rw e }
     reaches t S.infeasible d e = record { code = rw e; next = rw e; steps = rw (e, steps-back t) d; plan = rw e }
     reaches t (S.packed-at path) d e = record { code = rw e; next = rw e; steps = rw (e, steps-back t) d; plan = rw (r .reads, e) }
 
-    by-lengths : S.Follows (look (problem-of (r .instance))) κ → (b : Bool) → lengths-fit (r .instance) 273 (length (c .steps)) (length (c .plan)) ≡ b
-        → Served (machine (problem-of (r .instance))) (on-bytes sheet (r .instance)) (own c) κ
-    by-lengths f true h = served h (reaches _ (steps (machine (problem-of (r .instance))) (c .allowance) κ) refl (right-lengths f h))
-    by-lengths f false h = refused h (wrong-length h) (untouched sheet (note-bytes κ) (c .steps) (c .plan) (c .allowance) (wrong-length h) .0)
+    by-lengths : S.Follows (look p) κ → (b : Bool) → lengths-fit i 273 (length (c .steps)) (length (c .plan)) ≡ b
+        → Served (machine p) (on-bytes sheet i) (own c) κ
+    by-lengths f true h = call-served h (reaches _ (steps (machine p) (c .allowance) κ) refl (right-lengths f h))
+    by-lengths f false h =
+        call-refused h (wrong-length h) (untouched sheet (note-bytes κ) (c .steps) (c .plan) (c .allowance) (wrong-length h) .0)
 
   -- a call that is lent a note of another length
   other-length : (note : List ℕ) → (length note ≡ 273 → ⊥) → (c : Lent) → 100 ≤ search-code sheet note (c .allowance) (c .steps) (c .plan)
@@ -80,13 +84,12 @@ module _ (sheet : List ℕ) (bytes : Bytes sheet) (r : Reads sheet) where
   other-length note l c = rw (r .reads, ne-eqb (length note) 273 l) (omega arith)
 
   -- what is asked of one call holds of `hallplan_search`
-  pub bytes-serve : Serves (machine (problem-of (r .instance))) (on-bytes sheet (r .instance)) (S.Follows (look (problem-of (r .instance))))
+  pub bytes-serve : Serves (machine p) (on-bytes sheet i) (S.Follows (look p))
   bytes-serve = record { opens = sym opening-zeros; calls = calls }
     where
-      calls : (c : Call) (κ : S.Checkpoint) → S.Follows (look (problem-of (r .instance))) κ
-          → Served (machine (problem-of (r .instance))) (on-bytes sheet (r .instance)) c κ
-      calls (own c) κ f = by-lengths c κ f (lengths-fit (r .instance) 273 (length (c .steps)) (length (c .plan))) refl
-      calls (other note l c) κ f = refused refl (other-length note l c) refl
+      calls : (c : Call) (κ : S.Checkpoint) → S.Follows (look p) κ → Served (machine p) (on-bytes sheet i) c κ
+      calls (own c) κ f = by-lengths c κ f (lengths-fit i 273 (length (c .steps)) (length (c .plan))) refl
+      calls (other note l c) κ f = call-refused refl (other-length note l c) refl
 
 -- "on a refused sheet every call is refused, and the note stays the opening one"
 pub every-call-refused : (sheet : List ℕ) (e : Refusal) → decode sheet ≡ Reading.refused e → (i : Instance) (calls : List Call)

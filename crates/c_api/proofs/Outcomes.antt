@@ -24,7 +24,8 @@ use Rattle.instance.specs.declared.Instance.{Instance}
 use Rattle.instance.specs.declared.Packing.{Packing}
 use Rattle.packing.specs.Check.{check-answer, check-number}
 use Rattle.packing.specs.declared.CheckAnswer.{CheckAnswer}
-use Rattle.search.proofs.Claim.{CallIs, invalid, not-following, searched, call-is}
+use Rattle.search.proofs.Checkpoints.{value-short}
+use Rattle.search.proofs.Claim.{short, CallIs, invalid, not-following, searched, call-is}
 use Rattle.search.proofs.Sound.{valid-sound}
 use Rattle.search.specs.Checkpoints.{checkpoint-of, value-of}
 use Rattle.search.specs.Results as R
@@ -61,12 +62,6 @@ module _ (i : Instance) (note : List ℕ) (budget steps plan : ℕ) where
 
 -- "A row of turns has at most .. entries": what is written of a result fits a note
 module _ (i : Instance) (v : valid i ≡ true) (long : length (i .items) ≡ 10) where
-  short : (κ : S.Checkpoint) → S.Follows (look (problem-of i)) κ → value-of κ .length ≤ 270
-  unfolding value-of
-  short (S.open-at path) f = T.path-270 (problem-of i) (valid-sound i v long) path f
-  short S.infeasible f = omega arith
-  short (S.packed-at path) f = T.path-270 (problem-of i) (valid-sound i v long) path (f .0)
-
   fits : (a : C.Answer Positions) (n : ℕ) → n ≤ 270 → PathFits (R.answer-of a) n
   fits C.budget-spent n h = h
   fits C.no-packing n h = h
@@ -76,13 +71,18 @@ module _ (i : Instance) (v : valid i ≡ true) (long : length (i .items) ≡ 10)
   unfolding R.refused R.result-of
   path-fits c budget = go (call-is i c budget)
     where
+      rewrite : {r : SearchResult} → R.search-result i c budget ≡ r → PathFits (r .answer) (r .checkpoint .length)
+          → PathFits (R.search-result i c budget .answer) (R.search-result i c budget .checkpoint .length)
+      rewrite e f = subst (λ (x : SearchResult). PathFits (x .answer) (x .checkpoint .length)) (sym e) f
+
       go : CallIs i c budget (R.search-result i c budget) → PathFits (R.search-result i c budget .answer) (R.search-result i c budget .checkpoint .length)
-      go (invalid d r) = subst (λ (x : SearchResult). PathFits (x .answer) (x .checkpoint .length)) (sym r) tt
-      go (not-following d n r) = subst (λ (x : SearchResult). PathFits (x .answer) (x .checkpoint .length)) (sym r) tt
+      go (invalid d r) = rewrite r tt
+      go (not-following d n r) = rewrite r tt
       go (searched d φ r) =
           let μ = steps (machine (problem-of i)) budget (checkpoint-of c) in
-          subst (λ (x : SearchResult). PathFits (x .answer) (x .checkpoint .length)) (sym r)
-          (fits (C.answer (machine (problem-of i)) (plan-at (problem-of i)) μ) (value-of μ .length) (short μ (T.reached-follows (problem-of i) budget (checkpoint-of c) (φ .follows))))
+          let f = T.reached-follows (problem-of i) budget (checkpoint-of c) (φ .follows) in
+          let s = value-short μ (short (problem-of i) (valid-sound i v long) μ f) in
+          rewrite r (fits (C.answer (machine (problem-of i)) (plan-at (problem-of i)) μ) (value-of μ .length) s)
 
 -- the check of a plan of the right length
 pub checked-is : (i : Instance) (plan : List ℕ) (q : Packing) (r : CheckAnswer) → length plan ≡ 6 * i .«item_count» → q ≡ packing-in plan → r ≡ check-answer i q

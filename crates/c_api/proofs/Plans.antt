@@ -33,7 +33,7 @@ use Rattle.search.specs.Results.{packing-of}
 use Rattle.buffers.proofs.Bytes.{packing-length, packing-back}
 use Rattle.buffers.specs.Bytes.{packing-in}
 use Rattle.c_api.specs.Calls.{plan-fits, checked-if, checked, check-code}
-use Rattle.c_api.specs.Faults.{CheckFault}
+use Rattle.c_api.specs.Faults.{CheckBytesFault}
 use Rattle.c_api.specs.Lists.{plan-bytes}
 use Rattle.c_api.specs.Plans.{Checkable, Fits}
 
@@ -91,18 +91,18 @@ module _ (sheet plan : List ℕ) (bytes : Bytes sheet) where
       go (inr (e, d)) = unread e d (by-sheet sheet plan e d)
 
   -- "nothing else is refused"
-  pub check-refuses : (n : ℕ) → (check-code sheet plan ≡ 100 + n) ↔ CheckFault sheet plan n
+  pub check-refuses : (n : ℕ) → (check-code sheet plan ≡ 100 + n) ↔ CheckBytesFault sheet plan n
   check-refuses n = (fore check-is, back)
     where
-      fore : CheckIs sheet plan (check-code sheet plan) → check-code sheet plan ≡ 100 + n → CheckFault sheet plan n
-      fore (unread x d k) e = CheckFault.unread x d (omega arith)
-      fore (wrong-length r h k) e = CheckFault.eight r h (omega arith)
+      fore : CheckIs sheet plan (check-code sheet plan) → check-code sheet plan ≡ 100 + n → CheckBytesFault sheet plan n
+      fore (unread x d k) e = CheckBytesFault.unread x d (omega arith)
+      fore (wrong-length r h k) e = CheckBytesFault.eight r h (omega arith)
       fore (says-yes c f k) e = absurd (omega arith)
       fore (says-no c f k) e = absurd (omega arith)
 
-      back : CheckFault sheet plan n → check-code sheet plan ≡ 100 + n
-      back (CheckFault.unread x d e) = rw e (by-sheet sheet plan x d)
-      back (CheckFault.eight r h e) = rw e (by-length sheet plan r h)
+      back : CheckBytesFault sheet plan n → check-code sheet plan ≡ 100 + n
+      back (CheckBytesFault.unread x d e) = rw e (by-sheet sheet plan x d)
+      back (CheckBytesFault.eight r h e) = rw e (by-length sheet plan r h)
 
   one-fit : (c d : Checkable sheet plan) → Fits c → Fits d
   one-fit c d f =

@@ -12,18 +12,18 @@ use Rattle.instance.specs.Reads.{Reads}
 use Rattle.c_api.specs.Notes.{Lengths, NoteFollows}
 
 -- check refuses with the number n
-pub data CheckFault (sheet plan : List ℕ) (n : ℕ) : Type 0 where
+pub data CheckBytesFault (sheet plan : List ℕ) (n : ℕ) : Type 0 where
   -- 1 to 7
-  unread : (e : Refusal) → decode sheet ≡ refused e → n ≡ number-of e → CheckFault sheet plan n
+  unread : (e : Refusal) → decode sheet ≡ refused e → n ≡ number-of e → CheckBytesFault sheet plan n
   -- 8: "plan bytes not 6 for each piece"
-  eight : (r : Reads sheet) → (length plan ≡ 6 * r .instance .«item_count» → ⊥) → n ≡ 8 → CheckFault sheet plan n
+  eight : (r : Reads sheet) → (length plan ≡ 6 * r .instance .«item_count» → ⊥) → n ≡ 8 → CheckBytesFault sheet plan n
 
 -- search refuses with the number n
-pub data SearchFault (sheet note steps plan : List ℕ) (n : ℕ) : Type 0 where
+pub data SearchBytesFault (sheet note steps plan : List ℕ) (n : ℕ) : Type 0 where
   -- 1 to 7
-  unread : (e : Refusal) → decode sheet ≡ refused e → n ≡ number-of e → SearchFault sheet note steps plan n
+  unread : (e : Refusal) → decode sheet ≡ refused e → n ≡ number-of e → SearchBytesFault sheet note steps plan n
   -- 8: "plan bytes not 6 for each piece; note bytes not 273; step bytes not 4"
-  eight : (r : Reads sheet) → (Lengths (r .instance) note steps plan → ⊥) → n ≡ 8 → SearchFault sheet note steps plan n
+  eight : (r : Reads sheet) → (Lengths (r .instance) note steps plan → ⊥) → n ≡ 8 → SearchBytesFault sheet note steps plan n
   -- 10: "a note that doesn't follow its sheet"
   ten : (r : Reads sheet) → Lengths (r .instance) note steps plan → (NoteFollows (problem-of (r .instance)) note → ⊥) → n ≡ 10
-      → SearchFault sheet note steps plan n
+      → SearchBytesFault sheet note steps plan n

@@ -1,5 +1,5 @@
 -- The mission's third demand holds: for whoever serves calls by the search, so in values and on bytes.
-use mathlib.Core.Bool.{true}
+use mathlib.Core.Bool.{Bool, true, false}
 use mathlib.Core.List.{List, [], _∷_, _++_}
 use mathlib.Core.Logic.{_↔_}
 use mathlib.Core.Path.{_≡_, refl, sym, ap, _∙_}
@@ -18,6 +18,7 @@ use Rattle.records.specs.Bounds.{Bytes}
 use Rattle.instance.specs.Meaning.{problem-of, positions-of}
 use Rattle.instance.specs.Reads.{Reads, Full}
 use Rattle.instance.specs.Valid.{valid}
+use Rattle.instance.specs.declared.Checkpoint.{Checkpoint}
 use Rattle.instance.specs.declared.Instance.{Instance}
 use Rattle.packing.proofs.Decides.{decides}
 use Rattle.packing.specs.Check.{check-answer, check-number}
@@ -25,9 +26,10 @@ use Rattle.search.proofs.Claim as Values
 use Rattle.search.proofs.Packing.{packing-back, feasible-same}
 use Rattle.search.proofs.Sound.{valid-sound}
 use Rattle.search.specs.Calls.{values}
-use Rattle.search.specs.Results.{packing-of}
+use Rattle.search.specs.Results.{answer-number, packing-of, search-result, nine}
 use Rattle.buffers.specs.Bytes.{packing-in}
 use Rattle.c_api.proofs.Claim as OnBytes
+use Rattle.c_api.proofs.Faults as Faults
 use Rattle.c_api.proofs.Plans.{reads-one, reads-sound, yes-exactly, placed-checks}
 use Rattle.c_api.specs.Calls.{check-code}
 use Rattle.c_api.specs.Lists.{on-bytes}
@@ -118,6 +120,17 @@ module _ (i : Instance) (v : valid i ≡ true) (φ : Full i) where
       holds (problem-of i) sound (values i) _ (Values.values-serve i v (φ .items-room)) value-checks
       (λ q y. (positions-of q, decides i q .yes .0 y .1))
 
+-- a call that says placed is on a valid instance
+placed-valid : (i : Instance) (c : Checkpoint) (budget : ℕ) → answer-number (search-result i c budget .answer) ≡ 1 → (b : Bool) → valid i ≡ b → valid i ≡ true
+placed-valid i c budget e true v = v
+placed-valid i c budget e false v = absurd (omega (arith, Values.refuses i c budget 9 .1 (nine v refl)))
+
+placed-fits : (i : Instance) → Full i → (c : Checkpoint) (budget : ℕ) → answer-number (search-result i c budget .answer) ≡ 1
+    → check-number (check-answer i (search-result i c budget .packing)) ≡ 1
+placed-fits i φ c budget e =
+    let v = placed-valid i c budget e (valid i) refl in
+    decides i (search-result i c budget .packing) .yes .1 (v, Values.placed-fits i v (φ .items-room) c budget e)
+
 -- On bytes
 
 module _ (sheet : List ℕ) (bytes : Bytes sheet) (r : Reads sheet) where
@@ -135,6 +148,8 @@ pub demand3 : Demand3
 demand3 = record {
   in-values = in-values;
   on-the-screen = on-the-screen;
+  placed-fits = placed-fits;
+  placed-bytes-fit = Faults.placed-fits;
   refused-in-values = Values.every-call-refused;
   refused-on-the-screen = OnBytes.every-call-refused;
 }

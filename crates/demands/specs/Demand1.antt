@@ -28,10 +28,9 @@ use Rattle.instance.specs.declared.ReadAnswer.the-variants as Reading
 use Rattle.instance.specs.declared.WriteAnswer.the-variants as Writing
 use Rattle.packing.specs.Check.{check-answer, check-number}
 use Rattle.packing.specs.Clearance.{clearance-between, clearance-answer, clearance-values, ClearanceFault}
-use Rattle.search.specs.Results.{answer-number, search-result}
-use Rattle.search.specs.Results as Values
+use Rattle.search.specs.Results.{answer-number, search-result, SearchFault}
 use Rattle.c_api.specs.Calls.{check-code, search-code, note-after, steps-after, plan-after}
-use Rattle.c_api.specs.Faults.{CheckFault, SearchFault}
+use Rattle.c_api.specs.Faults.{CheckBytesFault, SearchBytesFault}
 use Rattle.demands.specs.Functions.{Functions}
 
 pub record Demand1 : Type 2 where
@@ -39,10 +38,10 @@ pub record Demand1 : Type 2 where
   pub functions : (M : Type 1) → Functions M
   -- "A faulty one gets the numbered refusal of document 01's table, in that order; nothing else is refused;" On bytes, check and search return 100
   -- plus n exactly when the table has n, and otherwise 0 or 1, and 0, 1 or 2
-  pub check-bytes-refuses : (sheet plan : List ℕ) → Bytes sheet → (n : ℕ) → (check-code sheet plan ≡ 100 + n) ↔ CheckFault sheet plan n
+  pub check-bytes-refuses : (sheet plan : List ℕ) → Bytes sheet → (n : ℕ) → (check-code sheet plan ≡ 100 + n) ↔ CheckBytesFault sheet plan n
   pub check-bytes-answers : (sheet plan : List ℕ) → (check-code sheet plan ≤ 1) ⊎ (100 ≤ check-code sheet plan)
   pub search-bytes-refuses : (sheet note steps plan : List ℕ) (allowance : ℕ) → Bytes sheet → Bytes note → (n : ℕ)
-      → (search-code sheet note allowance steps plan ≡ 100 + n) ↔ SearchFault sheet note steps plan n
+      → (search-code sheet note allowance steps plan ≡ 100 + n) ↔ SearchBytesFault sheet note steps plan n
   pub search-bytes-answers : (sheet note steps plan : List ℕ) (allowance : ℕ)
       → let code = search-code sheet note allowance steps plan in (code ≤ 2) ⊎ (100 ≤ code)
   -- "a refusal leaves lent buffers untouched."
@@ -62,7 +61,7 @@ pub record Demand1 : Type 2 where
   pub check-refuses : (i : Instance) (q : Packing) (n : ℕ) → (check-number (check-answer i q) ≡ 100 + n) ↔ ((valid i ≡ false) × (n ≡ 9))
   -- Search in values: 9, then 10; "a refused search hands its note back with 0 steps"
   pub search-refuses : (i : Instance) (c : Checkpoint) (budget n : ℕ)
-      → (answer-number (search-result i c budget .answer) ≡ 100 + n) ↔ Values.SearchFault i c n
+      → (answer-number (search-result i c budget .answer) ≡ 100 + n) ↔ SearchFault i c n
   pub handed-back : (i : Instance) (c : Checkpoint) (budget : ℕ) → let r = search-result i c budget in
       100 ≤ answer-number (r .answer) → (r .checkpoint ≡ c) × (r .steps ≡ 0) × (r .packing ≡ origin-packing)
   -- Clearance: 9, then 5, then 8, each with place 0; otherwise the number

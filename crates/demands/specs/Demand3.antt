@@ -17,10 +17,12 @@ use Rattle.instance.specs.Decode.{decode}
 use Rattle.instance.specs.Meaning.{problem-of}
 use Rattle.instance.specs.Reads.{Reads, Full}
 use Rattle.instance.specs.Valid.{valid}
+use Rattle.instance.specs.declared.Checkpoint.{Checkpoint}
 use Rattle.instance.specs.declared.Instance.{Instance}
 use Rattle.packing.specs.Check.{check-answer, check-number}
 use Rattle.search.specs.Calls.{values}
-use Rattle.c_api.specs.Calls.{check-code}
+use Rattle.search.specs.Results.{answer-number, search-result}
+use Rattle.c_api.specs.Calls.{check-code, search-code, plan-after}
 use Rattle.c_api.specs.Lists.{Call, on-bytes}
 
 -- what the one run answers: "0 spent, 1 placed, 2 none"
@@ -54,6 +56,11 @@ pub record Demand3 : Type 0 where
   -- on bytes: a sheet that reads. Bytes: its elements are below 256, as in every slice of u8
   pub on-the-screen : (sheet : List ℕ) → Bytes sheet → (r : Reads sheet)
       → Holds (problem-of (r .instance)) (on-bytes sheet (r .instance)) (check-code sheet)
+  -- and whatever note is handed in, of a list or not: where a call answers placed, the check says yes to its plan
+  pub placed-fits : (i : Instance) → Full i → (c : Checkpoint) (budget : ℕ) → answer-number (search-result i c budget .answer) ≡ 1
+      → check-number (check-answer i (search-result i c budget .packing)) ≡ 1
+  pub placed-bytes-fit : (sheet note steps plan : List ℕ) (allowance : ℕ) → Bytes sheet → Bytes note → search-code sheet note allowance steps plan ≡ 1
+      → check-code sheet (plan-after sheet note allowance steps plan) ≡ 1
   -- "on a refused sheet every call is refused, and the note stays the opening one" (document 01)
   pub refused-in-values : (i : Instance) → valid i ≡ false → (calls : List ℕ) → AllRefused (values i) 109 calls
   pub refused-on-the-screen : (sheet : List ℕ) (e : Refusal) → decode sheet ≡ refused e → (i : Instance) (calls : List Call)

@@ -10,7 +10,7 @@ use native.Mathlib.Omega.{arith}
 use lib.Dec.{ltb}
 use borrow.Author.Tests.{lt-ltb, le-ltb}
 use Rattle.model.specs.Machine.{Status, running, failed, succeeded, Machine, Running, Ended, steps, Count, Invariant}
-use Rattle.model.specs.Lists.{Service, status-number, held-from, held, added, budget-sum, returned-code, returned-plan, plan-by, Right, Claim, Served, refused, served, Serves, AllRefused}
+use Rattle.model.specs.Lists.{Service, status-number, held-from, held, added, budget-sum, returned-code, returned-plan, plan-by, Right, Claim, Served, call-refused, call-served, Serves, AllRefused}
 use Rattle.model.proofs.Below.{clash}
 use Rattle.model.proofs.Machine.{steps-add, past-count, count-later, taken-is, steps-keep}
 
@@ -72,10 +72,10 @@ module _ {S C X P : Type 0} (M : Machine S) (Follows : S → Type 0) (ι : Invar
   from (c ∷ cs) s = go (call-at s c) (λ t. from cs t)
     where
       go : Served M w c (at s) → ((t : ℕ) → From t (w .hold (at t)) cs) → From s (w .hold (at s)) (c ∷ cs)
-      go (refused a l e) ih =
+      go (call-refused a l e) ih =
           in-front c cs s (w .hold (at s)) (w .hold (at s)) 0 0 e (none-counts _ (w .budget c) l) (none-counts _ (w .steps c (w .hold (at s))) l) (omega arith)
           (subst (λ (t : ℕ). From (s + 0) (w .hold (at t)) cs) (add-zero s) (ih (s + 0)))
-      go (served a γ) ih =
+      go (call-served a γ) ih =
           let l : w .code c (w .hold (at s)) < 100 = omega (arith, γ .code, number-small (M .status (steps M (w .budget c) (at s)))) in
           let m = taken-is M (w .budget c) (count - s) (at s) (count-later M s count (M .opening) k) in
           in-front c cs s (w .hold (at s)) (w .hold (at (s + w .budget c))) (w .budget c) (w .steps c (w .hold (at s)))
@@ -125,8 +125,8 @@ module _ {S C X P : Type 0} (M : Machine S) (Follows : S → Type 0) (ι : Invar
     either = go (call-at (budget-sum w earlier) c)
       where
         go : Served M w c (at (budget-sum w earlier)) → Either
-        go (refused a l e) = not-served a (rw (returned-code, held-is earlier) l) (rw (held-is earlier) e)
-        go (served a γ) =
+        go (call-refused a l e) = not-served a (rw (returned-code, held-is earlier) l) (rw (held-is earlier) e)
+        go (call-served a γ) =
             let μ = later-at (budget-sum w earlier) (w .budget c) in
             answered (record {
               admitted = a;

@@ -106,8 +106,8 @@ module _ {S C X P : Type 0} (M : Machine S) (w : Service S C X P) where
 
   -- What is asked of one call: it is refused and leaves the note, or it takes the machine's steps
   pub data Served (c : C) (κ : S) : Type 0 where
-    refused : w .admitted c ≡ false → 100 ≤ w .code c (w .hold κ) → w .next c (w .hold κ) ≡ w .hold κ → Served c κ
-    served : w .admitted c ≡ true → Reaches c κ (steps M (w .budget c) κ) → Served c κ
+    call-refused : w .admitted c ≡ false → 100 ≤ w .code c (w .hold κ) → w .next c (w .hold κ) ≡ w .hold κ → Served c κ
+    call-served : w .admitted c ≡ true → Reaches c κ (steps M (w .budget c) κ) → Served c κ
 
   -- and of all calls, on the states that follow the instance
   pub record Serves (Follows : S → Type 0) : Type 0 where

@@ -8,14 +8,15 @@ use native.Mathlib.Numerals.{add-one}
 use native.Mathlib.Omega.{arith}
 use lib.Dec.{leb, ltb}
 use lib.ListN.{length, getD, set, replicate, length-set, length-replicate}
-use lib.Seq.{getD-set-same, getD-set-other, set-getD, set-set, set-out}
-use borrow.Author.Tests.{le-leb, lt-ltb, le-ltb, leb-true, ltb-true}
+use lib.Seq.{ext-getD, getD-set-same, getD-set-other, set-getD, set-set, set-out}
+use borrow.Author.Tests.{eqb-true, le-leb, lt-ltb, le-ltb, leb-true, ltb-true}
 use Rattle.model.proofs.Below.{and-intro, and-both, all-at, all-of}
 use Rattle.model.specs.Below.{all-below}
 use Rattle.model.specs.Branching.{Branch, first, second}
 use Rattle.model.specs.Search as S
 use Rattle.instance.specs.declared.Checkpoint.{Checkpoint}
 use Rattle.instance.specs.declared.Status.{Status}
+use Rattle.instance.specs.declared.Status.the-variants.{Open, Infeasible, Packed}
 use Rattle.search.specs.Checkpoints.{branch-of, branch-number, path-of, with-status, checkpoint-of, length-allowed, all-branches, well-formed, Bits, branches-of, value-of}
 use Rattle.search.specs.Standing.{without-seconds, Holds}
 
@@ -93,6 +94,12 @@ Short (S.open-at path) = length path ≤ 270
 Short S.infeasible = Unit {0}
 Short (S.packed-at path) = length path ≤ 270
 
+pub value-short : (κ : S.Checkpoint) → Short κ → value-of κ .length ≤ 270
+unfolding value-of
+value-short (S.open-at path) h = h
+value-short S.infeasible h = omega arith
+value-short (S.packed-at path) h = h
+
 -- a checkpoint comes back from its value, which is well-formed
 pub checkpoint-back : (κ : S.Checkpoint) → Short κ → checkpoint-of (value-of κ) ≡ κ
 unfolding checkpoint-of value-of
@@ -111,18 +118,56 @@ pub checkpoint-as : (c : Checkpoint) {s : Status} → c .status ≡ s → checkp
 unfolding checkpoint-of
 checkpoint-as c e = ap (λ (s : Status). with-status s (path-of (c .length) (c .branches))) e
 
--- what a well-formed value says of its branches
-pub well-formed-bits : (c : Checkpoint) → well-formed c ≡ true → Bits (c .length) (c .branches)
+-- what a well-formed value says of its length and its branches
+well-formed-says : (c : Checkpoint) → well-formed c ≡ true
+    → (c .length ≤ 270) × (length-allowed (c .status) (c .length) ≡ true) × (all-branches (c .length) (c .branches) ≡ true)
 unfolding well-formed
-well-formed-bits c h =
+well-formed-says c h =
     let rest = length-allowed (c .status) (c .length) && all-branches (c .length) (c .branches) in
     let (l, r) = and-both (leb (c .length) 270) rest h in
-    record { within = leb-true _ _ l; bits = and-both (length-allowed (c .status) (c .length)) (all-branches (c .length) (c .branches)) r .1 }
+    let (a, b) = and-both (length-allowed (c .status) (c .length)) (all-branches (c .length) (c .branches)) r in
+    (leb-true _ _ l, a, b)
+
+pub well-formed-bits : (c : Checkpoint) → well-formed c ≡ true → Bits (c .length) (c .branches)
+well-formed-bits c h = let (l, a, b) = well-formed-says c h in record { within = l; bits = b }
+
+pub well-formed-length : (c : Checkpoint) → well-formed c ≡ true → length-allowed (c .status) (c .length) ≡ true
+well-formed-length c h = let (l, a, b) = well-formed-says c h in a
 
 -- the first n branches, written anew
 pub path-again : (n : ℕ) (bs : List ℕ) → n ≤ 270 → path-of n (branches-of (path-of n bs)) ≡ path-of n bs
 path-again n bs h =
     subst (λ (m : ℕ). path-of m (branches-of (path-of n bs)) ≡ path-of n bs) (path-length n bs) (path-back (path-of n bs) (rw path-length h))
+
+-- the array of a path that was read from an array
+again-at : (n : ℕ) (bs : List ℕ) → n ≤ 270 → (k : ℕ) → k < n → getD (branches-of (path-of n bs)) k 0 ≡ branch-number (branch-of (getD bs k 0))
+unfolding branches-of
+again-at zero bs l k h = absurd (omega arith)
+again-at (suc n) bs l k h = rw (path-length n bs) (go (ℕ-discrete k n) (λ j. again-at n bs (omega arith) k j))
+  where
+    go : Dec (k ≡ n) → (k < n → getD (branches-of (path-of n bs)) k 0 ≡ branch-number (branch-of (getD bs k 0)))
+        → getD (set (branches-of (path-of n bs)) n (branch-number (branch-of (getD bs n 0)))) k 0 ≡ branch-number (branch-of (getD bs k 0))
+    go (yes e) ih = rw e (getD-set-same (branches-of (path-of n bs)) n _ 0 (omega (arith, branches-length (path-of n bs))))
+    go (no d) ih = getD-set-other (branches-of (path-of n bs)) n k _ 0 d ∙ ih (omega arith)
+
+module _ (n : ℕ) (bs : List ℕ) (long : length bs ≡ 270) (β : Bits n bs) (past : (k : ℕ) → n ≤ k → getD bs k 0 ≡ 0) where
+  branches-again : branches-of (path-of n bs) ≡ bs
+  unfolding all-branches
+  branches-again = ext-getD 0 (branches-of (path-of n bs)) bs (branches-length (path-of n bs) ∙ sym long) (λ k h. go k (decLt k n))
+    where
+      go : (k : ℕ) → Dec (k < n) → getD (branches-of (path-of n bs)) k 0 ≡ getD bs k 0
+      go k (yes h) = again-at n bs (β .within) k h ∙ number-back (getD bs k 0) (ltb-true _ _ (all-at n _ (β .bits) k h))
+      go k (no h) = branches-past (path-of n bs) k (rw (path-length n bs) (omega arith)) ∙ sym (past k (omega arith))
+
+  -- the value of what a value holds is that value, where it is well-formed and 0 past its length
+  pub value-again : (s : Status) → length-allowed s n ≡ true → value-of (with-status s (path-of n bs)) ≡ record { status = s; length = n; branches = bs }
+  unfolding value-of
+  value-again Open a = rw (path-length n bs, branches-again)
+  value-again Packed a = rw (path-length n bs, branches-again)
+  value-again Infeasible a =
+      let z : n ≡ 0 = eqb-true n 0 a in
+      let e : branches-of [] ≡ bs = subst (λ (m : ℕ). branches-of (path-of m bs) ≡ bs) z branches-again in
+      rw (z, e)
 
 -- The array of a path within a call
 

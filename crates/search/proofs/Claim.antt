@@ -13,7 +13,7 @@ use Rattle.model.proofs.Theorems as T
 use Rattle.model.specs.Admits.{Sound}
 use Rattle.model.specs.Branching.{plan}
 use Rattle.model.specs.Calls as C
-use Rattle.model.specs.Lists.{Reaches, served, Serves, AllRefused}
+use Rattle.model.specs.Lists.{Reaches, call-served, Serves, AllRefused}
 use Rattle.model.specs.Machine.{steps, taken}
 use Rattle.model.specs.Problem.{Problem, Positions, Feasible}
 use Rattle.model.specs.Run.{look, machine, plan-at, search}
@@ -26,8 +26,7 @@ use Rattle.instance.specs.declared.Checkpoint.{Checkpoint}
 use Rattle.instance.specs.declared.Instance.{Instance}
 use Rattle.search.specs.Calls.{values}
 use Rattle.search.specs.Checkpoints.{checkpoint-of, well-formed, following, Following, branches-of, value-of}
-use Rattle.search.specs.Results.{answer-number, answer-of, packing-with, result-of, refused, followed-if, result-if, search-result, SearchFault, nine, ten}
-use Rattle.search.specs.declared.Answer.the-variants.{Packed, BudgetSpent}
+use Rattle.search.specs.Results.{answer-number, answer-of, packing-with, result-of, refused, result-if, search-result, SearchFault, nine, ten}
 use Rattle.search.specs.declared.SearchResult.{SearchResult}
 use Rattle.search.proofs.Checkpoints.{Short, checkpoint-back, value-well-formed}
 use Rattle.search.proofs.Packing.{packing-back, feasible-same}
@@ -46,6 +45,19 @@ following-so p c = (
       record { is-well-formed = w; follows = T.follows-exactly p (checkpoint-of c) .0 f }),
   (λ φ. and-intro (φ .is-well-formed) (T.follows-exactly p (checkpoint-of c) .1 (φ .follows))),
 )
+
+-- a checkpoint that follows has a path of at most 270 branches, and its value follows
+module _ (p : Problem) (σ : Sound p) (κ : S.Checkpoint) (f : S.Follows (look p) κ) where
+  pub short : Short κ
+  short = go κ f
+    where
+      go : (κ : S.Checkpoint) → S.Follows (look p) κ → Short κ
+      go (S.open-at path) f = T.path-270 p σ path f
+      go S.infeasible f = tt
+      go (S.packed-at path) f = T.path-270 p σ path (f .0)
+
+  pub held-follows : Following p (value-of κ)
+  held-follows = record { is-well-formed = value-well-formed κ short; follows = subst (S.Follows (look p)) (sym (checkpoint-back κ short)) f }
 
 -- an answer of the search is no refusal
 pub answered-small : (p : Problem) (r : C.Result S.Checkpoint Positions) → answer-number (result-of p r .answer) < 100
@@ -120,71 +132,68 @@ module _ (i : Instance) (v : valid i ≡ true) (long : length (i .items) ≡ 10)
   sound : Sound (problem-of i)
   sound = valid-sound i v long
 
-  short : (κ : S.Checkpoint) → S.Follows (look (problem-of i)) κ → Short κ
-  short (S.open-at path) f = T.path-270 (problem-of i) sound path f
-  short S.infeasible f = tt
-  short (S.packed-at path) f = T.path-270 (problem-of i) sound path (f .0)
+  abbrev p : Problem
+  p = problem-of i
 
   -- a call on the value of a checkpoint that follows is the model's
-  pub call-held : (κ : S.Checkpoint) → S.Follows (look (problem-of i)) κ → (budget : ℕ)
-      → search-result i (value-of κ) budget ≡ result-of (problem-of i) (search (problem-of i) budget κ)
+  call-held : (κ : S.Checkpoint) → S.Follows (look p) κ → (budget : ℕ) → search-result i (value-of κ) budget ≡ result-of p (search p budget κ)
   call-held κ f budget =
-      let e = checkpoint-back κ (short κ f) in
-      served-is i (value-of κ) budget v (record { is-well-formed = value-well-formed κ (short κ f); follows = subst (S.Follows (look (problem-of i))) (sym e) f })
-      ∙ ap (λ (μ : S.Checkpoint). result-of (problem-of i) (search (problem-of i) budget μ)) e
+      served-is i (value-of κ) budget v (held-follows p sound κ f)
+      ∙ ap (λ (μ : S.Checkpoint). result-of p (search p budget μ)) (checkpoint-back κ (short p sound κ f))
 
-  comes : (m t : ℕ) (κ μ : S.Checkpoint) → t ≡ taken (machine (problem-of i)) m κ
-      → search-result i (value-of κ) m ≡ result-of (problem-of i) (record { answer = C.answer (machine (problem-of i)) (plan-at (problem-of i)) μ; steps = t; checkpoint = μ })
-      → Reaches (machine (problem-of i)) (values i) m κ μ
+  reaches : (m t : ℕ) (κ μ : S.Checkpoint) → t ≡ taken (machine p) m κ
+      → search-result i (value-of κ) m ≡ result-of p (record { answer = C.answer (machine p) (plan-at p) μ; steps = t; checkpoint = μ })
+      → Reaches (machine p) (values i) m κ μ
   unfolding result-of
-  comes m t κ (S.open-at path) d e = record { code = rw e; next = rw e; steps = rw e d; plan = rw e }
-  comes m t κ S.infeasible d e = record { code = rw e; next = rw e; steps = rw e d; plan = rw e }
-  comes m t κ (S.packed-at path) d e = record { code = rw e; next = rw e; steps = rw e d; plan = rw e }
+  reaches m t κ (S.open-at path) d e = record { code = rw e; next = rw e; steps = rw e d; plan = rw e }
+  reaches m t κ S.infeasible d e = record { code = rw e; next = rw e; steps = rw e d; plan = rw e }
+  reaches m t κ (S.packed-at path) d e = record { code = rw e; next = rw e; steps = rw e d; plan = rw e }
 
   -- what is asked of one call holds of `search`
-  pub values-serve : Serves (machine (problem-of i)) (values i) (S.Follows (look (problem-of i)))
+  pub values-serve : Serves (machine p) (values i) (S.Follows (look p))
   values-serve = record {
     opens = sym opening-value;
-    calls = λ m κ f. served refl (comes m _ κ (steps (machine (problem-of i)) m κ) refl (call-held κ f m));
+    calls = λ m κ f. call-served refl (reaches m _ κ (steps (machine p) m κ) refl (call-held κ f m));
   }
 
   -- placed comes with a packing that fits, whatever checkpoint was handed in
-  pub packed-feasible : (c : Checkpoint) (budget : ℕ) → search-result i c budget .answer ≡ Packed
-      → Feasible (problem-of i) (positions-of (search-result i c budget .packing))
+  pub placed-fits : (c : Checkpoint) (budget : ℕ) → answer-number (search-result i c budget .answer) ≡ 1
+      → Feasible p (positions-of (search-result i c budget .packing))
   unfolding refused result-of
-  packed-feasible c budget e = go (call-is i c budget)
+  placed-fits c budget e = go (call-is i c budget)
     where
-      fits : (μ : S.Checkpoint) → S.Follows (look (problem-of i)) μ → answer-of (C.answer (machine (problem-of i)) (plan-at (problem-of i)) μ) ≡ Packed
-          → Feasible (problem-of i) (positions-of (packing-with (problem-of i) (C.answer (machine (problem-of i)) (plan-at (problem-of i)) μ)))
-      fits (S.open-at path) f e = let z : _≡_ {A = ℕ} 0 1 = cc in absurd (omega arith)
-      fits S.infeasible f e = let z : _≡_ {A = ℕ} 0 1 = cc in absurd (omega arith)
+      fits : (μ : S.Checkpoint) → S.Follows (look p) μ → answer-number (answer-of (C.answer (machine p) (plan-at p) μ)) ≡ 1
+          → Feasible p (positions-of (packing-with p (C.answer (machine p) (plan-at p) μ)))
+      fits (S.open-at path) f e = absurd (omega arith)
+      fits S.infeasible f e = absurd (omega arith)
       fits (S.packed-at path) f e =
-          feasible-same (problem-of i) sound (plan (problem-of i) path) _
-          (packing-back (problem-of i) (sound .limited) (plan (problem-of i) path)) (T.packed-feasible (problem-of i) sound path f)
+          feasible-same p sound (plan p path) _ (packing-back p (sound .limited) (plan p path)) (T.packed-feasible p sound path f)
 
-      go : CallIs i c budget (search-result i c budget) → Feasible (problem-of i) (positions-of (search-result i c budget .packing))
-      go (invalid d r) = let z : _≡_ {A = ℕ} 0 1 = cc (ap (λ (x : SearchResult). x .answer) r) in absurd (omega arith)
-      go (not-following d n r) = let z : _≡_ {A = ℕ} 0 1 = cc (ap (λ (x : SearchResult). x .answer) r) in absurd (omega arith)
+      go : CallIs i c budget (search-result i c budget) → Feasible p (positions-of (search-result i c budget .packing))
+      go (invalid d r) = absurd (omega (arith, code i c budget r))
+      go (not-following d n r) = absurd (omega (arith, code i c budget r))
       go (searched d φ r) =
-          subst (λ (x : SearchResult). Feasible (problem-of i) (positions-of (x .packing))) (sym r)
-          (fits (steps (machine (problem-of i)) budget (checkpoint-of c)) (T.reached-follows (problem-of i) budget (checkpoint-of c) (φ .follows)) (sym (ap (λ (x : SearchResult). x .answer) r) ∙ e))
+          let f = T.reached-follows p budget (checkpoint-of c) (φ .follows) in
+          subst (λ (x : SearchResult). Feasible p (positions-of (x .packing))) (sym r)
+          (fits (steps (machine p) budget (checkpoint-of c)) f (sym (code i c budget r) ∙ e))
 
 -- "spent has taken exactly the allowance"
-pub spent-exactly : (i : Instance) (c : Checkpoint) (budget : ℕ) → search-result i c budget .answer ≡ BudgetSpent → search-result i c budget .steps ≡ budget
+pub spent-exactly : (i : Instance) (c : Checkpoint) (budget : ℕ) → answer-number (search-result i c budget .answer) ≡ 0
+    → search-result i c budget .steps ≡ budget
 unfolding refused result-of
 spent-exactly i c budget e = go (call-is i c budget)
   where
-    is-spent : (a : C.Answer Positions) → answer-of a ≡ BudgetSpent → a ≡ C.budget-spent
+    is-spent : (a : C.Answer Positions) → answer-number (answer-of a) ≡ 0 → a ≡ C.budget-spent
     is-spent C.budget-spent e = refl
-    is-spent C.no-packing e = let z : _≡_ {A = ℕ} 0 1 = cc in absurd (omega arith)
-    is-spent (C.packing q) e = let z : _≡_ {A = ℕ} 0 1 = cc in absurd (omega arith)
+    is-spent C.no-packing e = absurd (omega arith)
+    is-spent (C.packing q) e = absurd (omega arith)
 
     go : CallIs i c budget (search-result i c budget) → search-result i c budget .steps ≡ budget
-    go (invalid d r) = let z : _≡_ {A = ℕ} 0 1 = cc (ap (λ (x : SearchResult). x .answer) r) in absurd (omega arith)
-    go (not-following d n r) = let z : _≡_ {A = ℕ} 0 1 = cc (ap (λ (x : SearchResult). x .answer) r) in absurd (omega arith)
+    go (invalid d r) = absurd (omega (arith, code i c budget r))
+    go (not-following d n r) = absurd (omega (arith, code i c budget r))
     go (searched d φ r) =
         ap (λ (x : SearchResult). x .steps) r
-        ∙ T.spent-exactly (problem-of i) budget (checkpoint-of c) (is-spent _ (sym (ap (λ (x : SearchResult). x .answer) r) ∙ e))
+        ∙ T.spent-exactly (problem-of i) budget (checkpoint-of c) (is-spent _ (sym (code i c budget r) ∙ e))
 
 -- "on a refused sheet every call is refused, and the note stays the opening one": 109 is 9's
 pub every-call-refused : (i : Instance) → valid i ≡ false → (budgets : List ℕ) → AllRefused (values i) 109 budgets
