@@ -29,7 +29,7 @@ use Rattle.search.specs.Checkpoints.{value-of}
 use Rattle.search.specs.Results as R
 use Rattle.search.specs.declared.SearchResult.{SearchResult}
 use Rattle.buffers.proofs.Bytes.{steps-back}
-use Rattle.c_api.specs.Calls.{lengths-fit, note-follows, instance-searched, search-call, search-code}
+use Rattle.c_api.specs.Calls.{lengths-fit, note-follows, instance-searched, searched, search-call, search-code}
 use Rattle.c_api.specs.Lists.{Lent, Call, own, other, on-bytes}
 use Rattle.c_api.specs.Notes.{note-bytes}
 use Rattle.c_api.proofs.Faults.{untouched}
@@ -78,25 +78,29 @@ module _ (sheet : List ℕ) (bytes : Bytes sheet) (r : Reads sheet) where
     by-lengths f false h =
         call-refused h (wrong-length h) (untouched sheet (note-bytes κ) (c .steps) (c .plan) (c .allowance) (wrong-length h) .0)
 
-  -- a call that is lent a note of another length
-  other-length : (note : List ℕ) → (length note ≡ 273 → ⊥) → (c : Lent) → 100 ≤ search-code sheet note (c .allowance) (c .steps) (c .plan)
-  unfolding search-call instance-searched R.refused
-  other-length note l c = rw (r .reads, ne-eqb (length note) 273 l) (omega arith)
-
   -- what is asked of one call holds of `hallplan_search`
   pub bytes-serve : Serves (machine p) (on-bytes sheet i) (S.Follows (look p))
   bytes-serve = record { opens = sym opening-zeros; calls = calls }
     where
-      calls : (c : Call) (κ : S.Checkpoint) → S.Follows (look p) κ → Served (machine p) (on-bytes sheet i) c κ
+      calls : (c : Call sheet) (κ : S.Checkpoint) → S.Follows (look p) κ → Served (machine p) (on-bytes sheet i) c κ
       calls (own c) κ f = by-lengths c κ f (lengths-fit i 273 (length (c .steps)) (length (c .plan))) refl
-      calls (other note l c) κ f = call-refused refl (other-length note l c) refl
+      calls (other note c h) κ f = call-refused refl h refl
+
+-- a call that is lent a note of another length is refused
+pub another-length : (sheet note : List ℕ) (c : Lent) → (length note ≡ 273 → ⊥) → 100 ≤ search-code sheet note (c .allowance) (c .steps) (c .plan)
+unfolding search-call instance-searched R.refused
+another-length sheet note c l = go (decode sheet)
+  where
+    go : (d : Reading.Read Instance) → 100 ≤ R.answer-number (searched d note (c .allowance) (length (c .steps)) (length (c .plan)) .answer)
+    go (Reading.refused e) = omega arith
+    go (Reading.got i at rest) = rw (ne-eqb (length note) 273 l) (omega arith)
 
 -- "on a refused sheet every call is refused, and the note stays the opening one"
-pub every-call-refused : (sheet : List ℕ) (e : Refusal) → decode sheet ≡ Reading.refused e → (i : Instance) (calls : List Call)
+pub every-call-refused : (sheet : List ℕ) (e : Refusal) → decode sheet ≡ Reading.refused e → (i : Instance) (calls : List (Call sheet))
     → AllRefused (on-bytes sheet i) (100 + number-of e) calls
 unfolding search-call R.refused
 every-call-refused sheet e d i = all-refused (on-bytes sheet i) (100 + number-of e) (λ c x. rw d) keeps
   where
-    keeps : (c : Call) (x : List ℕ) → on-bytes sheet i .next c x ≡ x
+    keeps : (c : Call sheet) (x : List ℕ) → on-bytes sheet i .next c x ≡ x
     keeps (own c) x = rw d
-    keeps (other note l c) x = refl
+    keeps (other note c h) x = refl

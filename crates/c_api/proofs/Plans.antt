@@ -1,7 +1,7 @@
 -- What check says of sheet and plan bytes, and that it says yes to the plan bytes of a packing that fits.
 use mathlib.Core.Bool.{Bool, true, false}
 use mathlib.Core.List.{List}
-use mathlib.Core.Logic.{_↔_, _⊎_, inl, inr}
+use mathlib.Core.Logic.{_↔_, _⊎_, inl, inr, ⊎-elim}
 use mathlib.Core.Path.{_≡_, refl, sym, ap, _∙_, subst}
 use Prim.Native.Nat.{ℕ, _+_, _*_, _≤_, _<_}
 use native.Mathlib.Omega.{arith}
@@ -17,7 +17,6 @@ use Rattle.refusal.specs.Numbers.{number-of}
 use Rattle.refusal.specs.declared.Refusal.{Refusal}
 use Rattle.records.specs.Bounds.{Bytes}
 use Rattle.records.specs.Reading.{refused}
-use Rattle.records.proofs.Cases.{never-both}
 use Rattle.instance.proofs.Inverse.{read-valid}
 use Rattle.instance.proofs.Lookup.{made-room}
 use Rattle.instance.proofs.Readings.{read-or-refused}
@@ -49,95 +48,68 @@ module _ (sheet : List ℕ) (bytes : Bytes sheet) (r : Reads sheet) where
   pub reads-sound : Sound (problem-of (r .instance))
   reads-sound = valid-sound (r .instance) reads-valid (made-room sheet bytes (r .reads))
 
--- Check by the table: it is refused with the sheet's number, or with 8, or says yes, or no
-
-data CheckIs (sheet plan : List ℕ) (n : ℕ) : Type 0 where
-  unread : (e : Refusal) → decode sheet ≡ refused e → n ≡ 100 + number-of e → CheckIs sheet plan n
-  wrong-length : (r : Reads sheet) → (length plan ≡ 6 * r .instance .«item_count» → ⊥) → n ≡ 108 → CheckIs sheet plan n
-  says-yes : (c : Checkable sheet plan) → Fits c → n ≡ 1 → CheckIs sheet plan n
-  says-no : (c : Checkable sheet plan) → (Fits c → ⊥) → n ≡ 0 → CheckIs sheet plan n
+-- Check by the table: a fault's number, or yes or no
 
 module _ (sheet plan : List ℕ) where
-  by-sheet : (e : Refusal) → decode sheet ≡ refused e → check-code sheet plan ≡ 100 + number-of e
+  fault-code : {n : ℕ} → CheckBytesFault sheet plan n → check-code sheet plan ≡ 100 + n
   unfolding check-code
-  by-sheet e d = rw d
+  fault-code (CheckBytesFault.unread e d k) = rw (d, k)
+  fault-code (CheckBytesFault.eight r h k) = rw (r .reads, ne-eqb _ _ h, k)
 
-  by-length : (r : Reads sheet) → (length plan ≡ 6 * r .instance .«item_count» → ⊥) → check-code sheet plan ≡ 108
-  unfolding check-code
-  by-length r h = rw (r .reads, ne-eqb _ _ h)
-
-module _ (sheet plan : List ℕ) (bytes : Bytes sheet) where
-  by-test : (c : Checkable sheet plan)
-      → check-code sheet plan ≡ check-number (answer-of true (feasible (problem-of (c .sheet-reads .instance)) (positions-of (packing-in plan))))
-  unfolding check-code check-answer
-  by-test c = rw (c .sheet-reads .reads, eq-eqb _ _ (c .plan-is), reads-valid sheet bytes (c .sheet-reads))
-
-  decided : (c : Checkable sheet plan) → CheckIs sheet plan (check-code sheet plan)
-  decided c = go (feasible (problem-of (c .sheet-reads .instance)) (positions-of (packing-in plan))) refl
+  -- there is a fault, or nothing is refused
+  by-table : ((n : ℕ) × CheckBytesFault sheet plan n) ⊎ Checkable sheet plan
+  by-table = go (read-or-refused sheet)
     where
-      go : (b : Bool) → feasible (problem-of (c .sheet-reads .instance)) (positions-of (packing-in plan)) ≡ b → CheckIs sheet plan (check-code sheet plan)
-      go true e = says-yes c (T.feasible-test _ _ .0 e) (by-test c ∙ rw e)
-      go false e = says-no c (λ f. clash (T.feasible-test _ _ .1 f) e) (by-test c ∙ rw e)
+      read : (r : Reads sheet) (b : Bool) → plan-fits (r .instance) (length plan) ≡ b → ((n : ℕ) × CheckBytesFault sheet plan n) ⊎ Checkable sheet plan
+      read r true h = inr (record { sheet-reads = r; plan-is = eqb-true _ _ h })
+      read r false h = inl (8, CheckBytesFault.eight r (λ l. clash (eq-eqb _ _ l) h) refl)
 
-  check-is : CheckIs sheet plan (check-code sheet plan)
-  check-is = go (read-or-refused sheet)
-    where
-      read : (r : Reads sheet) (b : Bool) → plan-fits (r .instance) (length plan) ≡ b → CheckIs sheet plan (check-code sheet plan)
-      read r true h = decided (record { sheet-reads = r; plan-is = eqb-true _ _ h })
-      read r false h = let n : length plan ≡ 6 * r .instance .«item_count» → ⊥ = λ l. clash (eq-eqb _ _ l) h in wrong-length r n (by-length sheet plan r n)
-
-      go : Reads sheet ⊎ ((e : Refusal) × (decode sheet ≡ refused e)) → CheckIs sheet plan (check-code sheet plan)
+      go : Reads sheet ⊎ ((e : Refusal) × (decode sheet ≡ refused e)) → ((n : ℕ) × CheckBytesFault sheet plan n) ⊎ Checkable sheet plan
       go (inl r) = read r (plan-fits (r .instance) (length plan)) refl
-      go (inr (e, d)) = unread e d (by-sheet sheet plan e d)
+      go (inr (e, d)) = inl (number-of e, CheckBytesFault.unread e d refl)
 
-  -- "nothing else is refused"
-  pub check-refuses : (n : ℕ) → (check-code sheet plan ≡ 100 + n) ↔ CheckBytesFault sheet plan n
-  check-refuses n = (fore check-is, back)
-    where
-      fore : CheckIs sheet plan (check-code sheet plan) → check-code sheet plan ≡ 100 + n → CheckBytesFault sheet plan n
-      fore (unread x d k) e = CheckBytesFault.unread x d (omega arith)
-      fore (wrong-length r h k) e = CheckBytesFault.eight r h (omega arith)
-      fore (says-yes c f k) e = absurd (omega arith)
-      fore (says-no c f k) e = absurd (omega arith)
+  module _ (bytes : Bytes sheet) where
+    by-test : (c : Checkable sheet plan)
+        → check-code sheet plan ≡ check-number (answer-of true (feasible (problem-of (c .sheet-reads .instance)) (positions-of (packing-in plan))))
+    unfolding check-code check-answer
+    by-test c = rw (c .sheet-reads .reads, eq-eqb _ _ (c .plan-is), reads-valid sheet bytes (c .sheet-reads))
 
-      back : CheckBytesFault sheet plan n → check-code sheet plan ≡ 100 + n
-      back (CheckBytesFault.unread x d e) = rw e (by-sheet sheet plan x d)
-      back (CheckBytesFault.eight r h e) = rw e (by-length sheet plan r h)
+    decided : (c : Checkable sheet plan) → (Fits c × (check-code sheet plan ≡ 1)) ⊎ ((Fits c → ⊥) × (check-code sheet plan ≡ 0))
+    decided c = go (feasible (problem-of (c .sheet-reads .instance)) (positions-of (packing-in plan))) refl
+      where
+        go : (b : Bool) → feasible (problem-of (c .sheet-reads .instance)) (positions-of (packing-in plan)) ≡ b
+            → (Fits c × (check-code sheet plan ≡ 1)) ⊎ ((Fits c → ⊥) × (check-code sheet plan ≡ 0))
+        go true e = inl (T.feasible-test _ _ .0 e, by-test c ∙ rw e)
+        go false e = inr ((λ f. clash (T.feasible-test _ _ .1 f) e), by-test c ∙ rw e)
 
-  one-fit : (c d : Checkable sheet plan) → Fits c → Fits d
-  one-fit c d f =
-      subst (λ (i : Instance). Feasible (problem-of i) (positions-of (packing-in plan))) (reads-one sheet (c .sheet-reads) (d .sheet-reads)) f
+    -- "nothing else is refused"
+    pub check-refuses : (n : ℕ) → (check-code sheet plan ≡ 100 + n) ↔ CheckBytesFault sheet plan n
+    check-refuses n = ((λ e. fore e by-table), fault-code)
+      where
+        fore : check-code sheet plan ≡ 100 + n → ((m : ℕ) × CheckBytesFault sheet plan m) ⊎ Checkable sheet plan → CheckBytesFault sheet plan n
+        fore e (inl (m, φ)) = let same : m ≡ n = omega (arith, fault-code φ) in subst (CheckBytesFault sheet plan) same φ
+        fore e (inr c) = absurd (⊎-elim (λ (f, k). omega arith) (λ (f, k). omega arith) (decided c))
 
-  -- "Check returns 0 no, 1 yes": yes exactly when the plan fits
-  pub yes-exactly : (check-code sheet plan ≡ 1) ↔ ((c : Checkable sheet plan) × Fits c)
-  yes-exactly = (fore check-is, (λ (c, f). back c f (decided c)))
-    where
-      fore : CheckIs sheet plan (check-code sheet plan) → check-code sheet plan ≡ 1 → (c : Checkable sheet plan) × Fits c
-      fore (unread x d k) e = absurd (omega arith)
-      fore (wrong-length r h k) e = absurd (omega arith)
-      fore (says-yes c f k) e = (c, f)
-      fore (says-no c f k) e = absurd (omega arith)
+    -- what check says where nothing is refused; a number below 100 is no fault's
+    said : {A : Type 0} {n : ℕ} → n < 100 → check-code sheet plan ≡ n → (Checkable sheet plan → A) → A
+    said {A} l e f = go by-table
+      where
+        go : ((m : ℕ) × CheckBytesFault sheet plan m) ⊎ Checkable sheet plan → A
+        go (inl (m, φ)) = absurd (omega (arith, fault-code φ))
+        go (inr c) = f c
 
-      back : (c : Checkable sheet plan) → Fits c → CheckIs sheet plan (check-code sheet plan) → check-code sheet plan ≡ 1
-      back c f (unread x d k) = absurd (never-both (sym d ∙ c .sheet-reads .reads))
-      back c f (wrong-length r h k) = absurd (h (rw (reads-one sheet r (c .sheet-reads)) (c .plan-is)))
-      back c f (says-yes d g k) = k
-      back c f (says-no d g k) = absurd (g (one-fit c d f))
+    -- "Check returns 0 no, 1 yes": yes exactly when the plan fits
+    pub yes-exactly : (check-code sheet plan ≡ 1) ↔ ((c : Checkable sheet plan) × Fits c)
+    yes-exactly = (
+      (λ e. said (omega arith) e (λ c. ⊎-elim (λ (f, k). (c, f)) (λ (f, k). absurd (omega arith)) (decided c))),
+      (λ (c, f). ⊎-elim (λ (g, k). k) (λ (g, k). absurd (g f)) (decided c)),
+    )
 
-  pub no-exactly : (check-code sheet plan ≡ 0) ↔ ((c : Checkable sheet plan) × (Fits c → ⊥))
-  no-exactly = (fore check-is, (λ (c, f). back c f (decided c)))
-    where
-      fore : CheckIs sheet plan (check-code sheet plan) → check-code sheet plan ≡ 0 → (c : Checkable sheet plan) × (Fits c → ⊥)
-      fore (unread x d k) e = absurd (omega arith)
-      fore (wrong-length r h k) e = absurd (omega arith)
-      fore (says-yes c f k) e = absurd (omega arith)
-      fore (says-no c f k) e = (c, f)
-
-      back : (c : Checkable sheet plan) → (Fits c → ⊥) → CheckIs sheet plan (check-code sheet plan) → check-code sheet plan ≡ 0
-      back c f (unread x d k) = absurd (never-both (sym d ∙ c .sheet-reads .reads))
-      back c f (wrong-length r h k) = absurd (h (rw (reads-one sheet r (c .sheet-reads)) (c .plan-is)))
-      back c f (says-yes d g k) = absurd (f (one-fit d c g))
-      back c f (says-no d g k) = k
+    pub no-exactly : (check-code sheet plan ≡ 0) ↔ ((c : Checkable sheet plan) × (Fits c → ⊥))
+    no-exactly = (
+      (λ e. said (omega arith) e (λ c. ⊎-elim (λ (f, k). absurd (omega arith)) (λ (f, k). (c, f)) (decided c))),
+      (λ (c, f). ⊎-elim (λ (g, k). absurd (f g)) (λ (g, k). k) (decided c)),
+    )
 
 -- the plan bytes of a plan that fits get yes
 pub placed-checks : (sheet : List ℕ) → Bytes sheet → (r : Reads sheet) (κ : S.Checkpoint) → Feasible (problem-of (r .instance)) (plan-at (problem-of (r .instance)) κ)

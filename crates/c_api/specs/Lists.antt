@@ -1,8 +1,7 @@
 -- A list of calls on bytes (document 01, "The search": "A list is all in values or all on the screen").
 use mathlib.Core.Bool.{Bool, true, false}
 use mathlib.Core.List.{List}
-use mathlib.Core.Path.{_≡_}
-use Prim.Native.Nat.{ℕ}
+use Prim.Native.Nat.{ℕ, _≤_}
 use lib.ListN.{length, replicate}
 use Rattle.model.specs.Lists.{Service}
 use Rattle.model.specs.Run.{plan-at}
@@ -20,36 +19,36 @@ pub record Lent : Type 0 where
   pub steps : List ℕ
   pub plan : List ℕ
 
--- a call with the list's note and step and plan bytes of any length; or one that is lent bytes of another length as its note
-pub data Call : Type 0 where
-  own : Lent → Call
-  other : (note : List ℕ) → (length note ≡ 273 → ⊥) → Lent → Call
+-- a call with the list's note, and step and plan bytes of any length; or any refused call that is lent other bytes as its note
+pub data Call (sheet : List ℕ) : Type 0 where
+  own : Lent → Call sheet
+  other : (note : List ℕ) (c : Lent) → 100 ≤ search-code sheet note (c .allowance) (c .steps) (c .plan) → Call sheet
 
-abbrev pub lent : Call → Lent
+abbrev pub lent : {sheet : List ℕ} → Call sheet → Lent
 lent (own c) = c
-lent (other note l c) = c
+lent (other note c refused) = c
 
 -- the bytes that a call is lent as note, where the list's note has the bytes x
-abbrev pub lent-note : Call → List ℕ → List ℕ
+abbrev pub lent-note : {sheet : List ℕ} → Call sheet → List ℕ → List ℕ
 lent-note (own c) x = x
-lent-note (other note l c) x = note
+lent-note (other note c refused) x = note
 
 -- the list's note after a call: as the call leaves it, or as it was where other bytes were lent
-abbrev pub own-note : List ℕ → Call → List ℕ → List ℕ
+abbrev pub own-note : (sheet : List ℕ) → Call sheet → List ℕ → List ℕ
 own-note sheet (own c) x = note-after sheet x (c .allowance) (c .steps) (c .plan)
-own-note sheet (other note l c) x = x
+own-note sheet (other note c refused) x = x
 
 -- not "plan bytes not 6 for each piece; note bytes not 273; step bytes not 4"
-abbrev pub lengths-right : Instance → Call → Bool
+abbrev pub lengths-right : {sheet : List ℕ} → Instance → Call sheet → Bool
 lengths-right i (own c) = lengths-fit i 273 (length (c .steps)) (length (c .plan))
-lengths-right i (other note l c) = false
+lengths-right i (other note c refused) = false
 
 -- "the run's whole plan, on the screen as plan bytes"
 abbrev pub plan-bytes : Instance → S.Checkpoint → List ℕ
 plan-bytes i κ = packing-bytes (i .«item_count») (packing-of (problem-of i) (plan-at (problem-of i) κ))
 
 -- what `hallplan_search` returns and leaves; i is the instance that the sheet reads as
-abbrev pub on-bytes : List ℕ → Instance → Service S.Checkpoint Call (List ℕ) (List ℕ)
+abbrev pub on-bytes : (sheet : List ℕ) → Instance → Service S.Checkpoint (Call sheet) (List ℕ) (List ℕ)
 on-bytes sheet i = record {
   -- "A search opens with 273 zeros"
   opening = replicate 273 0;

@@ -8,8 +8,8 @@ pub demand2 : Demand2
 demand2 = record {
   yes = λ i q. decides i q .yes;
   no = λ i q. decides i q .no;
-  yes-on-bytes = yes-exactly;
-  no-on-bytes = no-exactly;
+  yes-in-bytes = yes-exactly;
+  no-in-bytes = no-exactly;
   written-reads-back = written-read-back;
   read-written-again = read-written-again;
 }

@@ -139,17 +139,20 @@ module _ (sheet : List ℕ) (bytes : Bytes sheet) (r : Reads sheet) where
       let (c, f) = yes-exactly sheet q bytes .0 y in
       (positions-of (packing-in q), rw (reads-one sheet r (c .sheet-reads)) f)
 
-  on-the-screen : Holds (problem-of (r .instance)) (on-bytes sheet (r .instance)) (check-code sheet)
-  on-the-screen =
+  in-bytes : Holds (problem-of (r .instance)) (on-bytes sheet (r .instance)) (check-code sheet)
+  in-bytes =
       holds (problem-of (r .instance)) (reads-sound sheet bytes r) (on-bytes sheet (r .instance)) (check-code sheet)
       (OnBytes.bytes-serve sheet bytes r) (placed-checks sheet bytes r) yes-fits
 
 pub demand3 : Demand3
 demand3 = record {
   in-values = in-values;
-  on-the-screen = on-the-screen;
+  in-bytes = in-bytes;
+  another-length = OnBytes.another-length;
   placed-fits = placed-fits;
   placed-bytes-fit = Faults.placed-fits;
-  refused-in-values = Values.every-call-refused;
-  refused-on-the-screen = OnBytes.every-call-refused;
+  spent-exactly = Values.spent-exactly;
+  spent-bytes-exactly = Faults.spent-exactly;
+  refused-values = Values.every-call-refused;
+  refused-bytes = OnBytes.every-call-refused;
 }

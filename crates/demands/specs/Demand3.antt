@@ -4,6 +4,7 @@ use mathlib.Core.List.{List}
 use mathlib.Core.Logic.{_↔_}
 use mathlib.Core.Path.{_≡_}
 use Prim.Native.Nat.{ℕ, _+_, _≤_, _<_}
+use lib.ListN.{length}
 use Rattle.model.specs.Lists.{Service, status-number, budget-sum, returned-code, returned-plan, Claim, AllRefused}
 use Rattle.model.specs.Machine.{Count, steps}
 use Rattle.model.specs.Problem.{Problem, Positions, Feasible}
@@ -22,8 +23,9 @@ use Rattle.instance.specs.declared.Instance.{Instance}
 use Rattle.packing.specs.Check.{check-answer, check-number}
 use Rattle.search.specs.Calls.{values}
 use Rattle.search.specs.Results.{answer-number, search-result}
-use Rattle.c_api.specs.Calls.{check-code, search-code, plan-after}
-use Rattle.c_api.specs.Lists.{Call, on-bytes}
+use Rattle.buffers.specs.Bytes.{steps-in}
+use Rattle.c_api.specs.Calls.{check-code, search-code, steps-after, plan-after}
+use Rattle.c_api.specs.Lists.{Lent, Call, on-bytes}
 
 -- what the one run answers: "0 spent, 1 placed, 2 none"
 abbrev pub run-number : Problem → ℕ
@@ -34,9 +36,9 @@ pub record Holds {C X P : Type 0} (p : Problem) (w : Service S.Checkpoint C X P)
   -- "Every sheet that isn't refused has a finite step count, that of document 01's search in one run."
   pub count : Count (machine p) S.opening (step-count p)
   pub one-count : (n : ℕ) → Count (machine p) S.opening n → n ≡ step-count p
-  -- "For ANY list of search calls that starts at a new note and hands each call the last note, with any allowances and refused calls among them:
-  -- the steps add up to the lesser of the count and the sum of allowances; a call answers spent exactly when the sum so far is below the count, and
-  -- otherwise as the one run does, with the same plan." (model Lists has the five sentences one by one)
+  -- "For ANY list of search calls that starts at a new note and hands each call the last note, with any allowances and refused calls
+  -- among them: the steps add up to the lesser of the count and the sum of allowances; a call answers spent exactly when the sum so far
+  -- is below the count, and otherwise as the one run does, with the same plan." (`Claim`, model Lists, has it sentence by sentence)
   pub every-list : (calls : List C) → Claim (machine p) w (step-count p) calls
   -- "It answers none exactly when no placement exists." The run does, and otherwise it answers placed
   pub run-none : (run-number p ≡ 2) ↔ ((q : Positions) → Feasible p q → ⊥)
@@ -51,17 +53,25 @@ pub record Holds {C X P : Type 0} (p : Problem) (w : Service S.Checkpoint C X P)
   pub placed-checks : (earlier : List C) (c : C) → returned-code w earlier c ≡ 1 → check (returned-plan w earlier c) ≡ 1
 
 pub record Demand3 : Type 0 where
-  -- in values: a sheet value that gets no 9. Full: its arrays have ten and ninety entries, as every value of the type has
+  -- in values: a sheet value that gets no 9. `Full`: its arrays have ten and ninety entries, as every value of the type has
   pub in-values : (i : Instance) → valid i ≡ true → Full i → Holds (problem-of i) (values i) (λ q. check-number (check-answer i q))
-  -- on bytes: a sheet that reads. Bytes: its elements are below 256, as in every slice of u8
-  pub on-the-screen : (sheet : List ℕ) → Bytes sheet → (r : Reads sheet)
+  -- in bytes: a sheet that reads. `Bytes`: its elements are below 256, as in every slice of u8
+  pub in-bytes : (sheet : List ℕ) → Bytes sheet → (r : Reads sheet)
       → Holds (problem-of (r .instance)) (on-bytes sheet (r .instance)) (check-code sheet)
-  -- and whatever note is handed in, of a list or not: where a call answers placed, the check says yes to its plan
-  pub placed-fits : (i : Instance) → Full i → (c : Checkpoint) (budget : ℕ) → answer-number (search-result i c budget .answer) ≡ 1
-      → check-number (check-answer i (search-result i c budget .packing)) ≡ 1
-  pub placed-bytes-fit : (sheet note steps plan : List ℕ) (allowance : ℕ) → Bytes sheet → Bytes note → search-code sheet note allowance steps plan ≡ 1
-      → check-code sheet (plan-after sheet note allowance steps plan) ≡ 1
-  -- "on a refused sheet every call is refused, and the note stays the opening one" (document 01)
-  pub refused-in-values : (i : Instance) → valid i ≡ false → (calls : List ℕ) → AllRefused (values i) 109 calls
-  pub refused-on-the-screen : (sheet : List ℕ) (e : Refusal) → decode sheet ≡ refused e → (i : Instance) (calls : List Call)
+  -- a call that is lent bytes of another length as its note is refused too, so it may stand in the list
+  pub another-length : (sheet note : List ℕ) (c : Lent) → (length note ≡ 273 → ⊥)
+      → 100 ≤ search-code sheet note (c .allowance) (c .steps) (c .plan)
+  -- Whatever note is handed in, of a list or not: where a call answers placed, the check says yes to its plan
+  pub placed-fits : (i : Instance) → Full i → (c : Checkpoint) (budget : ℕ)
+      → answer-number (search-result i c budget .answer) ≡ 1 → check-number (check-answer i (search-result i c budget .packing)) ≡ 1
+  pub placed-bytes-fit : (sheet note steps plan : List ℕ) (allowance : ℕ) → Bytes sheet → Bytes note
+      → search-code sheet note allowance steps plan ≡ 1 → check-code sheet (plan-after sheet note allowance steps plan) ≡ 1
+  -- (01) "spent has taken exactly the allowance"
+  pub spent-exactly : (i : Instance) (c : Checkpoint) (budget : ℕ)
+      → answer-number (search-result i c budget .answer) ≡ 0 → search-result i c budget .steps ≡ budget
+  pub spent-bytes-exactly : (sheet note steps plan : List ℕ) (allowance : ℕ) → Bytes sheet → Bytes note
+      → search-code sheet note allowance steps plan ≡ 0 → steps-in (steps-after sheet note allowance steps plan) ≡ allowance
+  -- (01) "on a refused sheet every call is refused, and the note stays the opening one"
+  pub refused-values : (i : Instance) → valid i ≡ false → (calls : List ℕ) → AllRefused (values i) 109 calls
+  pub refused-bytes : (sheet : List ℕ) (e : Refusal) → decode sheet ≡ refused e → (i : Instance) (calls : List (Call sheet))
       → AllRefused (on-bytes sheet i) (100 + number-of e) calls

@@ -74,8 +74,10 @@ pub record Functions (M : Type 1) : Type 2 where
   -- `Instance::write`
   pub write-runs : WriteRuns.statement M
   pub write-asks : (κs : Lfts 1) (a : _) → Write.Asked κs a
-  pub write-says : (κs : Lfts 1) (a : _) (r : _) (s : _) → Write.Learnt κs a r s → let room = a .1 .0 .now in
-      (r ≡ write-answer (a .0) (length room)) × (s .1 .0 .now ≡ written-room (a .0) room) × Full (a .0)
+  pub write-says : (κs : Lfts 1) (a : _) (r : _) (s : _) → Write.Learnt κs a r s
+      → let instance = a .0 in
+      let room = a .1 .0 .now in
+      (r ≡ write-answer instance (length room)) × (s .1 .0 .now ≡ written-room instance room) × Full instance
   -- `label::item_record`, `label::item_record_refusal`
   pub record-runs : RecordRuns.statement M
   pub record-asks : (κs : Lfts 1) (a : _) → Record.Asked κs a
@@ -91,20 +93,30 @@ pub record Functions (M : Type 1) : Type 2 where
   pub clearance-runs : ClearanceRuns.statement M
   pub clearance-asks : (κs : Lfts 0) (a : _) → Clearance.Asked κs a
   pub clearance-says : (κs : Lfts 0) (a : _) (r : _) (s : _) → Clearance.Learnt κs a r s
-      → r ≡ clearance-answer (a .0) (a .1 .0) (a .1 .1 .0) (a .1 .1 .1 .0) (a .1 .1 .1 .1 .0)
+      → let instance = a .0 in
+      let packing = a .1 .0 in
+      let u = a .1 .1 .0 in
+      let v = a .1 .1 .1 .0 in
+      let axis = a .1 .1 .1 .1 .0 in
+      r ≡ clearance-answer instance packing u v axis
   -- `search::search`, `Answer::number`
   pub search-runs : SearchRuns.statement M
   pub search-asks : (κs : Lfts 0) (a : _) → Search.Asked κs a
   pub search-says : (κs : Lfts 0) (a : _) (r : _) (s : _) → Search.Learnt κs a r s
-      → (r ≡ search-result (a .0) (a .1 .0) (a .1 .1 .0)) × Full (a .0)
+      → let instance = a .0 in
+      let checkpoint = a .1 .0 in
+      let budget = a .1 .1 .0 in
+      (r ≡ search-result instance checkpoint budget) × Full instance
   pub answer-number-runs : AnswerNumberRuns.statement M
   pub answer-number-asks : (κs : Lfts 0) (a : _) → AnswerNumber.Asked κs a
   pub answer-number-says : (κs : Lfts 0) (a : _) (r : _) (s : _) → AnswerNumber.Learnt κs a r s → r ≡ answer-number (a .0)
   -- `hallplan_check`
   pub check-bytes-runs : CheckBytesRuns.statement M
   pub check-bytes-asks : (κs : Lfts 2) (a : _) → CheckBytes.Asked κs a
-  pub check-bytes-says : (κs : Lfts 2) (a : _) (r : _) (s : _) → CheckBytes.Learnt κs a r s → let sheet = a .0 .now in
-      (r ≡ check-code sheet (a .1 .0 .now)) × Bytes sheet
+  pub check-bytes-says : (κs : Lfts 2) (a : _) (r : _) (s : _) → CheckBytes.Learnt κs a r s
+      → let sheet = a .0 .now in
+      let plan = a .1 .0 .now in
+      (r ≡ check-code sheet plan) × Bytes sheet
   -- `hallplan_search`
   pub search-bytes-runs : SearchBytesRuns.statement M
   pub search-bytes-asks : (κs : Lfts 4) (a : _) → SearchBytes.Asked κs a

@@ -1,6 +1,6 @@
 -- Laws of tests: what a test over all numbers below n says, and that tests are monotone in their parts. Assumes nothing.
 use mathlib.Core.Bool.{Bool, true, false, not, _&&_, _||_, false≢true}
-use mathlib.Core.Logic.{_⊎_, inl, inr}
+use mathlib.Core.Logic.{_↔_, _⊎_, inl, inr}
 use mathlib.Core.Path.{_≡_, refl, sym, _∙_}
 use Prim.Native.Nat.{ℕ, zero, suc, _≤_, _<_, max}
 use native.Mathlib.Nat.{eq-or-lt-of-le, le-of-suc-le-suc}
@@ -180,6 +180,11 @@ stays false f = absurd (f refl)
 
 pub clash : {b : Bool} → b ≡ true → b ≡ false → ⊥
 clash p q = false≢true (sym q ∙ p)
+
+-- a test says no where what it tests does not hold
+pub not-so : {A : Type 0} (b : Bool) → (b ≡ true) ↔ A → (A → ⊥) → b ≡ false
+not-so true so h = absurd (h (so .0 refl))
+not-so false so h = refl
 
 -- the first element of a list that passes: it is found if some element passes, and it is the one before which none does
 pub record First {A : Type 0} (f : A → Bool) (d : A) (l : List A) (j : ℕ) : Type 0 where

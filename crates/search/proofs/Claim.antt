@@ -7,7 +7,7 @@ use mathlib.Core.Path.{_≡_, refl, sym, ap, _∙_, subst}
 use Prim.Native.Nat.{ℕ, _+_, _≤_, _<_}
 use native.Mathlib.Omega.{arith}
 use lib.ListN.{length}
-use Rattle.model.proofs.Below.{and-intro, and-both, clash}
+use Rattle.model.proofs.Below.{and-intro, and-both, clash, not-so}
 use Rattle.model.proofs.Lists.{all-refused}
 use Rattle.model.proofs.Theorems as T
 use Rattle.model.specs.Admits.{Sound}
@@ -98,23 +98,20 @@ module _ (i : Instance) (c : Checkpoint) (budget : ℕ) where
   code : {r : SearchResult} → search-result i c budget ≡ r → answer-number (search-result i c budget .answer) ≡ answer-number (r .answer)
   code e = ap (λ (x : SearchResult). answer-number (x .answer)) e
 
+  fault-code : {n : ℕ} → SearchFault i c n → answer-number (search-result i c budget .answer) ≡ 100 + n
+  unfolding search-result refused
+  fault-code (nine v k) = rw (v, k)
+  fault-code (ten v h k) = rw (v, not-so _ (following-so (problem-of i) c) h, k)
+
   -- "A call that meets no condition of the table is not refused", and any other gets its number
   pub refuses : (n : ℕ) → (answer-number (search-result i c budget .answer) ≡ 100 + n) ↔ SearchFault i c n
   unfolding refused
-  refuses n = (fore call-is, back call-is)
+  refuses n = (fore call-is, fault-code)
     where
       fore : CallIs i c budget (search-result i c budget) → answer-number (search-result i c budget .answer) ≡ 100 + n → SearchFault i c n
       fore (invalid d r) e = nine d (omega (arith, code r))
       fore (not-following d f r) e = ten d f (omega (arith, code r))
       fore (searched d φ r) e = absurd (omega (arith, code r, answered-small (problem-of i) (search (problem-of i) budget (checkpoint-of c))))
-
-      back : CallIs i c budget (search-result i c budget) → SearchFault i c n → answer-number (search-result i c budget .answer) ≡ 100 + n
-      back (invalid d r) (nine v k) = rw k (code r)
-      back (invalid d r) (ten v f k) = absurd (clash v d)
-      back (not-following d f r) (nine v k) = absurd (clash d v)
-      back (not-following d f r) (ten v g k) = rw k (code r)
-      back (searched d φ r) (nine v k) = absurd (clash d v)
-      back (searched d φ r) (ten v f k) = absurd (f φ)
 
   -- "a refused search hands its note back with 0 steps", and "all ten are 0": 100 and above are a refusal's numbers
   pub handed-back : 100 ≤ answer-number (search-result i c budget .answer)
@@ -177,23 +174,24 @@ module _ (i : Instance) (v : valid i ≡ true) (long : length (i .items) ≡ 10)
           subst (λ (x : SearchResult). Feasible p (positions-of (x .packing))) (sym r)
           (fits (steps (machine p) budget (checkpoint-of c)) f (sym (code i c budget r) ∙ e))
 
--- "spent has taken exactly the allowance"
+-- 0 is the number of "spent" alone
+pub zero-is-spent : (a : C.Answer Positions) → answer-number (answer-of a) ≡ 0 → a ≡ C.budget-spent
+zero-is-spent C.budget-spent e = refl
+zero-is-spent C.no-packing e = absurd (omega arith)
+zero-is-spent (C.packing q) e = absurd (omega arith)
+
+-- "spent has taken exactly the allowance", whatever checkpoint was handed in
 pub spent-exactly : (i : Instance) (c : Checkpoint) (budget : ℕ) → answer-number (search-result i c budget .answer) ≡ 0
     → search-result i c budget .steps ≡ budget
 unfolding refused result-of
 spent-exactly i c budget e = go (call-is i c budget)
   where
-    is-spent : (a : C.Answer Positions) → answer-number (answer-of a) ≡ 0 → a ≡ C.budget-spent
-    is-spent C.budget-spent e = refl
-    is-spent C.no-packing e = absurd (omega arith)
-    is-spent (C.packing q) e = absurd (omega arith)
-
     go : CallIs i c budget (search-result i c budget) → search-result i c budget .steps ≡ budget
     go (invalid d r) = absurd (omega (arith, code i c budget r))
     go (not-following d n r) = absurd (omega (arith, code i c budget r))
     go (searched d φ r) =
         ap (λ (x : SearchResult). x .steps) r
-        ∙ T.spent-exactly (problem-of i) budget (checkpoint-of c) (is-spent _ (sym (code i c budget r) ∙ e))
+        ∙ T.spent-exactly (problem-of i) budget (checkpoint-of c) (zero-is-spent _ (sym (code i c budget r) ∙ e))
 
 -- "on a refused sheet every call is refused, and the note stays the opening one": 109 is 9's
 pub every-call-refused : (i : Instance) → valid i ≡ false → (budgets : List ℕ) → AllRefused (values i) 109 budgets
