@@ -15,11 +15,11 @@ use Rattle.instance.specs.Decode.{decode}
 use Rattle.instance.specs.Faults.{Fault}
 use Rattle.packing.proofs.Answers.{answers}
 use Rattle.packing.proofs.Decides.{decides}
-use Rattle.packing.specs.Check.{check-number}
+use Rattle.packing.specs.Check.{check-answer, check-number}
 use Rattle.packing.specs.declared.CheckAnswer.{CheckAnswer}
 use Rattle.packing.specs.declared.CheckAnswer.the-variants as Checking
 use Rattle.search.proofs.Claim.{refuses, handed-back}
-use Rattle.search.specs.Results.{answer-number}
+use Rattle.search.specs.Results.{answer-number, search-result}
 use Rattle.search.specs.declared.Answer.{Answer}
 use Rattle.search.specs.declared.Answer.the-variants as Searching
 use Rattle.c_api.proofs.Faults.{search-refuses, untouched}
@@ -68,7 +68,9 @@ demand1 = record {
   write-answers = write-writes;
   room-untouched = room-untouched;
   check-refuses = λ i q. decides i q .refused;
+  check-answers = λ i q. check-answers (check-answer i q);
   search-refuses = refuses;
+  search-answers = λ i c budget. search-answers (search-result i c budget .answer);
   handed-back = handed-back;
   clearance-refuses = λ i q u v a. answers i q u v a .refused;
   clearance-answers = λ i q u v a. answers i q u v a .value;

@@ -62,12 +62,15 @@ pub record Demand1 : Type 2 where
       ↔ ((valid i ≡ true) × (length (encode i) ≤ room) × (n ≡ length (encode i)))
   pub room-untouched : (i : Instance) (room : List ℕ) (e : Refusal)
       → write-answer i (length room) ≡ Writing.Refused e → written-room i room ≡ room
-  -- Check in values: 9
+  -- Check in values: 9; otherwise 0 or 1
   pub check-refuses : (i : Instance) (q : Packing) (n : ℕ)
       → (check-number (check-answer i q) ≡ 100 + n) ↔ ((valid i ≡ false) × (n ≡ 9))
-  -- Search in values: 9, then 10; "a refused search hands its note back with 0 steps"
+  pub check-answers : (i : Instance) (q : Packing) → let n = check-number (check-answer i q) in (n ≤ 1) ⊎ (100 ≤ n)
+  -- Search in values: 9, then 10; otherwise 0, 1 or 2; "a refused search hands its note back with 0 steps"
   pub search-refuses : (i : Instance) (c : Checkpoint) (budget n : ℕ)
       → (answer-number (search-result i c budget .answer) ≡ 100 + n) ↔ SearchFault i c n
+  pub search-answers : (i : Instance) (c : Checkpoint) (budget : ℕ)
+      → let n = answer-number (search-result i c budget .answer) in (n ≤ 2) ⊎ (100 ≤ n)
   pub handed-back : (i : Instance) (c : Checkpoint) (budget : ℕ) → let r = search-result i c budget in
       100 ≤ answer-number (r .answer) → (r .checkpoint ≡ c) × (r .steps ≡ 0) × (r .packing ≡ origin-packing)
   -- Clearance: 9, then 5, then 8, each with place 0; otherwise the number
