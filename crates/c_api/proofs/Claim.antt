@@ -1,5 +1,5 @@
--- What one call and every list of calls come to, on bytes, from the contract of `hallplan_search`: the number that it returns and what it leaves
--- in the note, the step bytes and the plan bytes.
+-- What one call and every list of calls come to, on bytes, from the contract of `hallplan_search`: the number that it returns and what it
+-- leaves in the note, the step bytes and the plan bytes.
 use mathlib.Core.Bool.{Bool, true, false}
 use mathlib.Core.List.{List}
 use mathlib.Core.Path.{_≡_, refl, sym, ap, _∙_}
@@ -52,7 +52,8 @@ module _ (sheet : List ℕ) (bytes : Bytes sheet) (r : Reads sheet) where
     call = search-call sheet (note-bytes κ) (c .allowance) (c .steps) (c .plan)
 
     -- where the buffers have the right lengths it is the model's
-    right-lengths : S.Follows (look p) κ → lengths-fit i 273 (length (c .steps)) (length (c .plan)) ≡ true → call ≡ R.result-of p (search p (c .allowance) κ)
+    right-lengths : S.Follows (look p) κ → lengths-fit i 273 (length (c .steps)) (length (c .plan)) ≡ true
+        → call ≡ R.result-of p (search p (c .allowance) κ)
     unfolding search-call instance-searched note-follows
     right-lengths f h =
         let g = following-so p (value-of κ) .1 (held-follows p sound κ f) in
@@ -87,7 +88,8 @@ module _ (sheet : List ℕ) (bytes : Bytes sheet) (r : Reads sheet) where
       calls (other note c h) κ f = call-refused refl h refl
 
 -- a call that is lent a note of another length is refused
-pub another-length : (sheet note : List ℕ) (c : Lent) → (length note ≡ 273 → ⊥) → 100 ≤ search-code sheet note (c .allowance) (c .steps) (c .plan)
+pub another-length : (sheet note : List ℕ) (c : Lent) → (length note ≡ 273 → ⊥)
+    → 100 ≤ search-code sheet note (c .allowance) (c .steps) (c .plan)
 unfolding search-call instance-searched R.refused
 another-length sheet note c l = go (decode sheet)
   where

@@ -10,7 +10,7 @@ use Rattle.model.proofs.Below.{and-both, clash, not-so}
 use Rattle.model.proofs.Theorems as T
 use Rattle.model.specs.Calls as C
 use Rattle.model.specs.Machine as Machine
-use Rattle.model.specs.Problem.{Problem}
+use Rattle.model.specs.Problem.{Problem, Positions}
 use Rattle.model.specs.Run.{look, machine, plan-at, search}
 use Rattle.model.specs.Search as S
 use Rattle.refusal.specs.Numbers.{number-of}
@@ -47,6 +47,10 @@ in-follows p note e =
 
 -- A call by the table: a fault's number, or the search's
 
+-- the number of a result
+abbrev number : SearchResult → ℕ
+number r = R.answer-number (r .answer)
+
 -- what a call is where nothing is refused: the search from a checkpoint that follows
 record Searched (sheet : List ℕ) (allowance : ℕ) (r : SearchResult) : Type 0 where
   reads : Reads sheet
@@ -61,8 +65,20 @@ module _ (sheet note steps plan : List ℕ) (allowance : ℕ) where
   abbrev code : ℕ
   code = search-code sheet note allowance steps plan
 
-  read-is : (r : Reads sheet) {l f : Bool} → lengths-fit (r .instance) (length note) (length steps) (length plan) ≡ l
-      → note-follows (problem-of (r .instance)) note ≡ f → call ≡ searched-if l f (r .instance) note allowance
+  abbrev Fault : ℕ → Type 0
+  Fault n = SearchBytesFault sheet note steps plan n
+
+  abbrev problem : Reads sheet → Problem
+  problem r = problem-of (r .instance)
+
+  -- the tests of 8 and 10
+  abbrev fit : Reads sheet → Bool
+  fit r = lengths-fit (r .instance) (length note) (length steps) (length plan)
+
+  abbrev follow : Reads sheet → Bool
+  follow r = note-follows (problem-of (r .instance)) note
+
+  read-is : (r : Reads sheet) {l f : Bool} → fit r ≡ l → follow r ≡ f → call ≡ searched-if l f (r .instance) note allowance
   unfolding search-call instance-searched
   read-is r d e = rw (r .reads, d, e)
 
@@ -70,83 +86,89 @@ module _ (sheet note steps plan : List ℕ) (allowance : ℕ) where
   unfolding search-call R.refused
   unread-code e d = rw d
 
-  eight-code : (r : Reads sheet) → lengths-fit (r .instance) (length note) (length steps) (length plan) ≡ false → code ≡ 108
+  eight-code : (r : Reads sheet) → fit r ≡ false → code ≡ 108
   unfolding R.refused
-  eight-code r d = ap (λ (x : SearchResult). R.answer-number (x .answer)) (read-is r d refl)
+  eight-code r d = ap number (read-is r d refl)
 
-  ten-code : (r : Reads sheet) → lengths-fit (r .instance) (length note) (length steps) (length plan) ≡ true
-      → note-follows (problem-of (r .instance)) note ≡ false → code ≡ 110
+  ten-code : (r : Reads sheet) → fit r ≡ true → follow r ≡ false → code ≡ 110
   unfolding R.refused
-  ten-code r d e = ap (λ (x : SearchResult). R.answer-number (x .answer)) (read-is r d e)
+  ten-code r d e = ap number (read-is r d e)
 
   module _ (bytes : Bytes sheet) (note-is : Bytes note) where
-    -- the table's conditions as tests
-    so : (r : Reads sheet) → Lengths (r .instance) note steps plan → (note-follows (problem-of (r .instance)) note ≡ true) ↔ NoteFollows (problem-of (r .instance)) note
-    so r h = note-so (problem-of (r .instance)) (reads-sound sheet bytes r) note note-is (h .note-is)
+    fit-so : (r : Reads sheet) → (fit r ≡ true) ↔ Lengths (r .instance) note steps plan
+    fit-so r = lengths-so (r .instance) note steps plan
 
-    fault-code : {n : ℕ} → SearchBytesFault sheet note steps plan n → code ≡ 100 + n
+    follow-so : (r : Reads sheet) → Lengths (r .instance) note steps plan → (follow r ≡ true) ↔ NoteFollows (problem r) note
+    follow-so r h = note-so (problem r) (reads-sound sheet bytes r) note note-is (h .note-is)
+
+    fault-code : {n : ℕ} → Fault n → code ≡ 100 + n
     fault-code (SearchBytesFault.unread e d k) = rw k (unread-code e d)
-    fault-code (SearchBytesFault.eight r h k) = rw k (eight-code r (not-so _ (lengths-so (r .instance) note steps plan) h))
-    fault-code (SearchBytesFault.ten r l h k) = rw k (ten-code r (lengths-so (r .instance) note steps plan .1 l) (not-so _ (so r l) h))
+    fault-code (SearchBytesFault.eight r h k) = rw k (eight-code r (not-so _ (fit-so r) h))
+    fault-code (SearchBytesFault.ten r l h k) = rw k (ten-code r (fit-so r .1 l) (not-so _ (follow-so r l) h))
 
     -- there is a fault, or nothing is refused
-    by-table : ((n : ℕ) × SearchBytesFault sheet note steps plan n) ⊎ Searched sheet allowance call
+    by-table : ((n : ℕ) × Fault n) ⊎ Searched sheet allowance call
     by-table = go (read-or-refused sheet)
       where
-        read : (r : Reads sheet) (l f : Bool) → lengths-fit (r .instance) (length note) (length steps) (length plan) ≡ l
-            → note-follows (problem-of (r .instance)) note ≡ f → ((n : ℕ) × SearchBytesFault sheet note steps plan n) ⊎ Searched sheet allowance call
-        read r false f d e = inl (8, SearchBytesFault.eight r (λ h. clash (lengths-so (r .instance) note steps plan .1 h) d) refl)
+        read : (r : Reads sheet) (l f : Bool) → fit r ≡ l → follow r ≡ f → ((n : ℕ) × Fault n) ⊎ Searched sheet allowance call
+        read r false f d e = inl (8, SearchBytesFault.eight r (λ h. clash (fit-so r .1 h) d) refl)
         read r true false d e =
-            let h = lengths-so (r .instance) note steps plan .0 d in
-            inl (10, SearchBytesFault.ten r h (λ ν. clash (so r h .1 ν) e) refl)
-        read r true true d e = inr (record { reads = r; start = checkpoint-of (checkpoint-in note); follows = in-follows _ note e; is = read-is r d e })
+            let h = fit-so r .0 d in inl (10, SearchBytesFault.ten r h (λ ν. clash (follow-so r h .1 ν) e) refl)
+        read r true true d e =
+            inr (record { reads = r; start = checkpoint-of (checkpoint-in note); follows = in-follows _ note e; is = read-is r d e })
 
-        go : Reads sheet ⊎ ((e : Refusal) × (decode sheet ≡ refused e)) → ((n : ℕ) × SearchBytesFault sheet note steps plan n) ⊎ Searched sheet allowance call
+        go : Reads sheet ⊎ ((e : Refusal) × (decode sheet ≡ refused e)) → ((n : ℕ) × Fault n) ⊎ Searched sheet allowance call
         go (inl r) = read r _ _ refl refl
         go (inr (e, d)) = inl (number-of e, SearchBytesFault.unread e d refl)
 
+    -- what holds of a call with a number below 100 is what holds of the search's
+    served : {A : Type 0} → code < 100 → (Searched sheet allowance call → A) → A
+    served {A} l f = go by-table
+      where
+        go : ((n : ℕ) × Fault n) ⊎ Searched sheet allowance call → A
+        go (inl (n, φ)) = absurd (omega (arith, fault-code φ))
+        go (inr σ) = f σ
+
     -- "A call that meets no condition of the table is not refused", and any other gets its number
-    pub search-refuses : (n : ℕ) → (code ≡ 100 + n) ↔ SearchBytesFault sheet note steps plan n
+    pub search-refuses : (n : ℕ) → (code ≡ 100 + n) ↔ Fault n
     search-refuses n = ((λ e. fore e by-table), fault-code)
       where
-        fore : code ≡ 100 + n → ((m : ℕ) × SearchBytesFault sheet note steps plan m) ⊎ Searched sheet allowance call → SearchBytesFault sheet note steps plan n
-        fore e (inl (m, φ)) = let same : m ≡ n = omega (arith, fault-code φ) in subst (SearchBytesFault sheet note steps plan) same φ
+        fore : code ≡ 100 + n → ((m : ℕ) × Fault m) ⊎ Searched sheet allowance call → Fault n
+        fore e (inl (m, φ)) = let same : m ≡ n = omega (arith, fault-code φ) in subst Fault same φ
         fore e (inr σ) =
-            let p = problem-of (σ .reads .instance) in
-            absurd (omega (arith, ap (λ (x : SearchResult). R.answer-number (x .answer)) (σ .is), answered-small p (search p allowance (σ .start))))
+            let p = problem (σ .reads) in absurd (omega (arith, ap number (σ .is), answered-small p (search p allowance (σ .start))))
 
     -- placed leaves a plan to which check says yes, whatever note was lent
     pub placed-fits : code ≡ 1 → check-code sheet (plan-after sheet note allowance steps plan) ≡ 1
     unfolding R.result-of
-    placed-fits e = go by-table
+    placed-fits e = served (omega arith) go
       where
-        fits : (r : Reads sheet) (μ : S.Checkpoint) → S.Follows (look (problem-of (r .instance))) μ
-            → let a = C.answer (machine (problem-of (r .instance))) (plan-at (problem-of (r .instance))) μ in R.answer-number (R.answer-of a) ≡ 1
-            → check-code sheet (when-packed (R.answer-of a) plan (packing-bytes (r .instance .«item_count») (R.packing-with (problem-of (r .instance)) a))) ≡ 1
+        -- the plan bytes that an answer leaves
+        left : Reads sheet → C.Answer Positions → List ℕ
+        left r a = when-packed (R.answer-of a) plan (packing-bytes (r .instance .«item_count») (R.packing-with (problem r) a))
+
+        fits : (r : Reads sheet) (μ : S.Checkpoint) → S.Follows (look (problem r)) μ → let a = C.answer (machine (problem r)) (plan-at (problem r)) μ in
+            R.answer-number (R.answer-of a) ≡ 1 → check-code sheet (left r a) ≡ 1
         fits r (S.open-at path) f e = absurd (omega arith)
         fits r S.infeasible f e = absurd (omega arith)
         fits r (S.packed-at path) f e =
-            placed-checks sheet bytes r (S.packed-at path) (T.packed-feasible (problem-of (r .instance)) (reads-sound sheet bytes r) path f)
+            placed-checks sheet bytes r (S.packed-at path) (T.packed-feasible (problem r) (reads-sound sheet bytes r) path f)
 
-        go : ((m : ℕ) × SearchBytesFault sheet note steps plan m) ⊎ Searched sheet allowance call → check-code sheet (plan-after sheet note allowance steps plan) ≡ 1
-        go (inl (m, φ)) = absurd (omega (arith, fault-code φ))
-        go (inr σ) =
-            let p = problem-of (σ .reads .instance) in
+        go : Searched sheet allowance call → check-code sheet (plan-after sheet note allowance steps plan) ≡ 1
+        go σ =
+            let p = problem (σ .reads) in
             let f = T.reached-follows p allowance (σ .start) (σ .follows) in
-            let one = sym (ap (λ (x : SearchResult). R.answer-number (x .answer)) (σ .is)) ∙ e in
-            rw (σ .reads .reads, σ .is) (fits (σ .reads) (Machine.steps (machine p) allowance (σ .start)) f one)
+            rw (σ .reads .reads, σ .is) (fits (σ .reads) (Machine.steps (machine p) allowance (σ .start)) f (sym (ap number (σ .is)) ∙ e))
 
     -- "spent has taken exactly the allowance", whatever note was lent
     pub spent-exactly : code ≡ 0 → steps-in (steps-after sheet note allowance steps plan) ≡ allowance
     unfolding R.result-of
-    spent-exactly e = go by-table
+    spent-exactly e = served (omega arith) go
       where
-        go : ((m : ℕ) × SearchBytesFault sheet note steps plan m) ⊎ Searched sheet allowance call → steps-in (steps-after sheet note allowance steps plan) ≡ allowance
-        go (inl (m, φ)) = absurd (omega (arith, fault-code φ))
-        go (inr σ) =
-            let p = problem-of (σ .reads .instance) in
-            let zero = sym (ap (λ (x : SearchResult). R.answer-number (x .answer)) (σ .is)) ∙ e in
-            let spent = zero-is-spent (search p allowance (σ .start) .answer) zero in
+        go : Searched sheet allowance call → steps-in (steps-after sheet note allowance steps plan) ≡ allowance
+        go σ =
+            let p = problem (σ .reads) in
+            let spent = zero-is-spent (search p allowance (σ .start) .answer) (sym (ap number (σ .is)) ∙ e) in
             rw (σ .is, spent, steps-back) (T.spent-exactly p allowance (σ .start) spent)
 
   -- "Every refusal leaves lent buffers untouched": 100 and above are a refusal's numbers
@@ -156,7 +178,8 @@ module _ (sheet note steps plan : List ℕ) (allowance : ℕ) where
       × (plan-after sheet note allowance steps plan ≡ plan)
   untouched = go (call .answer) _ _ _
     where
-      go : (a : Answer) (x y z : List ℕ) → 100 ≤ R.answer-number a → (rewritten a note x ≡ note) × (rewritten a steps y ≡ steps) × (when-packed a plan z ≡ plan)
+      go : (a : Answer) (x y z : List ℕ) → 100 ≤ R.answer-number a
+          → (rewritten a note x ≡ note) × (rewritten a steps y ≡ steps) × (when-packed a plan z ≡ plan)
       go BudgetSpent x y z e = absurd (omega arith)
       go Packed x y z e = absurd (omega arith)
       go Infeasible x y z e = absurd (omega arith)

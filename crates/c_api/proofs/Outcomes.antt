@@ -36,17 +36,19 @@ use Rattle.c_api.specs.Calls.{plan-fits, lengths-fit, checked-if, note-f
 use Rattle.c_api.specs.Notes.{Lengths}
 
 -- buffers of the right lengths: the test and the record agree
-pub lengths-so : (i : Instance) (note steps plan : List ℕ) → (lengths-fit i (length note) (length steps) (length plan) ≡ true) ↔ Lengths i note steps plan
+pub lengths-so : (i : Instance) (note steps plan : List ℕ)
+    → (lengths-fit i (length note) (length steps) (length plan) ≡ true) ↔ Lengths i note steps plan
 lengths-so i note steps plan = (
   (λ h.
       let (a, b) = and-both (eqb (length note) 273) _ h in
       let (d, e) = and-both (eqb (length steps) 4) (plan-fits i (length plan)) b in
-      record { note-is = eqb-true (length note) 273 a; steps-are = eqb-true (length steps) 4 d; plan-is = eqb-true (length plan) (6 * i .«item_count») e }),
+      record { note-is = eqb-true _ _ a; steps-are = eqb-true _ _ d; plan-is = eqb-true _ _ e }),
   (λ l. rw (eq-eqb _ _ (l .note-is), eq-eqb _ _ (l .steps-are), eq-eqb _ _ (l .plan-is))),
 )
 
 module _ (i : Instance) (note : List ℕ) (budget steps plan : ℕ) where
-  pub wrong-lengths : lengths-fit i (length note) steps plan ≡ false → instance-searched i note budget steps plan ≡ R.refused BadArgument (checkpoint-in note)
+  pub wrong-lengths : lengths-fit i (length note) steps plan ≡ false
+      → instance-searched i note budget steps plan ≡ R.refused BadArgument (checkpoint-in note)
   unfolding instance-searched
   wrong-lengths h = rw h
 
@@ -67,22 +69,23 @@ module _ (i : Instance) (v : valid i ≡ true) (long : length (i .items) ≡ 10)
   fits C.no-packing n h = h
   fits (C.packing q) n h = h
 
+  -- the path of a result fits
+  abbrev Fit : SearchResult → Type 0
+  Fit r = PathFits (r .answer) (r .checkpoint .length)
+
   pub path-fits : (c : Checkpoint) (budget : ℕ) → PathFits (R.search-result i c budget .answer) (R.search-result i c budget .checkpoint .length)
   unfolding R.refused R.result-of
   path-fits c budget = go (call-is i c budget)
     where
-      rewrite : {r : SearchResult} → R.search-result i c budget ≡ r → PathFits (r .answer) (r .checkpoint .length)
-          → PathFits (R.search-result i c budget .answer) (R.search-result i c budget .checkpoint .length)
-      rewrite e f = subst (λ (x : SearchResult). PathFits (x .answer) (x .checkpoint .length)) (sym e) f
-
-      go : CallIs i c budget (R.search-result i c budget) → PathFits (R.search-result i c budget .answer) (R.search-result i c budget .checkpoint .length)
-      go (invalid d r) = rewrite r tt
-      go (not-following d n r) = rewrite r tt
+      go : CallIs i c budget (R.search-result i c budget) → Fit (R.search-result i c budget)
+      go (invalid d r) = subst Fit (sym r) tt
+      go (not-following d n r) = subst Fit (sym r) tt
       go (searched d φ r) =
-          let μ = steps (machine (problem-of i)) budget (checkpoint-of c) in
-          let f = T.reached-follows (problem-of i) budget (checkpoint-of c) (φ .follows) in
-          let s = value-short μ (short (problem-of i) (valid-sound i v long) μ f) in
-          rewrite r (fits (C.answer (machine (problem-of i)) (plan-at (problem-of i)) μ) (value-of μ .length) s)
+          let p = problem-of i in
+          let μ = steps (machine p) budget (checkpoint-of c) in
+          let f = T.reached-follows p budget (checkpoint-of c) (φ .follows) in
+          let s = value-short μ (short p (valid-sound i v long) μ f) in
+          subst Fit (sym r) (fits (C.answer (machine p) (plan-at p) μ) (value-of μ .length) s)
 
 -- the check of a plan of the right length
 pub checked-is : (i : Instance) (plan : List ℕ) (q : Packing) (r : CheckAnswer) → length plan ≡ 6 * i .«item_count» → q ≡ packing-in plan → r ≡ check-answer i q

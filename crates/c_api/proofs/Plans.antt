@@ -51,80 +51,96 @@ module _ (sheet : List ℕ) (bytes : Bytes sheet) (r : Reads sheet) where
 -- Check by the table: a fault's number, or yes or no
 
 module _ (sheet plan : List ℕ) where
-  fault-code : {n : ℕ} → CheckBytesFault sheet plan n → check-code sheet plan ≡ 100 + n
+  abbrev code : ℕ
+  code = check-code sheet plan
+
+  abbrev Fault : ℕ → Type 0
+  Fault n = CheckBytesFault sheet plan n
+
+  fault-code : {n : ℕ} → Fault n → code ≡ 100 + n
   unfolding check-code
   fault-code (CheckBytesFault.unread e d k) = rw (d, k)
   fault-code (CheckBytesFault.eight r h k) = rw (r .reads, ne-eqb _ _ h, k)
 
   -- there is a fault, or nothing is refused
-  by-table : ((n : ℕ) × CheckBytesFault sheet plan n) ⊎ Checkable sheet plan
+  by-table : ((n : ℕ) × Fault n) ⊎ Checkable sheet plan
   by-table = go (read-or-refused sheet)
     where
-      read : (r : Reads sheet) (b : Bool) → plan-fits (r .instance) (length plan) ≡ b → ((n : ℕ) × CheckBytesFault sheet plan n) ⊎ Checkable sheet plan
+      read : (r : Reads sheet) (b : Bool) → plan-fits (r .instance) (length plan) ≡ b → ((n : ℕ) × Fault n) ⊎ Checkable sheet plan
       read r true h = inr (record { sheet-reads = r; plan-is = eqb-true _ _ h })
       read r false h = inl (8, CheckBytesFault.eight r (λ l. clash (eq-eqb _ _ l) h) refl)
 
-      go : Reads sheet ⊎ ((e : Refusal) × (decode sheet ≡ refused e)) → ((n : ℕ) × CheckBytesFault sheet plan n) ⊎ Checkable sheet plan
+      go : Reads sheet ⊎ ((e : Refusal) × (decode sheet ≡ refused e)) → ((n : ℕ) × Fault n) ⊎ Checkable sheet plan
       go (inl r) = read r (plan-fits (r .instance) (length plan)) refl
       go (inr (e, d)) = inl (number-of e, CheckBytesFault.unread e d refl)
 
   module _ (bytes : Bytes sheet) where
-    by-test : (c : Checkable sheet plan)
-        → check-code sheet plan ≡ check-number (answer-of true (feasible (problem-of (c .sheet-reads .instance)) (positions-of (packing-in plan))))
+    -- where nothing is refused, the test of the plan decides
+    abbrev test : Checkable sheet plan → Bool
+    test c = feasible (problem-of (c .sheet-reads .instance)) (positions-of (packing-in plan))
+
+    by-test : (c : Checkable sheet plan) → code ≡ check-number (answer-of true (test c))
     unfolding check-code check-answer
     by-test c = rw (c .sheet-reads .reads, eq-eqb _ _ (c .plan-is), reads-valid sheet bytes (c .sheet-reads))
 
-    decided : (c : Checkable sheet plan) → (Fits c × (check-code sheet plan ≡ 1)) ⊎ ((Fits c → ⊥) × (check-code sheet plan ≡ 0))
-    decided c = go (feasible (problem-of (c .sheet-reads .instance)) (positions-of (packing-in plan))) refl
+    decided : (c : Checkable sheet plan) → (Fits c × (code ≡ 1)) ⊎ ((Fits c → ⊥) × (code ≡ 0))
+    decided c = go (test c) refl
       where
-        go : (b : Bool) → feasible (problem-of (c .sheet-reads .instance)) (positions-of (packing-in plan)) ≡ b
-            → (Fits c × (check-code sheet plan ≡ 1)) ⊎ ((Fits c → ⊥) × (check-code sheet plan ≡ 0))
+        go : (b : Bool) → test c ≡ b → (Fits c × (code ≡ 1)) ⊎ ((Fits c → ⊥) × (code ≡ 0))
         go true e = inl (T.feasible-test _ _ .0 e, by-test c ∙ rw e)
         go false e = inr ((λ f. clash (T.feasible-test _ _ .1 f) e), by-test c ∙ rw e)
 
     -- "nothing else is refused"
-    pub check-refuses : (n : ℕ) → (check-code sheet plan ≡ 100 + n) ↔ CheckBytesFault sheet plan n
+    pub check-refuses : (n : ℕ) → (code ≡ 100 + n) ↔ Fault n
     check-refuses n = ((λ e. fore e by-table), fault-code)
       where
-        fore : check-code sheet plan ≡ 100 + n → ((m : ℕ) × CheckBytesFault sheet plan m) ⊎ Checkable sheet plan → CheckBytesFault sheet plan n
-        fore e (inl (m, φ)) = let same : m ≡ n = omega (arith, fault-code φ) in subst (CheckBytesFault sheet plan) same φ
+        fore : code ≡ 100 + n → ((m : ℕ) × Fault m) ⊎ Checkable sheet plan → Fault n
+        fore e (inl (m, φ)) = let same : m ≡ n = omega (arith, fault-code φ) in subst Fault same φ
         fore e (inr c) = absurd (⊎-elim (λ (f, k). omega arith) (λ (f, k). omega arith) (decided c))
 
-    -- what check says where nothing is refused; a number below 100 is no fault's
-    said : {A : Type 0} {n : ℕ} → n < 100 → check-code sheet plan ≡ n → (Checkable sheet plan → A) → A
-    said {A} l e f = go by-table
+    -- a number below 100 is no fault's
+    said : {A : Type 0} → code < 100 → (Checkable sheet plan → A) → A
+    said {A} l f = go by-table
       where
-        go : ((m : ℕ) × CheckBytesFault sheet plan m) ⊎ Checkable sheet plan → A
+        go : ((m : ℕ) × Fault m) ⊎ Checkable sheet plan → A
         go (inl (m, φ)) = absurd (omega (arith, fault-code φ))
         go (inr c) = f c
 
     -- "Check returns 0 no, 1 yes": yes exactly when the plan fits
-    pub yes-exactly : (check-code sheet plan ≡ 1) ↔ ((c : Checkable sheet plan) × Fits c)
+    pub yes-exactly : (code ≡ 1) ↔ ((c : Checkable sheet plan) × Fits c)
     yes-exactly = (
-      (λ e. said (omega arith) e (λ c. ⊎-elim (λ (f, k). (c, f)) (λ (f, k). absurd (omega arith)) (decided c))),
+      (λ e. said (omega arith) (λ c. ⊎-elim (λ (f, k). (c, f)) (λ (f, k). absurd (omega arith)) (decided c))),
       (λ (c, f). ⊎-elim (λ (g, k). k) (λ (g, k). absurd (g f)) (decided c)),
     )
 
-    pub no-exactly : (check-code sheet plan ≡ 0) ↔ ((c : Checkable sheet plan) × (Fits c → ⊥))
+    pub no-exactly : (code ≡ 0) ↔ ((c : Checkable sheet plan) × (Fits c → ⊥))
     no-exactly = (
-      (λ e. said (omega arith) e (λ c. ⊎-elim (λ (f, k). absurd (omega arith)) (λ (f, k). (c, f)) (decided c))),
+      (λ e. said (omega arith) (λ c. ⊎-elim (λ (f, k). absurd (omega arith)) (λ (f, k). (c, f)) (decided c))),
       (λ (c, f). ⊎-elim (λ (g, k). absurd (f g)) (λ (g, k). k) (decided c)),
     )
 
 -- the plan bytes of a plan that fits get yes
-pub placed-checks : (sheet : List ℕ) → Bytes sheet → (r : Reads sheet) (κ : S.Checkpoint) → Feasible (problem-of (r .instance)) (plan-at (problem-of (r .instance)) κ)
-    → check-code sheet (plan-bytes (r .instance) κ) ≡ 1
-unfolding positions-of packing-of problem-of
-placed-checks sheet bytes r κ f = yes-exactly sheet (plan-bytes (r .instance) κ) bytes .1 (
-  record { sheet-reads = r; plan-is = packing-length (r .instance .«item_count») (packing-of (problem-of (r .instance)) (plan-at (problem-of (r .instance)) κ)) few },
-  Value.feasible-same (problem-of (r .instance)) (reads-sound sheet bytes r) (plan-at (problem-of (r .instance)) κ) _ same f,
-)
-  where
-    few : r .instance .«item_count» ≤ 10
-    few = reads-sound sheet bytes r .limited
+module _ (sheet : List ℕ) (bytes : Bytes sheet) (r : Reads sheet) (κ : S.Checkpoint) where
+  abbrev n : ℕ
+  n = r .instance .«item_count»
 
-    same : (a u : ℕ) → a < 3 → u < problem-of (r .instance) .items
-        → positions-of (packing-in (plan-bytes (r .instance) κ)) a u ≡ plan-at (problem-of (r .instance)) κ a u
-    same a u la lu =
-        ap (start a) (packing-back (r .instance .«item_count») u (packing-of (problem-of (r .instance)) (plan-at (problem-of (r .instance)) κ)) few few lu)
-        ∙ Value.packing-back (problem-of (r .instance)) few (plan-at (problem-of (r .instance)) κ) a u la lu
+  abbrev q : Positions
+  q = plan-at (problem-of (r .instance)) κ
+
+  few : n ≤ 10
+  unfolding problem-of
+  few = reads-sound sheet bytes r .limited
+
+  -- the positions come back from the plan bytes
+  same : (a u : ℕ) → a < 3 → u < problem-of (r .instance) .items → positions-of (packing-in (plan-bytes (r .instance) κ)) a u ≡ q a u
+  unfolding positions-of packing-of problem-of
+  same a u la lu =
+      ap (start a) (packing-back n u (packing-of (problem-of (r .instance)) q) few few lu)
+      ∙ Value.packing-back (problem-of (r .instance)) few q a u la lu
+
+  pub placed-checks : Feasible (problem-of (r .instance)) q → check-code sheet (plan-bytes (r .instance) κ) ≡ 1
+  unfolding packing-of
+  placed-checks f = yes-exactly sheet (plan-bytes (r .instance) κ) bytes .1 (
+    record { sheet-reads = r; plan-is = packing-length n (packing-of (problem-of (r .instance)) q) few },
+    Value.feasible-same (problem-of (r .instance)) (reads-sound sheet bytes r) q _ same f,
+  )

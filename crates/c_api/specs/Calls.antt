@@ -57,7 +57,8 @@ searched-if true f i note budget = R.followed-if f (problem-of i) budget (checkp
 
 -- the call on a sheet that reads as i, with so many step bytes and plan bytes
 unfoldable pub instance-searched : Instance → List ℕ → ℕ → ℕ → ℕ → SearchResult
-instance-searched i note budget steps plan = searched-if (lengths-fit i (length note) steps plan) (note-follows (problem-of i) note) i note budget
+instance-searched i note budget steps plan =
+    searched-if (lengths-fit i (length note) steps plan) (note-follows (problem-of i) note) i note budget
 
 -- "or a refusal as check does": the sheet's first
 abbrev pub searched : Read Instance → List ℕ → ℕ → ℕ → ℕ → SearchResult

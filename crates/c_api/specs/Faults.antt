@@ -1,4 +1,5 @@
--- The table's conditions for check and search on bytes, in their order (document 01, "Refusals": "the sheet's refusals come first", "8 before 10").
+-- The table's conditions for check and search on bytes, in their order (document 01, "Refusals": "the sheet's refusals come first",
+-- "8 before 10").
 use mathlib.Core.List.{List}
 use mathlib.Core.Path.{_≡_}
 use Prim.Native.Nat.{ℕ, _*_}

@@ -110,10 +110,12 @@ module _ (i : Instance) (v : valid i ≡ true) (φ : Full i) where
   sound : Sound (problem-of i)
   sound = valid-sound i v (φ .items-room)
 
-  value-checks : (κ : S.Checkpoint) → Feasible (problem-of i) (plan-at (problem-of i) κ) → check-number (check-answer i (values i .plan-of κ)) ≡ 1
+  value-checks : (κ : S.Checkpoint) → Feasible (problem-of i) (plan-at (problem-of i) κ)
+      → check-number (check-answer i (values i .plan-of κ)) ≡ 1
   value-checks κ f =
-      let q = plan-at (problem-of i) κ in
-      decides i (packing-of (problem-of i) q) .yes .1 (v, feasible-same (problem-of i) sound q _ (packing-back (problem-of i) (sound .limited) q) f)
+      let p = problem-of i in
+      let q = plan-at p κ in
+      decides i (packing-of p q) .yes .1 (v, feasible-same p sound q _ (packing-back p (sound .limited) q) f)
 
   in-values : Holds (problem-of i) (values i) (λ q. check-number (check-answer i q))
   in-values =
@@ -121,7 +123,8 @@ module _ (i : Instance) (v : valid i ≡ true) (φ : Full i) where
       (λ q y. (positions-of q, decides i q .yes .0 y .1))
 
 -- a call that says placed is on a valid instance
-placed-valid : (i : Instance) (c : Checkpoint) (budget : ℕ) → answer-number (search-result i c budget .answer) ≡ 1 → (b : Bool) → valid i ≡ b → valid i ≡ true
+placed-valid : (i : Instance) (c : Checkpoint) (budget : ℕ) → answer-number (search-result i c budget .answer) ≡ 1
+    → (b : Bool) → valid i ≡ b → valid i ≡ true
 placed-valid i c budget e true v = v
 placed-valid i c budget e false v = absurd (omega (arith, Values.refuses i c budget 9 .1 (nine v refl)))
 

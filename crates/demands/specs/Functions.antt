@@ -1,7 +1,7 @@
--- The functions open to callers. `runs`: the function's own theorem, that whoever calls it with values of its parameters' types finds that it stays
--- inside its memory, ends, and returns and leaves what its contract says. `asks`: the contract asks nothing of these values. `says`: what the
--- contract promises, by the definitions that the demands are about; where these need it, also what the types say of the arguments (`Bytes`, `Full`).
--- κs are lifetimes, a the arguments, r the result, s the parameters at exit.
+-- The functions open to callers. `runs`: the function's own theorem, that whoever calls it with values of its parameters' types finds that it
+-- stays inside its memory, ends, and returns and leaves what its contract says. `asks`: the contract asks nothing of these values. `says`:
+-- what the contract promises, by the definitions that the demands are about; where these need it, also what the types say of the arguments
+-- (`Bytes`, `Full`). κs are lifetimes, a the arguments, r the result, s the parameters at exit.
 use mathlib.Core.Path.{_≡_}
 use contract.Lifetimes.{Lfts}
 use lib.ListN.{length}
@@ -84,7 +84,8 @@ pub record Functions (M : Type 1) : Type 2 where
   pub record-says : (κs : Lfts 1) (a : _) (r : _) (s : _) → Record.Learnt κs a r s → r .now ≡ item-record (a .0 .now) (a .1 .0)
   pub record-refusal-runs : RecordRefusalRuns.statement M
   pub record-refusal-asks : (κs : Lfts 1) (a : _) → RecordRefusal.Asked κs a
-  pub record-refusal-says : (κs : Lfts 1) (a : _) (r : _) (s : _) → RecordRefusal.Learnt κs a r s → r ≡ item-record-code (a .0 .now) (a .1 .0)
+  pub record-refusal-says : (κs : Lfts 1) (a : _) (r : _) (s : _) → RecordRefusal.Learnt κs a r s
+      → r ≡ item-record-code (a .0 .now) (a .1 .0)
   -- `packing::check`
   pub check-runs : CheckRuns.statement M
   pub check-asks : (κs : Lfts 0) (a : _) → Check.Asked κs a

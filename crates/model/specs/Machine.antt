@@ -1,7 +1,7 @@
 -- A machine that takes steps from an opening state until it is finished: what calls with a budget, and the claim about them, are stated over.
 use Prim.Native.Nat.{ℕ, zero, suc, _<_}
 
--- "A note is open, none or placed"
+-- "A note is open, none or placed": open is running, none failed, placed succeeded
 pub data Status : Type 0 where
   running failed succeeded : Status
 
@@ -39,7 +39,8 @@ module _ {S : Type 0} (M : Machine S) where
   taken zero κ = 0
   taken (suc i) κ = elim (M .status κ) [ running ↦ suc (taken i (M .step κ)) | failed ↦ 0 | succeeded ↦ 0 ]
 
-  -- "takes steps from the opening note until the note is finished. The number of these steps": c steps on it is finished, and before that it is open
+  -- "takes steps from the opening note until the note is finished. The number of these steps": c steps on it is finished, and before that
+  -- it is open
   pub record Count (κ : S) (c : ℕ) : Type 0 where
     pub finished : Finished (steps c κ)
     pub before : (i : ℕ) → i < c → Open (steps i κ)

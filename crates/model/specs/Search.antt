@@ -36,6 +36,7 @@ step look path = act (look path) path
 abbrev pub opening : Checkpoint
 opening = open-at []
 
+-- whether a checkpoint is open, none or placed, and its row
 abbrev pub status : Checkpoint → Status
 status (open-at path) = running
 status infeasible = failed

@@ -57,7 +57,10 @@ module _ (p : Problem) (σ : Sound p) (κ : S.Checkpoint) (f : S.Follows (look p
       go (S.packed-at path) f = T.path-270 p σ path (f .0)
 
   pub held-follows : Following p (value-of κ)
-  held-follows = record { is-well-formed = value-well-formed κ short; follows = subst (S.Follows (look p)) (sym (checkpoint-back κ short)) f }
+  held-follows = record {
+    is-well-formed = value-well-formed κ short;
+    follows = subst (S.Follows (look p)) (sym (checkpoint-back κ short)) f;
+  }
 
 -- an answer of the search is no refusal
 pub answered-small : (p : Problem) (r : C.Result S.Checkpoint Positions) → answer-number (result-of p r .answer) < 100
@@ -77,6 +80,13 @@ pub data CallIs (i : Instance) (c : Checkpoint) (budget : ℕ) (r : SearchResult
       → CallIs i c budget r
 
 module _ (i : Instance) (c : Checkpoint) (budget : ℕ) where
+  abbrev result : SearchResult
+  result = search-result i c budget
+
+  -- the search's own
+  abbrev own : SearchResult
+  own = result-of (problem-of i) (search (problem-of i) budget (checkpoint-of c))
+
   pub call-is : CallIs i c budget (search-result i c budget)
   unfolding search-result
   call-is = go (valid i) (following (problem-of i) c) refl refl
@@ -87,18 +97,21 @@ module _ (i : Instance) (c : Checkpoint) (budget : ℕ) where
       go true true d e = searched d (following-so (problem-of i) c .0 e) (rw (d, e))
 
   -- a call on a checkpoint that follows is refused for nothing
-  pub served-is : valid i ≡ true → Following (problem-of i) c → search-result i c budget ≡ result-of (problem-of i) (search (problem-of i) budget (checkpoint-of c))
+  pub served-is : valid i ≡ true → Following (problem-of i) c → result ≡ own
   served-is v φ = go call-is
     where
-      go : CallIs i c budget (search-result i c budget) → search-result i c budget ≡ result-of (problem-of i) (search (problem-of i) budget (checkpoint-of c))
+      go : CallIs i c budget result → result ≡ own
       go (invalid d r) = absurd (clash v d)
       go (not-following d n r) = absurd (n φ)
       go (searched d f r) = r
 
-  code : {r : SearchResult} → search-result i c budget ≡ r → answer-number (search-result i c budget .answer) ≡ answer-number (r .answer)
+  code : {r : SearchResult} → result ≡ r → answer-number (result .answer) ≡ answer-number (r .answer)
   code e = ap (λ (x : SearchResult). answer-number (x .answer)) e
 
-  fault-code : {n : ℕ} → SearchFault i c n → answer-number (search-result i c budget .answer) ≡ 100 + n
+  own-small : answer-number (own .answer) < 100
+  own-small = answered-small (problem-of i) (search (problem-of i) budget (checkpoint-of c))
+
+  fault-code : {n : ℕ} → SearchFault i c n → answer-number (result .answer) ≡ 100 + n
   unfolding search-result refused
   fault-code (nine v k) = rw (v, k)
   fault-code (ten v h k) = rw (v, not-so _ (following-so (problem-of i) c) h, k)
@@ -108,22 +121,21 @@ module _ (i : Instance) (c : Checkpoint) (budget : ℕ) where
   unfolding refused
   refuses n = (fore call-is, fault-code)
     where
-      fore : CallIs i c budget (search-result i c budget) → answer-number (search-result i c budget .answer) ≡ 100 + n → SearchFault i c n
+      fore : CallIs i c budget result → answer-number (result .answer) ≡ 100 + n → SearchFault i c n
       fore (invalid d r) e = nine d (omega (arith, code r))
       fore (not-following d f r) e = ten d f (omega (arith, code r))
-      fore (searched d φ r) e = absurd (omega (arith, code r, answered-small (problem-of i) (search (problem-of i) budget (checkpoint-of c))))
+      fore (searched d φ r) e = absurd (omega (arith, code r, own-small))
 
   -- "a refused search hands its note back with 0 steps", and "all ten are 0": 100 and above are a refusal's numbers
-  pub handed-back : 100 ≤ answer-number (search-result i c budget .answer)
-      → (search-result i c budget .checkpoint ≡ c) × (search-result i c budget .steps ≡ 0) × (search-result i c budget .packing ≡ origin-packing)
+  pub handed-back : 100 ≤ answer-number (search-result i c budget .answer) → let r = search-result i c budget in
+      (r .checkpoint ≡ c) × (r .steps ≡ 0) × (r .packing ≡ origin-packing)
   unfolding refused
   handed-back h = go call-is
     where
-      go : CallIs i c budget (search-result i c budget)
-          → (search-result i c budget .checkpoint ≡ c) × (search-result i c budget .steps ≡ 0) × (search-result i c budget .packing ≡ origin-packing)
+      go : CallIs i c budget result → (result .checkpoint ≡ c) × (result .steps ≡ 0) × (result .packing ≡ origin-packing)
       go (invalid d r) = (rw r, rw r, rw r)
       go (not-following d f r) = (rw r, rw r, rw r)
-      go (searched d φ r) = absurd (omega (arith, code r, answered-small (problem-of i) (search (problem-of i) budget (checkpoint-of c))))
+      go (searched d φ r) = absurd (omega (arith, code r, own-small))
 
 module _ (i : Instance) (v : valid i ≡ true) (long : length (i .items) ≡ 10) where
   sound : Sound (problem-of i)
@@ -133,7 +145,8 @@ module _ (i : Instance) (v : valid i ≡ true) (long : length (i .items) ≡ 10)
   p = problem-of i
 
   -- a call on the value of a checkpoint that follows is the model's
-  call-held : (κ : S.Checkpoint) → S.Follows (look p) κ → (budget : ℕ) → search-result i (value-of κ) budget ≡ result-of p (search p budget κ)
+  call-held : (κ : S.Checkpoint) → S.Follows (look p) κ → (budget : ℕ)
+      → search-result i (value-of κ) budget ≡ result-of p (search p budget κ)
   call-held κ f budget =
       served-is i (value-of κ) budget v (held-follows p sound κ f)
       ∙ ap (λ (μ : S.Checkpoint). result-of p (search p budget μ)) (checkpoint-back κ (short p sound κ f))
