@@ -31,6 +31,12 @@ ended-not-zero running f e = f
 ended-not-zero failed f e = omega arith
 ended-not-zero succeeded f e = omega arith
 
+-- no state but a placed one has a plan
+unplanned : {S C X P : Type 0} (w : Service S C X P) (c : C) (κ : S) (s : Status) → (status-number s ≡ 1 → ⊥) → plan-by w c κ s ≡ w .no-plan c
+unplanned w c κ running n = refl
+unplanned w c κ failed n = refl
+unplanned w c κ succeeded n = absurd (n refl)
+
 -- What counts of a call
 
 none-counts : (code m : ℕ) → 100 ≤ code → cond (ltb code 100) m 0 ≡ 0
@@ -141,6 +147,7 @@ module _ {S C X P : Type 0} (M : Machine S) (Follows : S → Type 0) (ι : Invar
       spent = λ h. absurd (omega arith);
       answer = λ h. absurd (omega arith);
       plan = λ h. absurd (omega arith);
+      no-plan = λ h. absurd (omega arith);
     }
     by-cases (answered α) =
         let l : returned-code w earlier c < 100 = omega (arith, α .code, number-small (M .status (at there))) in
@@ -150,6 +157,7 @@ module _ {S C X P : Type 0} (M : Machine S) (Follows : S → Type 0) (ι : Invar
           spent = λ h. subst (λ (n : ℕ). (n ≡ 0) ↔ (there < count)) (sym (α .code)) (spent-when there);
           answer = λ h g. α .code ∙ ap (λ (μ : S). status-number (M .status μ)) (past-count M (M .opening) count there k g);
           plan = λ h g. α .plan ∙ ap (λ (μ : S). plan-by w c μ (M .status μ)) (past-count M (M .opening) count there k g);
+          no-plan = λ h n. α .plan ∙ unplanned w c (at there) (M .status (at there)) (λ e. n (α .code ∙ e));
         }
 
   -- the claim about every list of calls

@@ -87,6 +87,8 @@ module _ {S C X P : Type 0} (M : Machine S) (w : Service S C X P) where
     -- "placed came with the run's whole plan, on the screen as plan bytes"
     pub plan : returned-code w earlier c < 100 → count ≤ budget-sum w earlier + w .budget c
         → let end = steps M count (M .opening) in returned-plan w earlier c ≡ plan-by w c end (M .status end)
+    -- "Where a search doesn't answer placed, all ten are 0"; "and the plan bytes only when placed"
+    pub no-plan : returned-code w earlier c < 100 → (returned-code w earlier c ≡ 1 → ⊥) → returned-plan w earlier c ≡ w .no-plan c
 
   -- "After every list on a sheet that isn't refused:"
   pub record Claim (count : ℕ) (calls : List C) : Type 0 where
