@@ -29,7 +29,7 @@ use Rattle.search.specs.Checkpoints.{value-of}
 use Rattle.search.specs.Results as R
 use Rattle.search.specs.declared.SearchResult.{SearchResult}
 use Rattle.buffers.proofs.Bytes.{steps-back}
-use Rattle.c_api.specs.Calls.{lengths-fit, note-follows, instance-searched, searched, search-call, search-code}
+use Rattle.c_api.specs.Calls.{lengths-fit, note-follows, instance-searched, searched, note-of, search-call, search-code}
 use Rattle.c_api.specs.Lists.{Lent, Call, own, other, on-bytes}
 use Rattle.c_api.specs.Notes.{note-bytes}
 use Rattle.c_api.proofs.Faults.{untouched}
@@ -65,13 +65,17 @@ module _ (sheet : List ℕ) (bytes : Bytes sheet) (r : Reads sheet) where
     unfolding search-call instance-searched R.refused
     wrong-length h = rw (r .reads, note-length κ, h) (omega arith)
 
+    -- the note that a result leaves
+    abbrev left : SearchResult → List ℕ
+    left x = note-of x (note-bytes κ)
+
     reaches : (t : ℕ) (μ : S.Checkpoint) → t ≡ taken (machine p) (c .allowance) κ
         → call ≡ R.result-of p (record { answer = C.answer (machine p) (plan-at p) μ; steps = t; checkpoint = μ })
         → Reaches (machine p) (on-bytes sheet i) (own c) κ μ
     unfolding R.result-of note-bytes
-    reaches t (S.open-at path) d e = record { code = rw e; next = rw e; steps = rw (e, steps-back t) d; plan = rw e }
-    reaches t S.infeasible d e = record { code = rw e; next = rw e; steps = rw (e, steps-back t) d; plan = rw e }
-    reaches t (S.packed-at path) d e = record { code = rw e; next = rw e; steps = rw (e, steps-back t) d; plan = rw (r .reads, e) }
+    reaches t (S.open-at path) d e = record { code = rw e; next = ap left e; steps = rw (e, steps-back t) d; plan = rw e }
+    reaches t S.infeasible d e = record { code = rw e; next = ap left e; steps = rw (e, steps-back t) d; plan = rw e }
+    reaches t (S.packed-at path) d e = record { code = rw e; next = ap left e; steps = rw (e, steps-back t) d; plan = rw (r .reads, e) }
 
     by-lengths : S.Follows (look p) κ → (b : Bool) → lengths-fit i 273 (length (c .steps)) (length (c .plan)) ≡ b
         → Served (machine p) (on-bytes sheet i) (own c) κ

@@ -1,5 +1,5 @@
 -- Split runs agree with the one run: the claim about every list of calls, for whoever serves each call by the machine's steps.
-use mathlib.Core.Bool.{true, false, cond}
+use mathlib.Core.Bool.{true, false}
 use mathlib.Core.List.{List, [], _∷_}
 use mathlib.Core.Logic.{_↔_}
 use mathlib.Core.Path.{_≡_, refl, sym, ap, _∙_, subst}
@@ -7,10 +7,9 @@ use Prim.Native.Nat.{ℕ, _+_, _-_, _≤_, _<_, min}
 use native.Mathlib.Decide.{decLt}
 use native.Mathlib.Nat.{add-assoc, add-zero}
 use native.Mathlib.Omega.{arith}
-use lib.Dec.{ltb}
 use borrow.Author.Tests.{lt-ltb, le-ltb}
 use Rattle.model.specs.Machine.{Status, running, failed, succeeded, Machine, Running, Ended, steps, Count, Invariant}
-use Rattle.model.specs.Lists.{Service, status-number, held-from, held, added, budget-sum, returned-code, returned-plan, plan-by, Right, Claim, Served, call-refused, call-served, Serves, AllRefused}
+use Rattle.model.specs.Lists.{Service, status-number, counted, held-from, held, added, budget-sum, returned-code, returned-plan, plan-by, Right, Claim, Served, call-refused, call-served, Serves, AllRefused}
 use Rattle.model.proofs.Below.{clash}
 use Rattle.model.proofs.Machine.{steps-add, past-count, count-later, taken-is, steps-keep}
 
@@ -39,10 +38,10 @@ unplanned w c κ succeeded n = absurd (n refl)
 
 -- What counts of a call
 
-none-counts : (code m : ℕ) → 100 ≤ code → cond (ltb code 100) m 0 ≡ 0
+none-counts : (code m : ℕ) → 100 ≤ code → counted code m ≡ 0
 none-counts code m h = rw (le-ltb code 100 h)
 
-all-counts : (code m : ℕ) → code < 100 → cond (ltb code 100) m 0 ≡ m
+all-counts : (code m : ℕ) → code < 100 → counted code m ≡ m
 all-counts code m h = rw (lt-ltb code 100 h)
 
 module _ {S C X P : Type 0} (M : Machine S) (Follows : S → Type 0) (ι : Invariant M Follows) (w : Service S C X P) (υ : Serves M w Follows)
@@ -66,8 +65,8 @@ module _ {S C X P : Type 0} (M : Machine S) (Follows : S → Type 0) (ι : Invar
     total : min s count + added w (w .steps) x cs ≡ min (s + added w budget-of x cs) count
 
   -- one more call in front, of which i of the budget and m steps count
-  in-front : (c : C) (cs : List C) (s : ℕ) (x y : X) (i m : ℕ) → w .next c x ≡ y → cond (ltb (w .code c x) 100) (w .budget c) 0 ≡ i
-      → cond (ltb (w .code c x) 100) (w .steps c x) 0 ≡ m → min s count + m ≡ min (s + i) count → From (s + i) y cs → From s x (c ∷ cs)
+  in-front : (c : C) (cs : List C) (s : ℕ) (x y : X) (i m : ℕ) → w .next c x ≡ y → counted (w .code c x) (w .budget c) ≡ i
+      → counted (w .code c x) (w .steps c x) ≡ m → min s count + m ≡ min (s + i) count → From (s + i) y cs → From s x (c ∷ cs)
   in-front c cs s x y i m e u v h f = record {
     checkpoint = rw (e, u) (f .checkpoint ∙ ap (λ (t : ℕ). w .hold (at t)) (add-assoc s i (added w budget-of y cs)));
     total = rw (e, u, v) (omega (arith, f .total, add-assoc s i (added w budget-of y cs)));

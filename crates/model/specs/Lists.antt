@@ -36,6 +36,10 @@ status-number running = 0
 status-number succeeded = 1
 status-number failed = 2
 
+-- what counts of a call that returns this number: nothing where it is refused
+abbrev pub counted : ℕ → ℕ → ℕ
+counted code m = cond (ltb code 100) m 0
+
 module _ {S C X P : Type 0} (w : Service S C X P) where
   -- "each later one the note that the last returned or left"
   abbrev pub held-from : X → List C → X
@@ -46,10 +50,10 @@ module _ {S C X P : Type 0} (w : Service S C X P) where
   abbrev pub held : List C → X
   held cs = held-from (w .opening) cs
 
-  -- added up over the calls that are not refused: their numbers are below 100
+  -- added up over the calls that are not refused
   abbrev pub added : (C → X → ℕ) → X → List C → ℕ
   added f x [] = 0
-  added f x (c ∷ cs) = cond (ltb (w .code c x) 100) (f c x) 0 + added f (w .next c x) cs
+  added f x (c ∷ cs) = counted (w .code c x) (f c x) + added f (w .next c x) cs
 
   -- "The sum at any point adds the allowances of the calls so far that were not refused"
   abbrev pub budget-sum : List C → ℕ

@@ -1,6 +1,7 @@
 -- `c_api::hallplan_search` meets its contract.
 use native.Mathlib.Omega.{arith}
 use mathlib.Core.Path.{refl}
+use Rattle.records.specs.Bounds.{Bytes}
 use Rattle.instance.specs.Decode.{decode}
 use Rattle.instance.proofs.Inverse.{read-valid}
 use Rattle.instance.proofs.Lookup.{was-read, was-refused}
@@ -9,6 +10,10 @@ use Rattle.c_api.specs.Calls.{search-call}
 use borrow.Author.Needs.{needs}
 use Rattle.c_api.proofs.hallplan_search.Statement.{statement}
 use Rattle.c_api.proofs.hallplan_search.Tie as tie
+
+-- the elements of sheet and note, by their type
+are-bytes : (c : tie.After-slice-known) → Bytes (c .before .before .args .sheet .now) × Bytes (c .before .before .args .note .now)
+are-bytes c = ((λ k. omega (arith, c .before .shared-slice-known .given k)), (λ k. omega (arith, c .slice-known .given k)))
 
 read-requires : tie.Need-read-requires
 read-requires c κs = search needs
@@ -32,7 +37,7 @@ returns : tie.Need-returns
 unfolding search-call refused
 returns c =
     let s = c .before .before .before .before .before .before .before .before .before .before .args .sheet .now in
-    rw (was-refused (decode s) (c .before .before .before .before .before .read .result) (c .before .before .before .before .before .read .ensures) (c .before .before .answer .given .1)) (c .refusal-code .ensures, (refl, (refl, (refl, ((λ k. omega (arith, c .before .before .before .before .before .before .before .before .before .shared-slice-known .given k)), (λ k. omega (arith, c .before .before .before .before .before .before .before .before .slice-known .given k)))))))
+    rw (was-refused (decode s) (c .before .before .before .before .before .read .result) (c .before .before .before .before .before .read .ensures) (c .before .before .answer .given .1)) (c .refusal-code .ensures, (refl, (refl, (refl, are-bytes (c .before .before .before .before .before .before .before .before)))))
 
 same-length : tie.Need-same-length
 same-length c = search needs
@@ -49,7 +54,7 @@ returns-2 c =
     let s = c .before .before .before .before .before .before .before .before .before .before .before .before .before .before .before .before .before .before .args .sheet .now in
     let w = was-read (decode s) (c .before .before .before .before .before .before .before .before .before .before .before .before .before .read .result) (c .before .before .before .before .before .before .before .before .before .before .before .before .before .read .ensures) (c .before .before .before .before .before .before .before .before .before .before .enum-told .given .1) in
     let q = c .before .before .before .before .before .before .search-instance .ensures in
-    rw (w .was) (q .0, (q .1 .0, (q .1 .1 .0, (q .1 .1 .1, ((λ k. omega (arith, c .before .before .before .before .before .before .before .before .before .before .before .before .before .before .before .before .before .shared-slice-known .given k)), (λ k. omega (arith, c .before .before .before .before .before .before .before .before .before .before .before .before .before .before .before .before .slice-known .given k)))))))
+    rw (w .was) (q .0, (q .1 .0, (q .1 .1 .0, (q .1 .1 .1, are-bytes (c .before .before .before .before .before .before .before .before .before .before .before .before .before .before .before .before)))))
 
 pub hallplan-search-spec : {M : Type 1} → statement M
 hallplan-search-spec =
