@@ -56,7 +56,7 @@ well-formed c = leb (c .length) 270 && (length-allowed (c .status) (c .length) &
 unfoldable pub following : Problem → Checkpoint → Bool
 following p c = well-formed c && S.follows (look p) (checkpoint-of c)
 
--- the same as a statement. proofs/Checkpoints shows that they agree
+-- the same as a statement. proofs/Claim shows that they agree
 pub record Following (p : Problem) (c : Checkpoint) : Type 0 where
   pub is-well-formed : well-formed c ≡ true
   pub follows : S.Follows (look p) (checkpoint-of c)
