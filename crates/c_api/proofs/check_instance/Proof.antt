@@ -12,29 +12,11 @@ use Rattle.c_api.proofs.check_instance.Tie as tie
 mul-if1 : tie.Need-mul-if1
 mul-if1 c = omega (arith, valid-says (c .before .args .instance) (c .before .pre) .items-few)
 
-refusal-code-requires : tie.Need-refusal-code-requires
-refusal-code-requires c κs = search needs
-
 returns : tie.Need-returns
 returns c = rw (c .refusal-code .ensures, ne-eqb _ _ (c .before .if1 .taken))
 
 read-packing-requires : tie.Need-read-packing-requires
 read-packing-requires c κs = (valid-says (c .before .before .args .instance) (c .before .before .pre) .items-few, c .if1 .left)
-
-check-requires : tie.Need-check-requires
-check-requires c κs = search needs
-
-enum-told : tie.Need-enum-told
-enum-told c = search needs
-
-enum-told-2 : tie.Need-enum-told-2
-enum-told-2 c = search needs
-
-enum-known-e : tie.Need-enum-known-e
-enum-known-e c = search needs
-
-refusal-code-requires-2 : tie.Need-refusal-code-requires-2
-refusal-code-requires-2 c κs = search needs
 
 returns-2 : tie.Need-returns-2
 returns-2 c =
@@ -54,16 +36,5 @@ returns-4 c =
 pub check-instance-spec : {M : Type 1} → statement M
 check-instance-spec =
     tie.close
-    (tie.spec
-    mul-if1
-    refusal-code-requires
-    returns
-    read-packing-requires
-    check-requires
-    enum-told
-    enum-told-2
-    enum-known-e
-    refusal-code-requires-2
-    returns-2
-    returns-3
-    returns-4)
+    (tie.spec mul-if1 (λ c κs. search needs) returns read-packing-requires (λ c κs. search needs) (λ c. search needs)
+    (λ c. search needs) (λ c. search needs) (λ c κs. search needs) returns-2 returns-3 returns-4)

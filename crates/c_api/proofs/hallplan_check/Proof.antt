@@ -8,18 +8,6 @@ use borrow.Author.Needs.{needs}
 use Rattle.c_api.proofs.hallplan_check.Statement.{statement}
 use Rattle.c_api.proofs.hallplan_check.Tie as tie
 
-read-requires : tie.Need-read-requires
-read-requires c κs = search needs
-
-enum-known-answer : tie.Need-enum-known-answer
-enum-known-answer c = search needs
-
-refusal-code-requires : tie.Need-refusal-code-requires
-refusal-code-requires c κs = search needs
-
-enum-told : tie.Need-enum-told
-enum-told c = search needs
-
 check-instance-requires : tie.Need-check-instance-requires
 check-instance-requires c κs =
     let s = c .before .before .before .before .before .before .args .sheet .now in
@@ -43,11 +31,5 @@ returns-2 c =
 pub hallplan-check-spec : {M : Type 1} → statement M
 hallplan-check-spec =
     tie.close
-    (tie.spec
-    read-requires
-    enum-known-answer
-    refusal-code-requires
-    enum-told
-    check-instance-requires
-    returns
-    returns-2)
+    (tie.spec (λ c κs. search needs) (λ c. search needs) (λ c κs. search needs) (λ c. search needs) check-instance-requires
+    returns returns-2)

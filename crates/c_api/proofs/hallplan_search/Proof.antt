@@ -15,18 +15,6 @@ use Rattle.c_api.proofs.hallplan_search.Tie as tie
 are-bytes : (c : tie.After-slice-known) → Bytes (c .before .before .args .sheet .now) × Bytes (c .before .before .args .note .now)
 are-bytes c = ((λ k. omega (arith, c .before .shared-slice-known .given k)), (λ k. omega (arith, c .slice-known .given k)))
 
-read-requires : tie.Need-read-requires
-read-requires c κs = search needs
-
-enum-known-answer : tie.Need-enum-known-answer
-enum-known-answer c = search needs
-
-refusal-code-requires : tie.Need-refusal-code-requires
-refusal-code-requires c κs = search needs
-
-enum-told : tie.Need-enum-told
-enum-told c = search needs
-
 search-instance-requires : tie.Need-search-instance-requires
 search-instance-requires c κs =
     let s = c .before .before .before .before .before .before .before .before .before .before .before .args .sheet .now in
@@ -39,15 +27,6 @@ returns c =
     let s = c .before .before .before .before .before .before .before .before .before .before .args .sheet .now in
     rw (was-refused (decode s) (c .before .before .before .before .before .read .result) (c .before .before .before .before .before .read .ensures) (c .before .before .answer .given .1)) (c .refusal-code .ensures, (refl, (refl, (refl, are-bytes (c .before .before .before .before .before .before .before .before)))))
 
-same-length : tie.Need-same-length
-same-length c = search needs
-
-same-length-2 : tie.Need-same-length-2
-same-length-2 c = search needs
-
-same-length-3 : tie.Need-same-length-3
-same-length-3 c = search needs
-
 returns-2 : tie.Need-returns-2
 unfolding search-call
 returns-2 c =
@@ -59,14 +38,5 @@ returns-2 c =
 pub hallplan-search-spec : {M : Type 1} → statement M
 hallplan-search-spec =
     tie.close
-    (tie.spec
-    read-requires
-    enum-known-answer
-    refusal-code-requires
-    enum-told
-    search-instance-requires
-    returns
-    same-length
-    same-length-2
-    same-length-3
-    returns-2)
+    (tie.spec (λ c κs. search needs) (λ c. search needs) (λ c κs. search needs) (λ c. search needs) search-instance-requires
+    returns (λ c. search needs) (λ c. search needs) (λ c. search needs) returns-2)

@@ -28,12 +28,6 @@ right c =
     let a = c .before .before .before .before .before .args in
     lengths-so (a .instance) (a .note .now) (a .steps .now) (a .plan .now) .0 (fit c)
 
-lengths-fit-requires : tie.Need-lengths-fit-requires
-lengths-fit-requires c κs = search needs
-
-refusal-code-requires : tie.Need-refusal-code-requires
-refusal-code-requires c κs = search needs
-
 returns : tie.Need-returns
 unfolding refused
 returns c =
@@ -43,12 +37,6 @@ returns c =
 
 is-checkpoint-requires : tie.Need-is-checkpoint-requires
 is-checkpoint-requires c κs = right (c .before) .note-is
-
-refusal-code-requires-2 : tie.Need-refusal-code-requires-2
-refusal-code-requires-2 c κs = search needs
-
-same-length : tie.Need-same-length
-same-length c = search needs
 
 returns-2 : tie.Need-returns-2
 unfolding refused
@@ -60,9 +48,6 @@ returns-2 c =
 read-checkpoint-requires : tie.Need-read-checkpoint-requires
 read-checkpoint-requires c κs = right (c .before .before .before .before) .note-is
 
-search-requires : tie.Need-search-requires
-search-requires c κs = search needs
-
 hand-over-requires : tie.Need-hand-over-requires
 hand-over-requires c κs =
     let a = c .before .before .before .before .before .before .before .before .before .before .before .before .before .before .args in
@@ -70,15 +55,6 @@ hand-over-requires c κs =
       rw (c .before .before .before .search .ensures .0) (path-fits (a .instance) (c .before .before .before .before .before .before .before .before .before .before .before .before .before .before .pre) (long (c .before .before .before .before .before .before .before .before .before .before .before .before .before .before)) (c .before .before .before .before .read-checkpoint .result) (a .allowance)),
       (l .note-is, l .steps-are, l .plan-is, valid-says (a .instance) (c .before .before .before .before .before .before .before .before .before .before .before .before .before .before .pre) .items-few),
     )
-
-same-length-2 : tie.Need-same-length-2
-same-length-2 c = search needs
-
-same-length-3 : tie.Need-same-length-3
-same-length-3 c = search needs
-
-same-length-4 : tie.Need-same-length-4
-same-length-4 c = search needs
 
 returns-3 : tie.Need-returns-3
 returns-3 c =
@@ -91,18 +67,6 @@ returns-3 c =
 pub search-instance-spec : {M : Type 1} → statement M
 search-instance-spec =
     tie.close
-    (tie.spec
-    lengths-fit-requires
-    refusal-code-requires
-    returns
-    is-checkpoint-requires
-    refusal-code-requires-2
-    same-length
-    returns-2
-    read-checkpoint-requires
-    search-requires
-    hand-over-requires
-    same-length-2
-    same-length-3
-    same-length-4
-    returns-3)
+    (tie.spec (λ c κs. search needs) (λ c κs. search needs) returns is-checkpoint-requires (λ c κs. search needs)
+    (λ c. search needs) returns-2 read-checkpoint-requires (λ c κs. search needs) hand-over-requires (λ c. search needs)
+    (λ c. search needs) (λ c. search needs) returns-3)

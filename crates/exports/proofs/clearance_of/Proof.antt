@@ -19,27 +19,6 @@ refused r r′ same e h q u v a = rw (sym same, h) refl
 given : (r r′ : ReadResult) → r ≡ r′ → r .answer ≡ R.Read → (q : Packing) (u v a : ℕ) → clearance-answer (r .instance) q u v a ≡ sheet-clearance (r′ .answer) (r′ .instance) q u v a
 given r r′ same h q u v a = rw (sym same, h) refl
 
-read-requires : tie.Need-read-requires
-read-requires c κs = search needs
-
-enum-known-answer : tie.Need-enum-known-answer
-enum-known-answer c = search needs
-
-enum-told : tie.Need-enum-told
-enum-told c = search needs
-
-origin-requires : tie.Need-origin-requires
-origin-requires c κs = search needs
-
-placed-requires : tie.Need-placed-requires
-placed-requires c κs = search needs
-
-placed-requires-2 : tie.Need-placed-requires-2
-placed-requires-2 c κs = search needs
-
-clearance-requires : tie.Need-clearance-requires
-clearance-requires c κs = search needs
-
 returns : tie.Need-returns
 returns c = refused _ _ (c .before .before .before .before .read .ensures) _ (c .before .answer .given .1) _ _ _ _
 
@@ -55,13 +34,5 @@ returns-2 c =
 pub clearance-of-spec : {M : Type 1} → statement M
 clearance-of-spec =
     tie.close
-    (tie.spec
-    read-requires
-    enum-known-answer
-    enum-told
-    origin-requires
-    placed-requires
-    placed-requires-2
-    clearance-requires
-    returns
-    returns-2)
+    (tie.spec (λ c κs. search needs) (λ c. search needs) (λ c. search needs) (λ c κs. search needs) (λ c κs. search needs)
+    (λ c κs. search needs) (λ c κs. search needs) returns returns-2)

@@ -7,15 +7,6 @@ use borrow.Author.Needs.{needs}
 use Rattle.exports.proofs.exports_clearance.Statement.{statement}
 use Rattle.exports.proofs.exports_clearance.Tie as tie
 
-clearance-of-requires : tie.Need-clearance-of-requires
-clearance-of-requires c κs = search needs
-
-enum-known-n : tie.Need-enum-known-n
-enum-known-n c = search needs
-
-enum-told : tie.Need-enum-told
-enum-told c = search needs
-
 returns : tie.Need-returns
 returns c = toZ-ofZ w32 _ (record { sfits = c .known-told .given .0 .1 }) ∙ ap clearance-integer (sym (c .before .n .given .1) ∙ c .before .before .before .clearance-of .ensures)
 
@@ -24,4 +15,4 @@ returns-2 c = ap clearance-integer (sym (c .enum-told .given .1) ∙ c .before .
 
 pub exports-clearance-spec : {M : Type 1} → statement M
 exports-clearance-spec =
-    tie.close (tie.spec clearance-of-requires enum-known-n enum-told returns returns-2)
+    tie.close (tie.spec (λ c κs. search needs) (λ c. search needs) (λ c. search needs) returns returns-2)

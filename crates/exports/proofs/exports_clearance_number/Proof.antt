@@ -5,21 +5,6 @@ use borrow.Author.Needs.{needs}
 use Rattle.exports.proofs.exports_clearance_number.Statement.{statement}
 use Rattle.exports.proofs.exports_clearance_number.Tie as tie
 
-clearance-of-requires : tie.Need-clearance-of-requires
-clearance-of-requires c κs = search needs
-
-enum-told : tie.Need-enum-told
-enum-told c = search needs
-
-enum-known-e : tie.Need-enum-known-e
-enum-known-e c = search needs
-
-number-requires : tie.Need-number-requires
-number-requires c κs = search needs
-
-wide-requires : tie.Need-wide-requires
-wide-requires c κs = search needs
-
 returns : tie.Need-returns
 returns c = ap clearance-number (sym (c .enum-told .given .1) ∙ c .before .before .clearance-of .ensures)
 
@@ -29,11 +14,5 @@ returns-2 c = c .wide .ensures ∙ c .before .number .ensures ∙ ap clearance-n
 pub exports-clearance-number-spec : {M : Type 1} → statement M
 exports-clearance-number-spec =
     tie.close
-    (tie.spec
-    clearance-of-requires
-    enum-told
-    enum-known-e
-    number-requires
-    wide-requires
-    returns
-    returns-2)
+    (tie.spec (λ c κs. search needs) (λ c. search needs) (λ c. search needs) (λ c κs. search needs) (λ c κs. search needs)
+    returns returns-2)

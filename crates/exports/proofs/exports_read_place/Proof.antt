@@ -4,18 +4,6 @@ use borrow.Author.Needs.{needs}
 use Rattle.exports.proofs.exports_read_place.Statement.{statement}
 use Rattle.exports.proofs.exports_read_place.Tie as tie
 
-read-requires : tie.Need-read-requires
-read-requires c κs = search needs
-
-enum-told : tie.Need-enum-told
-enum-told c = search needs
-
-enum-known-answer : tie.Need-enum-known-answer
-enum-known-answer c = search needs
-
-place-requires : tie.Need-place-requires
-place-requires c κs = search needs
-
 returns : tie.Need-returns
 unfolding decode
 returns c = search needs
@@ -26,4 +14,4 @@ returns-2 c = search needs
 
 pub exports-read-place-spec : {M : Type 1} → statement M
 exports-read-place-spec =
-    tie.close (tie.spec read-requires enum-told enum-known-answer place-requires returns returns-2)
+    tie.close (tie.spec (λ c κs. search needs) (λ c. search needs) (λ c. search needs) (λ c κs. search needs) returns returns-2)

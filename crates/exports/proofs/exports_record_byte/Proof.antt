@@ -18,17 +18,8 @@ past : (s : List ℕ) (i : ℕ) → length s ≤ i → 256 ≡ byte-at s i
 unfolding byte-at
 past s i above = sym (ap (λ (t : Bool). cond t (getD s i 0) 256) (le-ltb i (length s) above))
 
-item-record-requires : tie.Need-item-record-requires
-item-record-requires c κs = search needs
-
 returns : tie.Need-returns
 returns c = let i = c .before .before .before .args .i in past _ i (c .if1 .taken) ∙ ap (λ s. byte-at s i) (c .before .item-record .ensures)
-
-shared-slice-read-wide : tie.Need-shared-slice-read-wide
-shared-slice-read-wide c = search needs
-
-wide-requires : tie.Need-wide-requires
-wide-requires c κs = search needs
 
 returns-2 : tie.Need-returns-2
 returns-2 c =
@@ -38,4 +29,4 @@ returns-2 c =
 pub exports-record-byte-spec : {M : Type 1} → statement M
 exports-record-byte-spec =
     tie.close
-    (tie.spec item-record-requires returns shared-slice-read-wide wide-requires returns-2)
+    (tie.spec (λ c κs. search needs) returns (λ c. search needs) (λ c κs. search needs) returns-2)

@@ -15,24 +15,6 @@ use Rattle.exports.proofs.exports_rewrite.Tie as tie
 rewrote : (q q′ : ReadResult) → q ≡ q′ → q .answer ≡ R.Read → (room : List ℕ) → (rewrite-length (q′ .answer) (q′ .instance) (length room) ≡ rewritten-length (write-answer (q .instance) (length room))) × (rewrite-room (q′ .answer) (q′ .instance) room ≡ written-room (q .instance) room)
 rewrote q q′ e a room = rw (sym e, a) (refl, refl)
 
-read-requires : tie.Need-read-requires
-read-requires c κs = search needs
-
-enum-told : tie.Need-enum-told
-enum-told c = search needs
-
-write-requires : tie.Need-write-requires
-write-requires c κs = search needs
-
-written-requires : tie.Need-written-requires
-written-requires c κs = search needs
-
-enum-told-2 : tie.Need-enum-told-2
-enum-told-2 c = search needs
-
-same-length : tie.Need-same-length
-same-length c = search needs
-
 returns : tie.Need-returns
 returns c =
     let w = rewrote _ _ (c .before .before .before .before .before .before .before .before .read .ensures) (c .before .before .before .before .before .enum-told .given .1) _ in
@@ -45,12 +27,5 @@ returns-2 c = search needs
 pub exports-rewrite-spec : {M : Type 1} → statement M
 exports-rewrite-spec =
     tie.close
-    (tie.spec
-    read-requires
-    enum-told
-    write-requires
-    written-requires
-    enum-told-2
-    same-length
-    returns
-    returns-2)
+    (tie.spec (λ c κs. search needs) (λ c. search needs) (λ c κs. search needs) (λ c κs. search needs) (λ c. search needs)
+    (λ c. search needs) returns returns-2)

@@ -18,12 +18,6 @@ stays : (q : Packing) (k : ℕ) (x : Position) → 10 ≤ k → q ≡ with-item 
 unfolding with-item
 stays q k x above = sym (ap (λ (t : Bool). cond t (item-put q k x) q) (le-ltb k 10 above))
 
-mul-positions : tie.Need-mul-positions
-mul-positions c = search needs
-
-array-set-from-positions : tie.Need-array-set-from-positions
-array-set-from-positions c = search needs
-
 returns : tie.Need-returns
 returns c = let a = c .before .before .args in put (a .packing) (a .k) (a .position) (c .if1 .taken)
 
@@ -31,4 +25,4 @@ returns-2 : tie.Need-returns-2
 returns-2 c = let a = c .before .before .args in stays (a .packing) (a .k) (a .position) (c .if1 .left)
 
 pub placed-spec : {M : Type 1} → statement M
-placed-spec = tie.close (tie.spec mul-positions array-set-from-positions returns returns-2)
+placed-spec = tie.close (tie.spec (λ c. search needs) (λ c. search needs) returns returns-2)

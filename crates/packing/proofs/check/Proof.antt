@@ -9,9 +9,6 @@ use borrow.Author.Needs.{needs}
 use Rattle.packing.proofs.check.Statement.{statement}
 use Rattle.packing.proofs.check.Tie as tie
 
-is-valid-requires : tie.Need-is-valid-requires
-is-valid-requires c κs = search needs
-
 returns : tie.Need-returns
 unfolding check-answer
 returns c = decided _ _ _ (sym (rw (← (c .before .is-valid .ensures), not-true (c .before .is-valid .result) (c .if1 .taken)) refl))
@@ -44,13 +41,5 @@ returns-5 c = decided _ _ _ (sym (rw (← (c .before .before .before .before .be
 pub check-spec : {M : Type 1} → statement M
 check-spec =
     tie.close
-    (tie.spec
-    is-valid-requires
-    returns
-    inside-requires
-    returns-2
-    apart-requires
-    returns-3
-    ordered-requires
-    returns-4
+    (tie.spec (λ c κs. search needs) returns inside-requires returns-2 apart-requires returns-3 ordered-requires returns-4
     returns-5)

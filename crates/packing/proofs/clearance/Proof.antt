@@ -12,9 +12,6 @@ use borrow.Author.Needs.{needs}
 use Rattle.packing.proofs.clearance.Statement.{statement}
 use Rattle.packing.proofs.clearance.Tie as tie
 
-is-valid-requires : tie.Need-is-valid-requires
-is-valid-requires c κs = search needs
-
 returns : tie.Need-returns
 unfolding clearance-answer
 returns c = answered _ _ _ _ _ _ (sym (rw (← (c .before .is-valid .ensures), not-true (c .before .is-valid .result) (c .if1 .taken)) refl))
@@ -41,11 +38,4 @@ returns-5 c = answered _ _ _ _ _ _ (sym (rw (← (c .before .before .before .bef
 pub clearance-spec : {M : Type 1} → statement M
 clearance-spec =
     tie.close
-    (tie.spec
-    is-valid-requires
-    returns
-    returns-2
-    returns-3
-    returns-4
-    clearance-on-requires
-    returns-5)
+    (tie.spec (λ c κs. search needs) returns returns-2 returns-3 returns-4 clearance-on-requires returns-5)

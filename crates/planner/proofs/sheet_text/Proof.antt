@@ -5,38 +5,14 @@ use borrow.Author.Needs.{needs}
 use Rattle.planner.proofs.sheet_text.Statement.{statement}
 use Rattle.planner.proofs.sheet_text.Tie as tie
 
-read-requires : tie.Need-read-requires
-read-requires c κs = search needs
-
-enum-told : tie.Need-enum-told
-enum-told c = search needs
-
-opening-requires : tie.Need-opening-requires
-opening-requires c κs = search needs
-
-search-requires : tie.Need-search-requires
-search-requires c κs = search needs
-
 result-text-requires : tie.Need-result-text-requires
 result-text-requires c κs = (few-items (c .before .before .before .before .before .before .before .before .before .args .sheet .now) (c .before .before .before .before .before .before .read .result) (c .before .before .before .before .before .before .read .ensures) (λ j. c .before .before .before .before .before .before .before .shared-slice-known .given j .fits) (c .before .before .before .before .enum-told .given .1), omega arith)
-
-enum-known-answer : tie.Need-enum-known-answer
-enum-known-answer c = search needs
-
-refused-requires : tie.Need-refused-requires
-refused-requires c κs = search needs
-
-same-length : tie.Need-same-length
-same-length c = search needs
 
 returns : tie.Need-returns
 returns c =
     let w = c .before .before .result-text .ensures in
     let e = text-read (c .before .before .before .before .before .before .before .before .before .before .before .before .args .sheet .now) (c .before .before .before .before .before .before .before .before .before .read .result) (c .before .before .before .before .before .before .before .before .before .read .ensures) (c .before .before .before .before .before .before .before .enum-told .given .1) in
     rw (e, ← (c .before .before .before .before .before .opening .ensures), ← (c .before .before .before .before .search .ensures .0)) (w .0, w .1)
-
-same-length-2 : tie.Need-same-length-2
-same-length-2 c = search needs
 
 returns-2 : tie.Need-returns-2
 returns-2 c =
@@ -46,15 +22,5 @@ returns-2 c =
 pub sheet-text-spec : {M : Type 1} → statement M
 sheet-text-spec =
     tie.close
-    (tie.spec
-    read-requires
-    enum-told
-    opening-requires
-    search-requires
-    result-text-requires
-    enum-known-answer
-    refused-requires
-    same-length
-    returns
-    same-length-2
-    returns-2)
+    (tie.spec (λ c κs. search needs) (λ c. search needs) (λ c κs. search needs) (λ c κs. search needs) result-text-requires
+    (λ c. search needs) (λ c κs. search needs) (λ c. search needs) returns (λ c. search needs) returns-2)

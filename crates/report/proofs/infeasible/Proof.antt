@@ -7,18 +7,12 @@ use Rattle.records.proofs.Writers.{sets-front}
 use Rattle.report.proofs.infeasible.Statement.{statement}
 use Rattle.report.proofs.infeasible.Tie as tie
 
-slice-aggregate-put-answer : tie.Need-slice-aggregate-put-answer
-slice-aggregate-put-answer c = search needs
-
 put-answer-requires : tie.Need-put-answer-requires
 put-answer-requires c κs = (omega arith, omega arith)
-
-same-length : tie.Need-same-length
-same-length c = search needs
 
 returns : tie.Need-returns
 returns c = let a = c .before .before .before .before .before .before .args in let w = c .before .before .put-answer .ensures in ((w .0 .0, omega arith), w .1 ∙ sets-front (infeasible-text (a .steps)) (a .out .now) (omega (arith, w .0)))
 
 pub infeasible-spec : {M : Type 1} → statement M
 infeasible-spec =
-    tie.close (tie.spec slice-aggregate-put-answer put-answer-requires same-length returns)
+    tie.close (tie.spec (λ c. search needs) put-answer-requires (λ c. search needs) returns)

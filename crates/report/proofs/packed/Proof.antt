@@ -10,9 +10,6 @@ use Rattle.report.proofs.Puts.{joined}
 use Rattle.report.proofs.packed.Statement.{statement}
 use Rattle.report.proofs.packed.Tie as tie
 
-slice-aggregate-put-answer : tie.Need-slice-aggregate-put-answer
-slice-aggregate-put-answer c = search needs
-
 put-answer-requires : tie.Need-put-answer-requires
 put-answer-requires c κs = (omega arith, omega arith)
 
@@ -35,9 +32,4 @@ returns c =
 pub packed-spec : {M : Type 1} → statement M
 packed-spec =
     tie.close
-    (tie.spec
-    slice-aggregate-put-answer
-    put-answer-requires
-    put-items-requires
-    same-length
-    returns)
+    (tie.spec (λ c. search needs) put-answer-requires put-items-requires same-length returns)

@@ -12,23 +12,8 @@ use Rattle.report.proofs.Puts.{refused-length, refused-run}
 use Rattle.report.proofs.refused.Statement.{statement}
 use Rattle.report.proofs.refused.Tie as tie
 
-slice-aggregate-put-bytes : tie.Need-slice-aggregate-put-bytes
-slice-aggregate-put-bytes c = search needs
-
-put-bytes-requires : tie.Need-put-bytes-requires
-put-bytes-requires c κs = omega arith
-
-number-requires : tie.Need-number-requires
-number-requires c κs = search needs
-
-cast-put-field : tie.Need-cast-put-field
-cast-put-field c = search needs
-
 put-field-requires : tie.Need-put-field-requires
 put-field-requires c κs = omega (arith, decimal-short 2 (c .number .result) (omega arith), c .before .before .before .before .put-bytes .kept .0)
-
-place-requires : tie.Need-place-requires
-place-requires c κs = search needs
 
 put-field-requires-2 : tie.Need-put-field-requires-2
 put-field-requires-2 c κs = omega (arith, decimal-short 2 (c .before .before .before .before .before .number .result) (omega (arith, c .before .before .before .before .before)), decimal-short 19 (c .place .result) (omega arith), c .before .before .before .before .before .before .before .before .before .put-bytes .kept .0, c .before .before .before .before .put-field .kept .0)
@@ -58,15 +43,5 @@ returns c =
 pub refused-spec : {M : Type 1} → statement M
 refused-spec =
     tie.close
-    (tie.spec
-    slice-aggregate-put-bytes
-    put-bytes-requires
-    number-requires
-    cast-put-field
-    put-field-requires
-    place-requires
-    put-field-requires-2
-    slice-write-out
-    add-result
-    same-length
-    returns)
+    (tie.spec (λ c. search needs) (λ c κs. omega arith) (λ c κs. search needs) (λ c. search needs) put-field-requires
+    (λ c κs. search needs) put-field-requires-2 slice-write-out add-result same-length returns)

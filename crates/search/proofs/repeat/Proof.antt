@@ -63,17 +63,8 @@ seen : (c : tie.After-look)
     → Looked (problem (c .before .before .before .before .before .before .before .before .before .before .before .before .before .before .before .before .before .before)) (path (c .before .before .before .before .before .before .before .before .before .before .before .before .before .before .before .before .before .before .before .before .before .before .before)) (c .look .last .0) (c .look .last .1 .0) (c .look .last .1 .1 .0) (c .look .last .1 .1 .1 .0) (c .look .result)
 seen c = c .look .ensures .1 _ _ (here (c .before .before .before .before .before .before .before .before .before .before .before .before .before .before .before .before .before .before) .ready)
 
-replay-requires : tie.Need-replay-requires
-replay-requires c κs = search needs
-
-refused-requires : tie.Need-refused-requires
-refused-requires c κs = search needs
-
 returns : tie.Need-returns
 returns c = rw (← (c .before .before .before .replay .ensures .verdict), not-true (c .before .before .before .replay .result .follows) (c .before .if1 .taken)) (c .refused .ensures)
-
-shape-of-requires : tie.Need-shape-of-requires
-shape-of-requires c κs = search needs
 
 any-large-requires : tie.Need-any-large-requires
 any-large-requires c κs = (arrays (c .before .before .before .before .before .before .before .before .before) .sizes-long, arrays (c .before .before .before .before .before .before .before .before .before) .capacity-long)
@@ -81,29 +72,11 @@ any-large-requires c κs = (arrays (c .before .before .before .before .before .b
 look-requires : tie.Need-look-requires
 look-requires c κs = record { arrays = arrays (c .before .before .before .before .before .before .before .before .before .before .before .before .before .before .before .before .before); verdict = c .before .before .before .before .before .before .before .any-large .ensures; precedences = _; ready = here (c .before .before .before .before .before .before .before .before .before .before .before .before .before .before .before .before .before) .ready .ready }
 
-enum-told : tie.Need-enum-told
-enum-told c = search needs
-
 path-branches-requires : tie.Need-path-branches-requires
 path-branches-requires c κs = c .before .before .before .before .before .before .before .before .before .before .before .before .before .before .before .before .before .before .before .before .before .before .before .before .before .pre .1
 
 starts-of-requires : tie.Need-starts-of-requires
 starts-of-requires c κs = startable _ _ _ _ (path (c .before .before .before .before .before .before .before .before .before .before .before .before .before .before .before .before .before .before .before .before .before .before .before .before .before .before .before .before .before)) (arrays (c .before .before .before .before .before .before .before .before .before .before .before .before .before .before .before .before .before .before .before .before .before .before .before .before)) (rw (c .before .before .before .before .enum-told .given .1) at (seen (c .before .before .before .before .before .before)))
-
-packed-requires : tie.Need-packed-requires
-packed-requires c κs = search needs
-
-enum-told-2 : tie.Need-enum-told-2
-enum-told-2 c = search needs
-
-refused-requires-2 : tie.Need-refused-requires-2
-refused-requires-2 c κs = search needs
-
-enum-told-3 : tie.Need-enum-told-3
-enum-told-3 c = search needs
-
-refused-requires-3 : tie.Need-refused-requires-3
-refused-requires-3 c κs = search needs
 
 returns-2 : tie.Need-returns-2
 returns-2 c =
@@ -138,21 +111,6 @@ returns-4 c =
 pub repeat-spec : {M : Type 1} → statement M
 repeat-spec =
     tie.close
-    (tie.spec
-    replay-requires
-    refused-requires
-    returns
-    shape-of-requires
-    any-large-requires
-    look-requires
-    enum-told
-    path-branches-requires
-    starts-of-requires
-    packed-requires
-    enum-told-2
-    refused-requires-2
-    enum-told-3
-    refused-requires-3
-    returns-2
-    returns-3
-    returns-4)
+    (tie.spec (λ c κs. search needs) (λ c κs. search needs) returns (λ c κs. search needs) any-large-requires look-requires
+    (λ c. search needs) path-branches-requires starts-of-requires (λ c κs. search needs) (λ c. search needs)
+    (λ c κs. search needs) (λ c. search needs) (λ c κs. search needs) returns-2 returns-3 returns-4)

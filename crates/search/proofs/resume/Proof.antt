@@ -6,18 +6,9 @@ use Rattle.search.proofs.Checkpoints.{path-length, path-again}
 use Rattle.search.proofs.resume.Statement.{statement}
 use Rattle.search.proofs.resume.Tie as tie
 
-replay-requires : tie.Need-replay-requires
-replay-requires c κs = search needs
-
-refused-requires : tie.Need-refused-requires
-refused-requires c κs = search needs
-
 returns : tie.Need-returns
 returns c =
     rw (← (c .before .before .before .replay .ensures .verdict), not-true (c .before .before .before .replay .result .follows) (c .before .if1 .taken)) (c .refused .ensures)
-
-path-branches-requires : tie.Need-path-branches-requires
-path-branches-requires c κs = search needs
 
 run-requires : tie.Need-run-requires
 run-requires c κs =
@@ -41,10 +32,4 @@ returns-2 c =
 pub resume-spec : {M : Type 1} → statement M
 resume-spec =
     tie.close
-    (tie.spec
-    replay-requires
-    refused-requires
-    returns
-    path-branches-requires
-    run-requires
-    returns-2)
+    (tie.spec (λ c κs. search needs) (λ c κs. search needs) returns (λ c κs. search needs) run-requires returns-2)

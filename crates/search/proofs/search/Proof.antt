@@ -17,24 +17,12 @@ use Rattle.search.proofs.search.Tie as tie
 full : (c : tie.Start) → Full (c .args .instance)
 full c = record { items-room = search length-mapped; precedences-room = search length-mapped }
 
-is-valid-requires : tie.Need-is-valid-requires
-is-valid-requires c κs = search needs
-
-refused-requires : tie.Need-refused-requires
-refused-requires c κs = search needs
-
 returns : tie.Need-returns
 unfolding search-result following
 returns c = (
   rw (← (c .before .before .is-valid .ensures), not-true (c .before .before .is-valid .result) (c .before .if1 .taken)) (c .refused .ensures),
   full (c .before .before .before),
 )
-
-is-well-formed-requires : tie.Need-is-well-formed-requires
-is-well-formed-requires c κs = search needs
-
-refused-requires-2 : tie.Need-refused-requires-2
-refused-requires-2 c κs = search needs
 
 returns-2 : tie.Need-returns-2
 unfolding search-result following
@@ -44,21 +32,9 @@ returns-2 c = (
   full (c .before .before .before .before .before),
 )
 
-enum-told : tie.Need-enum-told
-enum-told c = search needs
-
 resume-requires : tie.Need-resume-requires
 resume-requires c κs =
     (sym (c .before .before .before .before .before .is-valid .ensures) ∙ not-false _ (c .before .before .before .before .if1 .left), well-formed-bits _ (sym (c .before .before .before .is-well-formed .ensures) ∙ not-false _ (c .before .before .if2 .left)))
-
-enum-told-2 : tie.Need-enum-told-2
-enum-told-2 c = search needs
-
-infeasible-requires : tie.Need-infeasible-requires
-infeasible-requires c κs = search needs
-
-enum-told-3 : tie.Need-enum-told-3
-enum-told-3 c = search needs
 
 repeat-requires : tie.Need-repeat-requires
 repeat-requires c κs =
@@ -91,19 +67,6 @@ returns-5 c = (
 pub search-spec : {M : Type 1} → statement M
 search-spec =
     tie.close
-    (tie.spec
-    is-valid-requires
-    refused-requires
-    returns
-    is-well-formed-requires
-    refused-requires-2
-    returns-2
-    enum-told
-    resume-requires
-    enum-told-2
-    infeasible-requires
-    enum-told-3
-    repeat-requires
-    returns-3
-    returns-4
-    returns-5)
+    (tie.spec (λ c κs. search needs) (λ c κs. search needs) returns (λ c κs. search needs) (λ c κs. search needs) returns-2
+    (λ c. search needs) resume-requires (λ c. search needs) (λ c κs. search needs) (λ c. search needs) repeat-requires
+    returns-3 returns-4 returns-5)

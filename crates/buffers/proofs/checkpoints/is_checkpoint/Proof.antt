@@ -8,24 +8,9 @@ use borrow.Author.Needs.{needs}
 use Rattle.buffers.proofs.checkpoints.is_checkpoint.Statement.{statement}
 use Rattle.buffers.proofs.checkpoints.is_checkpoint.Tie as tie
 
-shared-slice-read-if1 : tie.Need-shared-slice-read-if1
-shared-slice-read-if1 c = search needs
-
 returns : tie.Need-returns
 unfolding is-checkpoint
 returns c = let h : 3 ≤ getD (c .before .before .before .args .note .now) 0 0 = omega arith in rw (le-ltb _ _ h)
-
-word-at-requires : tie.Need-word-at-requires
-word-at-requires c κs = search needs
-
-cast-zero-from : tie.Need-cast-zero-from
-cast-zero-from c = search needs
-
-add-zero-from : tie.Need-add-zero-from
-add-zero-from c = search needs
-
-zero-from-requires : tie.Need-zero-from-requires
-zero-from-requires c κs = search needs
 
 returns-2 : tie.Need-returns-2
 unfolding is-checkpoint
@@ -36,11 +21,5 @@ returns-2 c =
 pub is-checkpoint-spec : {M : Type 1} → statement M
 is-checkpoint-spec =
     tie.close
-    (tie.spec
-    shared-slice-read-if1
-    returns
-    word-at-requires
-    cast-zero-from
-    add-zero-from
-    zero-from-requires
-    returns-2)
+    (tie.spec (λ c. search needs) returns (λ c κs. search needs) (λ c. search needs) (λ c. search needs)
+    (λ c κs. search needs) returns-2)

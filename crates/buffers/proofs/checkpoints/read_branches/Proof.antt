@@ -17,21 +17,6 @@ abbrev μ-loop : tie.MeasureT-loop
 loop-holds : tie.Need-loop-holds Inv-loop μ-loop
 loop-holds c = (omega arith, refl, refl)
 
-add-branches : tie.Need-add-branches Inv-loop μ-loop
-add-branches c = omega arith
-
-shared-slice-read-branches : tie.Need-shared-slice-read-branches Inv-loop μ-loop
-shared-slice-read-branches c = omega arith
-
-array-write-branches : tie.Need-array-write-branches Inv-loop μ-loop
-array-write-branches c = omega arith
-
-add-i : tie.Need-add-i Inv-loop μ-loop
-add-i c = omega arith
-
-loop-less : tie.Need-loop-less Inv-loop μ-loop
-loop-less c = omega arith
-
 loop-again : tie.Need-loop-again Inv-loop μ-loop
 loop-again c =
     let l = c .before .before .loop in
@@ -47,14 +32,5 @@ returns c =
 pub read-branches-spec : {M : Type 1} → statement M
 read-branches-spec =
     tie.close
-    (tie.spec
-    Inv-loop
-    μ-loop
-    loop-holds
-    add-branches
-    shared-slice-read-branches
-    array-write-branches
-    add-i
-    loop-less
-    loop-again
-    returns)
+    (tie.spec Inv-loop μ-loop loop-holds (λ c. omega arith) (λ c. omega arith) (λ c. omega arith) (λ c. omega arith)
+    (λ c. omega arith) loop-again returns)

@@ -4,14 +4,8 @@ use borrow.Author.Needs.{needs}
 use Rattle.buffers.proofs.checkpoints.status_of.Statement.{statement}
 use Rattle.buffers.proofs.checkpoints.status_of.Tie as tie
 
-returns : tie.Need-returns
-returns c = search needs
-
-returns-2 : tie.Need-returns-2
-returns-2 c = search needs
-
 returns-3 : tie.Need-returns-3
 returns-3 c = status-other (c .before .before .args .b) (c .before .if1 .left) (c .if2 .left)
 
 pub status-of-spec : {M : Type 1} → statement M
-status-of-spec = tie.close (tie.spec returns returns-2 returns-3)
+status-of-spec = tie.close (tie.spec (λ c. search needs) (λ c. search needs) returns-3)

@@ -7,15 +7,6 @@ use borrow.Author.Needs.{needs}
 use Rattle.buffers.proofs.checkpoints.write_checkpoint.Statement.{statement}
 use Rattle.buffers.proofs.checkpoints.write_checkpoint.Tie as tie
 
-status-byte-requires : tie.Need-status-byte-requires
-status-byte-requires c κs = search needs
-
-slice-write-out : tie.Need-slice-write-out
-slice-write-out c = search needs
-
-cast-write-word : tie.Need-cast-write-word
-cast-write-word c = search needs
-
 write-word-requires : tie.Need-write-word-requires
 write-word-requires c κs = simp length-set (omega arith)
 
@@ -34,11 +25,5 @@ returns c =
 pub write-checkpoint-spec : {M : Type 1} → statement M
 write-checkpoint-spec =
     tie.close
-    (tie.spec
-    status-byte-requires
-    slice-write-out
-    cast-write-word
-    write-word-requires
-    write-branches-requires
-    same-length
-    returns)
+    (tie.spec (λ c κs. search needs) (λ c. search needs) (λ c. search needs) write-word-requires write-branches-requires
+    same-length returns)

@@ -19,18 +19,6 @@ loop-holds c = (omega arith, read-none (c .before .args .s .now))
 read-position-requires : tie.Need-read-position-requires Inv-loop μ-loop
 read-position-requires c κs = (omega arith, omega arith)
 
-mul-positions : tie.Need-mul-positions Inv-loop μ-loop
-mul-positions c = search needs
-
-array-set-from-positions : tie.Need-array-set-from-positions Inv-loop μ-loop
-array-set-from-positions c = omega arith
-
-add-u : tie.Need-add-u Inv-loop μ-loop
-add-u c = omega arith
-
-loop-less : tie.Need-loop-less Inv-loop μ-loop
-loop-less c = omega arith
-
 loop-again : tie.Need-loop-again Inv-loop μ-loop
 loop-again c = (omega arith, read-next (c .read-position .result) (c .before .before .loop .inv .1) (omega arith) (c .read-position .ensures))
 
@@ -43,14 +31,5 @@ returns c =
 pub read-packing-spec : {M : Type 1} → statement M
 read-packing-spec =
     tie.close
-    (tie.spec
-    Inv-loop
-    μ-loop
-    loop-holds
-    read-position-requires
-    mul-positions
-    array-set-from-positions
-    add-u
-    loop-less
-    loop-again
-    returns)
+    (tie.spec Inv-loop μ-loop loop-holds read-position-requires (λ c. search needs) (λ c. omega arith) (λ c. omega arith)
+    (λ c. omega arith) loop-again returns)

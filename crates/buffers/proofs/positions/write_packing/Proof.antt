@@ -22,24 +22,6 @@ abbrev μ-loop : tie.MeasureT-loop
 loop-holds : tie.Need-loop-holds Inv-loop μ-loop
 loop-holds c = (omega arith, rw (row-none position-bytes) refl, refl)
 
-mul-write-position : tie.Need-mul-write-position Inv-loop μ-loop
-mul-write-position c = omega arith
-
-mul-write-position-2 : tie.Need-mul-write-position-2 Inv-loop μ-loop
-mul-write-position-2 c = search needs
-
-array-copy-out-write-position : tie.Need-array-copy-out-write-position Inv-loop μ-loop
-array-copy-out-write-position c = omega arith
-
-write-position-requires : tie.Need-write-position-requires Inv-loop μ-loop
-write-position-requires c κs = omega arith
-
-add-u : tie.Need-add-u Inv-loop μ-loop
-add-u c = omega arith
-
-loop-less : tie.Need-loop-less Inv-loop μ-loop
-loop-less c = omega arith
-
 loop-again : tie.Need-loop-again Inv-loop μ-loop
 loop-again c =
     let l = c .before .before .before .before .before .before .loop in
@@ -62,16 +44,5 @@ returns c =
 pub write-packing-spec : {M : Type 1} → statement M
 write-packing-spec =
     tie.close
-    (tie.spec
-    Inv-loop
-    μ-loop
-    loop-holds
-    mul-write-position
-    mul-write-position-2
-    array-copy-out-write-position
-    write-position-requires
-    add-u
-    loop-less
-    loop-again
-    same-length
-    returns)
+    (tie.spec Inv-loop μ-loop loop-holds (λ c. omega arith) (λ c. search needs) (λ c. omega arith) (λ c κs. omega arith)
+    (λ c. omega arith) (λ c. omega arith) loop-again same-length returns)

@@ -8,24 +8,6 @@ use Rattle.domains.proofs.Branches.{removable, branched-once, branched-
 use Rattle.domains.proofs.branch.apply_branch.Statement.{statement}
 use Rattle.domains.proofs.branch.apply_branch.Tie as tie
 
-bit-requires : tie.Need-bit-requires
-bit-requires c κs = search needs
-
-mul-has : tie.Need-mul-has
-mul-has c = search needs
-
-add-has : tie.Need-add-has
-add-has c = search needs
-
-mul-has-2 : tie.Need-mul-has-2
-mul-has-2 c = search needs
-
-element-copy-out-has : tie.Need-element-copy-out-has
-element-copy-out-has c = search needs
-
-has-requires : tie.Need-has-requires
-has-requires c κs = search needs
-
 remove-requires : tie.Need-remove-requires
 remove-requires c κs = let b = c .before .before .before .before .before .before .before .before in removable (b .pre .0) (b .args .place) (b .pre .1) (c .before .before .before .before .before .before .before .bit .ensures .0) (b .pre .0) (omega arith)
 
@@ -68,19 +50,6 @@ returns-4 c =
 pub apply-branch-spec : {M : Type 1} → statement M
 apply-branch-spec =
     tie.close
-    (tie.spec
-    bit-requires
-    mul-has
-    add-has
-    mul-has-2
-    element-copy-out-has
-    has-requires
-    remove-requires
-    returns
-    remove-requires-2
-    returns-2
-    remove-requires-3
-    remove-requires-4
-    returns-3
-    remove-requires-5
-    returns-4)
+    (tie.spec (λ c κs. search needs) (λ c. search needs) (λ c. search needs) (λ c. search needs) (λ c. search needs)
+    (λ c κs. search needs) remove-requires returns remove-requires-2 returns-2 remove-requires-3 remove-requires-4 returns-3
+    remove-requires-5 returns-4)

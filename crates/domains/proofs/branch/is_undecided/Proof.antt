@@ -12,11 +12,8 @@ returns : tie.Need-returns
 unfolding overlap-bit before-bit after-bit
 returns c = rw (c .if1 .taken) refl
 
-is-separated-requires : tie.Need-is-separated-requires
-is-separated-requires c κs = search needs
-
 returns-2 : tie.Need-returns-2
 returns-2 c = let m = c .before .before .args .domain in sym (several-is m (c .before .before .pre) ∙ rw (ne-eqb m 1 (c .before .if1 .left)) (ap not (sym (c .is-separated .ensures))))
 
 pub is-undecided-spec : {M : Type 1} → statement M
-is-undecided-spec = tie.close (tie.spec returns is-separated-requires returns-2)
+is-undecided-spec = tie.close (tie.spec returns (λ c κs. search needs) returns-2)

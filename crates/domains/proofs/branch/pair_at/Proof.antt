@@ -6,24 +6,9 @@ use borrow.Author.Needs.{needs}
 use Rattle.domains.proofs.branch.pair_at.Statement.{statement}
 use Rattle.domains.proofs.branch.pair_at.Tie as tie
 
-mul-t4 : tie.Need-mul-t4
-mul-t4 c = search needs
-
-array-read-t7 : tie.Need-array-read-t7
-array-read-t7 c = search needs
-
 cast-t8 : tie.Need-cast-t8
 unfolding pairs
 cast-t8 c = omega (arith, table-small (c .args .number) (c .pre))
-
-mul-t9 : tie.Need-mul-t9
-mul-t9 c = search needs
-
-add-t10 : tie.Need-add-t10
-add-t10 c = search needs
-
-array-read-t13 : tie.Need-array-read-t13
-array-read-t13 c = search needs
 
 cast-t14 : tie.Need-cast-t14
 unfolding pairs
@@ -36,4 +21,5 @@ returns c = let e = table-at (c .args .number) (c .pre) in record { is-u = e .0;
 pub pair-at-spec : {M : Type 1} → statement M
 pair-at-spec =
     tie.close
-    (tie.spec mul-t4 array-read-t7 cast-t8 mul-t9 add-t10 array-read-t13 cast-t14 returns)
+    (tie.spec (λ c. search needs) (λ c. search needs) cast-t8 (λ c. search needs) (λ c. search needs) (λ c. search needs)
+    cast-t14 returns)

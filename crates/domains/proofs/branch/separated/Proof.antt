@@ -3,41 +3,17 @@ use borrow.Author.Needs.{needs}
 use Rattle.domains.proofs.branch.separated.Statement.{statement}
 use Rattle.domains.proofs.branch.separated.Tie as tie
 
-mul-is-separated : tie.Need-mul-is-separated
-mul-is-separated c = search needs
-
-element-copy-out-is-separated : tie.Need-element-copy-out-is-separated
-element-copy-out-is-separated c = search needs
-
 is-separated-requires : tie.Need-is-separated-requires
 is-separated-requires c κs = c .before .pre .0 .small _
 
 returns : tie.Need-returns
 returns c = rw (← (c .before .is-separated .ensures), c .if1 .taken)
 
-mul-is-separated-2 : tie.Need-mul-is-separated-2
-mul-is-separated-2 c = search needs
-
-add-is-separated : tie.Need-add-is-separated
-add-is-separated c = search needs
-
-element-copy-out-is-separated-2 : tie.Need-element-copy-out-is-separated-2
-element-copy-out-is-separated-2 c = search needs
-
 is-separated-requires-2 : tie.Need-is-separated-requires-2
 is-separated-requires-2 c κs = c .before .before .before .before .pre .0 .small _
 
 returns-2 : tie.Need-returns-2
 returns-2 c = rw (← (c .before .before .before .before .is-separated .ensures), c .before .before .before .if1 .left, ← (c .before .is-separated2 .ensures), c .if2 .taken)
-
-mul-is-separated-3 : tie.Need-mul-is-separated-3
-mul-is-separated-3 c = search needs
-
-add-is-separated-2 : tie.Need-add-is-separated-2
-add-is-separated-2 c = search needs
-
-element-copy-out-is-separated-3 : tie.Need-element-copy-out-is-separated-3
-element-copy-out-is-separated-3 c = search needs
 
 is-separated-requires-3 : tie.Need-is-separated-requires-3
 is-separated-requires-3 c κs = c .before .before .before .before .before .before .before .pre .0 .small _
@@ -48,18 +24,6 @@ returns-3 c = rw (← (c .before .before .before .before .before .before .is-sep
 pub separated-spec : {M : Type 1} → statement M
 separated-spec =
     tie.close
-    (tie.spec
-    mul-is-separated
-    element-copy-out-is-separated
-    is-separated-requires
-    returns
-    mul-is-separated-2
-    add-is-separated
-    element-copy-out-is-separated-2
-    is-separated-requires-2
-    returns-2
-    mul-is-separated-3
-    add-is-separated-2
-    element-copy-out-is-separated-3
-    is-separated-requires-3
-    returns-3)
+    (tie.spec (λ c. search needs) (λ c. search needs) is-separated-requires returns (λ c. search needs) (λ c. search needs)
+    (λ c. search needs) is-separated-requires-2 returns-2 (λ c. search needs) (λ c. search needs) (λ c. search needs)
+    is-separated-requires-3 returns-3)

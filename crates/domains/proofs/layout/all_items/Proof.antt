@@ -8,12 +8,6 @@ use Rattle.rows.proofs.Sets.{bit-first, power-between}
 use Rattle.domains.proofs.layout.all_items.Statement.{statement}
 use Rattle.domains.proofs.layout.all_items.Tie as tie
 
-cast-result : tie.Need-cast-result
-cast-result c = search needs
-
-shl-result : tie.Need-shl-result
-shl-result c = search needs
-
 sub-result : tie.Need-sub-result
 sub-result c = omega (arith, power-between (c .args .n) (c .pre))
 
@@ -25,4 +19,4 @@ returns c =
     (omega (arith, b), λ v h. ap (λ (m : ℕ). bit-at m v) e ∙ bit-first n v (c .pre) h)
 
 pub all-items-spec : {M : Type 1} → statement M
-all-items-spec = tie.close (tie.spec cast-result shl-result sub-result returns)
+all-items-spec = tie.close (tie.spec (λ c. search needs) (λ c. search needs) sub-result returns)

@@ -18,42 +18,6 @@ abbrev μ-loop : tie.MeasureT-loop
 loop-holds : tie.Need-loop-holds Inv-loop μ-loop
 loop-holds c = (omega arith, record { long = refl; at = λ a u ha hu. absurd (omega arith) })
 
-mul-item : tie.Need-mul-item Inv-loop μ-loop
-mul-item c = search needs
-
-array-copy-out-item : tie.Need-array-copy-out-item Inv-loop μ-loop
-array-copy-out-item c = search needs
-
-mul-sizes : tie.Need-mul-sizes Inv-loop μ-loop
-mul-sizes c = search needs
-
-array-write-sizes : tie.Need-array-write-sizes Inv-loop μ-loop
-array-write-sizes c = search needs
-
-add-sizes : tie.Need-add-sizes Inv-loop μ-loop
-add-sizes c = search needs
-
-mul-sizes-2 : tie.Need-mul-sizes-2 Inv-loop μ-loop
-mul-sizes-2 c = search needs
-
-array-write-sizes-2 : tie.Need-array-write-sizes-2 Inv-loop μ-loop
-array-write-sizes-2 c = search needs
-
-add-sizes-2 : tie.Need-add-sizes-2 Inv-loop μ-loop
-add-sizes-2 c = search needs
-
-mul-sizes-3 : tie.Need-mul-sizes-3 Inv-loop μ-loop
-mul-sizes-3 c = search needs
-
-array-write-sizes-3 : tie.Need-array-write-sizes-3 Inv-loop μ-loop
-array-write-sizes-3 c = search needs
-
-add-i : tie.Need-add-i Inv-loop μ-loop
-add-i c = search needs
-
-loop-less : tie.Need-loop-less Inv-loop μ-loop
-loop-less c = search needs
-
 loop-again : tie.Need-loop-again Inv-loop μ-loop
 loop-again c = let l = c .before .before .before .loop in (omega arith, copied-next (c .before .before .before .before .args .t1) (l .sizes) (l .i) (c .before .before .loop-test .taken) (l .inv .1))
 
@@ -67,21 +31,6 @@ returns c =
 pub copied-spec : {M : Type 1} → statement M
 copied-spec =
     tie.close
-    (tie.spec
-    Inv-loop
-    μ-loop
-    loop-holds
-    mul-item
-    array-copy-out-item
-    mul-sizes
-    array-write-sizes
-    add-sizes
-    mul-sizes-2
-    array-write-sizes-2
-    add-sizes-2
-    mul-sizes-3
-    array-write-sizes-3
-    add-i
-    loop-less
-    loop-again
-    returns)
+    (tie.spec Inv-loop μ-loop loop-holds (λ c. search needs) (λ c. search needs) (λ c. search needs) (λ c. search needs)
+    (λ c. search needs) (λ c. search needs) (λ c. search needs) (λ c. search needs) (λ c. search needs) (λ c. search needs)
+    (λ c. search needs) (λ c. search needs) loop-again returns)

@@ -27,12 +27,6 @@ mul-o c = omega (arith, c .before .before .pre .1, c .loop-test .taken)
 array-copy-out-o : tie.Need-array-copy-out-o Inv-loop μ-loop
 array-copy-out-o c = omega (arith, c .before .before .pre .1, c .loop-test .taken)
 
-cast-u : tie.Need-cast-u Inv-loop μ-loop
-cast-u c = search needs
-
-cast-bit : tie.Need-cast-bit Inv-loop μ-loop
-cast-bit c = search needs
-
 bit-requires : tie.Need-bit-requires Inv-loop μ-loop
 bit-requires c κs =
     let w = next-proper (c .before .before .before .before .loop .inv) (c .before .before .before .before .before .pre .2) (c .before .before .before .loop-test .taken) in
@@ -68,18 +62,5 @@ returns c =
 pub fix-precedences-spec : {M : Type 1} → statement M
 fix-precedences-spec =
     tie.close
-    (tie.spec
-    Inv-loop
-    μ-loop
-    loop-holds
-    mul-o
-    array-copy-out-o
-    cast-u
-    cast-bit
-    bit-requires
-    remove-requires
-    remove-requires-2
-    add-i
-    loop-less
-    loop-again
-    returns)
+    (tie.spec Inv-loop μ-loop loop-holds mul-o array-copy-out-o (λ c. search needs) (λ c. search needs) bit-requires
+    remove-requires remove-requires-2 add-i loop-less loop-again returns)

@@ -17,20 +17,11 @@ abbrev μ-loop : tie.MeasureT-loop
 loop-holds : tie.Need-loop-holds Inv-loop μ-loop
 loop-holds c = let a = c .args in (omega arith, none-yet (large-at (a .n) (a .sizes .now) (a .capacity .now)))
 
-is-large-requires : tie.Need-is-large-requires Inv-loop μ-loop
-is-large-requires c κs = search needs
-
 returns : tie.Need-returns Inv-loop μ-loop
 unfolding has-large
 returns c =
     let a = c .before .before .before .before .args in
     found 30 (large-at (a .n) (a .sizes .now) (a .capacity .now)) (c .before .before .before .loop .i) (c .before .before .loop-test .taken) (sym (c .before .is-large .ensures) ∙ c .if1 .taken)
-
-add-i : tie.Need-add-i Inv-loop μ-loop
-add-i c = search needs
-
-loop-less : tie.Need-loop-less Inv-loop μ-loop
-loop-less c = search needs
 
 loop-again : tie.Need-loop-again Inv-loop μ-loop
 loop-again c =
@@ -46,13 +37,5 @@ returns-2 c =
 pub any-large-spec : {M : Type 1} → statement M
 any-large-spec =
     tie.close
-    (tie.spec
-    Inv-loop
-    μ-loop
-    loop-holds
-    is-large-requires
-    returns
-    add-i
-    loop-less
-    loop-again
+    (tie.spec Inv-loop μ-loop loop-holds (λ c κs. search needs) returns (λ c. search needs) (λ c. search needs) loop-again
     returns-2)

@@ -25,14 +25,8 @@ first a = omega arith
 loop-holds : tie.Need-loop-holds Inv-loop μ-loop
 loop-holds c = (omega arith, cut-none (c .pre .0))
 
-mul-widen : tie.Need-mul-widen Inv-loop μ-loop
-mul-widen c = omega arith
-
 element-copy-out-widen : tie.Need-element-copy-out-widen Inv-loop μ-loop
 element-copy-out-widen c = omega (arith, c .before .before .pre .3)
-
-widen-requires : tie.Need-widen-requires Inv-loop μ-loop
-widen-requires c κs = search needs
 
 add-cut : tie.Need-add-cut Inv-loop μ-loop
 add-cut c = omega (arith, c .before .before .before .before .before .loop-test .taken)
@@ -93,21 +87,5 @@ returns c = let e : c .before .loop .a ≡ 3 = omega (arith, c .before .loop .in
 pub cut-grown-spec : {M : Type 1} → statement M
 cut-grown-spec =
     tie.close
-    (tie.spec
-    Inv-loop
-    μ-loop
-    loop-holds
-    mul-widen
-    element-copy-out-widen
-    widen-requires
-    add-cut
-    mul-cut
-    element-copy-out-cut
-    cut-requires
-    mul-cut-2
-    element-copy-out-cut-2
-    cut-requires-2
-    add-a
-    loop-less
-    loop-again
-    returns)
+    (tie.spec Inv-loop μ-loop loop-holds (λ c. omega arith) element-copy-out-widen (λ c κs. search needs) add-cut mul-cut
+    element-copy-out-cut cut-requires mul-cut-2 element-copy-out-cut-2 cut-requires-2 add-a loop-less loop-again returns)

@@ -7,28 +7,10 @@ use Rattle.domains.proofs.propagation.is_large.Tie as tie
 returns : tie.Need-returns
 returns c = rw (le-ltb _ _ (c .if1 .taken))
 
-mul-result : tie.Need-mul-result
-mul-result c = search needs
-
-element-copy-out-result : tie.Need-element-copy-out-result
-element-copy-out-result c = search needs
-
-mul-result-2 : tie.Need-mul-result-2
-mul-result-2 c = search needs
-
-element-copy-out-result-2 : tie.Need-element-copy-out-result-2
-element-copy-out-result-2 c = search needs
-
 returns-2 : tie.Need-returns-2
 returns-2 c = rw (lt-ltb _ _ (c .before .before .if1 .left))
 
 pub is-large-spec : {M : Type 1} → statement M
 is-large-spec =
     tie.close
-    (tie.spec
-    returns
-    mul-result
-    element-copy-out-result
-    mul-result-2
-    element-copy-out-result-2
-    returns-2)
+    (tie.spec returns (λ c. search needs) (λ c. search needs) (λ c. search needs) (λ c. search needs) returns-2)

@@ -25,9 +25,6 @@ loop-holds c =
     let t = c .pre .0 .bases .totals in
     (omega arith, upto-start (t 1 0 starting (omega arith) .long) _ refl, upto-start (t 2 0 ending (omega arith) .long) _ refl)
 
-mul-relax : tie.Need-mul-relax Inv-loop μ-loop
-mul-relax c = omega arith
-
 element-copy-out-relax : tie.Need-element-copy-out-relax Inv-loop μ-loop
 element-copy-out-relax c = omega (arith, c .before .before .before .pre .1 .sets .long)
 
@@ -44,12 +41,6 @@ relax-requires c κs =
       subst (λ (y : ℕ). Within (a .n) (getD (a .dirty .now) y 0)) (first (c .before .before .before .loop .a)) (d .within 1 _ starting h),
     )
 
-add-relax : tie.Need-add-relax Inv-loop μ-loop
-add-relax c = omega arith
-
-mul-relax-2 : tie.Need-mul-relax-2 Inv-loop μ-loop
-mul-relax-2 c = omega arith
-
 element-copy-out-relax-2 : tie.Need-element-copy-out-relax-2 Inv-loop μ-loop
 element-copy-out-relax-2 c = omega (arith, c .before .before .before .before .before .before .pre .1 .sets .long)
 
@@ -65,26 +56,11 @@ relax-requires-2 c κs =
       d .within 2 _ ending h,
     )
 
-mul-grown : tie.Need-mul-grown Inv-loop μ-loop
-mul-grown c = omega arith
-
 array-write-grown : tie.Need-array-write-grown Inv-loop μ-loop
 array-write-grown c = omega (arith, c .before .before .before .before .before .before .loop-test .taken)
 
-add-grown : tie.Need-add-grown Inv-loop μ-loop
-add-grown c = omega arith
-
-mul-grown-2 : tie.Need-mul-grown-2 Inv-loop μ-loop
-mul-grown-2 c = omega arith
-
 array-write-grown-2 : tie.Need-array-write-grown-2 Inv-loop μ-loop
 array-write-grown-2 c = omega (arith, c .before .before .before .before .before .before .loop-test .taken)
-
-add-a : tie.Need-add-a Inv-loop μ-loop
-add-a c = omega arith
-
-loop-less : tie.Need-loop-less Inv-loop μ-loop
-loop-less c = omega arith
 
 loop-again : tie.Need-loop-again Inv-loop μ-loop
 loop-again c =
@@ -105,23 +81,6 @@ returns c = let e : c .before .loop .a ≡ 3 = omega (arith, c .before .loop .in
 pub update-spec : {M : Type 1} → statement M
 update-spec =
     tie.close
-    (tie.spec
-    Inv-loop
-    μ-loop
-    loop-holds
-    mul-relax
-    element-copy-out-relax
-    relax-requires
-    add-relax
-    mul-relax-2
-    element-copy-out-relax-2
-    relax-requires-2
-    mul-grown
-    array-write-grown
-    add-grown
-    mul-grown-2
-    array-write-grown-2
-    add-a
-    loop-less
-    loop-again
-    returns)
+    (tie.spec Inv-loop μ-loop loop-holds (λ c. omega arith) element-copy-out-relax relax-requires (λ c. omega arith)
+    (λ c. omega arith) element-copy-out-relax-2 relax-requires-2 (λ c. omega arith) array-write-grown (λ c. omega arith)
+    (λ c. omega arith) array-write-grown-2 (λ c. omega arith) (λ c. omega arith) loop-again returns)

@@ -7,9 +7,6 @@ use borrow.Author.Needs.{needs}
 use Rattle.events.proofs.paths.follow.Statement.{statement}
 use Rattle.events.proofs.paths.follow.Tie as tie
 
-through-requires : tie.Need-through-requires
-through-requires c κs = search needs
-
 remove-requires : tie.Need-remove-requires
 remove-requires c κs =
     let t = c .before .before .before in
@@ -18,9 +15,6 @@ remove-requires c κs =
     let hx : a .x < 3 = omega (arith, o .most) in
     let i = through-items (g .mirror) (g .limited) (a .a) (s .axis) (a .x) (a .u) (a .v) hx (s .item-u) (s .item-v) _ (t .through .ensures) in
     (g, omega arith, s .axis, s .item-u, i)
-
-blocked-requires : tie.Need-blocked-requires
-blocked-requires c κs = search needs
 
 remove-requires-2 : tie.Need-remove-requires-2
 remove-requires-2 c κs =
@@ -43,4 +37,4 @@ returns c =
 pub follow-spec : {M : Type 1} → statement M
 follow-spec =
     tie.close
-    (tie.spec through-requires remove-requires blocked-requires remove-requires-2 returns)
+    (tie.spec (λ c κs. search needs) remove-requires (λ c κs. search needs) remove-requires-2 returns)

@@ -8,48 +8,6 @@ use borrow.Author.Needs.{needs}
 use Rattle.events.proofs.paths.follow_both.Statement.{statement}
 use Rattle.events.proofs.paths.follow_both.Tie as tie
 
-mul-has : tie.Need-mul-has
-mul-has c = search needs
-
-add-has : tie.Need-add-has
-add-has c = search needs
-
-add-has-2 : tie.Need-add-has-2
-add-has-2 c = search needs
-
-mul-has-2 : tie.Need-mul-has-2
-mul-has-2 c = search needs
-
-element-copy-out-has : tie.Need-element-copy-out-has
-element-copy-out-has c = search needs
-
-has-requires : tie.Need-has-requires
-has-requires c κs = search needs
-
-follow-requires : tie.Need-follow-requires
-follow-requires c κs = search needs
-
-follow-requires-2 : tie.Need-follow-requires-2
-follow-requires-2 c κs = search needs
-
-mul-has-3 : tie.Need-mul-has-3
-mul-has-3 c = search needs
-
-add-has-3 : tie.Need-add-has-3
-add-has-3 c = search needs
-
-add-has-4 : tie.Need-add-has-4
-add-has-4 c = search needs
-
-mul-has-4 : tie.Need-mul-has-4
-mul-has-4 c = search needs
-
-element-copy-out-has-2 : tie.Need-element-copy-out-has-2
-element-copy-out-has-2 c = search needs
-
-has-requires-2 : tie.Need-has-requires-2
-has-requires-2 c κs = search needs
-
 follow-requires-3 : tie.Need-follow-requires-3
 follow-requires-3 c κs =
     let i = c .before .before .before .before .before .before in
@@ -58,9 +16,6 @@ follow-requires-3 c κs =
       record { least = omega arith; most = omega arith },
       p .1,
     )
-
-follow-requires-4 : tie.Need-follow-requires-4
-follow-requires-4 c κs = search needs
 
 returns : tie.Need-returns
 returns c =
@@ -86,22 +41,7 @@ returns-2 c =
 pub follow-both-spec : {M : Type 1} → statement M
 follow-both-spec =
     tie.close
-    (tie.spec
-    mul-has
-    add-has
-    add-has-2
-    mul-has-2
-    element-copy-out-has
-    has-requires
-    follow-requires
-    follow-requires-2
-    mul-has-3
-    add-has-3
-    add-has-4
-    mul-has-4
-    element-copy-out-has-2
-    has-requires-2
-    follow-requires-3
-    follow-requires-4
-    returns
-    returns-2)
+    (tie.spec (λ c. search needs) (λ c. search needs) (λ c. search needs) (λ c. search needs) (λ c. search needs)
+    (λ c κs. search needs) (λ c κs. search needs) (λ c κs. search needs) (λ c. search needs) (λ c. search needs)
+    (λ c. search needs) (λ c. search needs) (λ c. search needs) (λ c κs. search needs) follow-requires-3
+    (λ c κs. search needs) returns returns-2)

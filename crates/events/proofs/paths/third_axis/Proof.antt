@@ -7,30 +7,15 @@ use borrow.Author.Needs.{needs}
 use Rattle.events.proofs.paths.third_axis.Statement.{statement}
 use Rattle.events.proofs.paths.third_axis.Tie as tie
 
-lapping-requires : tie.Need-lapping-requires
-lapping-requires c κs = search needs
-
-has-requires : tie.Need-has-requires
-has-requires c κs = search needs
-
 returns : tie.Need-returns
 returns c =
     let p = c .before .before .before .before .pre in
     third-idle-a (p .1) (p .2) (p .0) (c .before .before .lapping .ensures) (sym (c .before .has .ensures) ∙ not-true _ (c .if1 .taken))
 
-lapping-requires-2 : tie.Need-lapping-requires-2
-lapping-requires-2 c κs = search needs
-
-has-requires-2 : tie.Need-has-requires-2
-has-requires-2 c κs = search needs
-
 returns-2 : tie.Need-returns-2
 returns-2 c =
     let p = c .before .before .before .before .before .before .before .before .pre in
     third-idle-b (p .1) (p .2) (p .0) (c .before .before .lapping2 .ensures) (sym (c .before .has2 .ensures) ∙ not-true _ (c .if2 .taken))
-
-bit-requires : tie.Need-bit-requires
-bit-requires c κs = search needs
 
 remove-requires : tie.Need-remove-requires
 remove-requires c κs =
@@ -50,13 +35,5 @@ returns-3 c =
 pub third-axis-spec : {M : Type 1} → statement M
 third-axis-spec =
     tie.close
-    (tie.spec
-    lapping-requires
-    has-requires
-    returns
-    lapping-requires-2
-    has-requires-2
-    returns-2
-    bit-requires
-    remove-requires
-    returns-3)
+    (tie.spec (λ c κs. search needs) (λ c κs. search needs) returns (λ c κs. search needs) (λ c κs. search needs) returns-2
+    (λ c κs. search needs) remove-requires returns-3)

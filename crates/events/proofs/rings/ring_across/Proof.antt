@@ -16,18 +16,6 @@ Inv-loop k₀ rows₀ queue₀ top n a q s end₀ left₀ k rows queue end left 
 abbrev μ-loop : tie.MeasureT-loop
 μ-loop k₀ rows₀ queue₀ top n a q s end₀ left₀ k rows queue end left = left
 
-mul-has : tie.Need-mul-has Inv-loop μ-loop
-mul-has c = search needs
-
-add-has : tie.Need-add-has Inv-loop μ-loop
-add-has c = search needs
-
-mul-has-2 : tie.Need-mul-has-2 Inv-loop μ-loop
-mul-has-2 c = search needs
-
-element-copy-out-has : tie.Need-element-copy-out-has Inv-loop μ-loop
-element-copy-out-has c = search needs
-
 has-requires : tie.Need-has-requires Inv-loop μ-loop
 has-requires c κs = let p = c .before .pre in omega (arith, p .0 .limited, p .3)
 
@@ -81,21 +69,6 @@ returns-2 c =
 pub ring-across-spec : {M : Type 1} → statement M
 ring-across-spec =
     tie.close
-    (tie.spec
-    Inv-loop
-    μ-loop
-    mul-has
-    add-has
-    mul-has-2
-    element-copy-out-has
-    has-requires
-    returns
-    lapping-requires
-    lapping-requires-2
-    loop-holds
-    lowest-requires
-    without-requires
-    ring-at-requires
-    loop-less
-    loop-again
-    returns-2)
+    (tie.spec Inv-loop μ-loop (λ c. search needs) (λ c. search needs) (λ c. search needs) (λ c. search needs) has-requires
+    returns lapping-requires lapping-requires-2 loop-holds lowest-requires without-requires ring-at-requires loop-less
+    loop-again returns-2)

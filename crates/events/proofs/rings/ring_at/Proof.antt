@@ -6,53 +6,17 @@ use borrow.Author.Needs.{needs}
 use Rattle.events.proofs.rings.ring_at.Statement.{statement}
 use Rattle.events.proofs.rings.ring_at.Tie as tie
 
-mul-has : tie.Need-mul-has
-mul-has c = search needs
-
-add-has : tie.Need-add-has
-add-has c = search needs
-
-mul-has-2 : tie.Need-mul-has-2
-mul-has-2 c = search needs
-
-element-copy-out-has : tie.Need-element-copy-out-has
-element-copy-out-has c = search needs
-
-has-requires : tie.Need-has-requires
-has-requires c κs = search needs
-
 returns : tie.Need-returns
 returns c = let p = c .before .before .before .pre in
     ring-idle-across (p .0) (p .1) (p .2) (p .3) (p .4) (sym (c .before .has .ensures) ∙ not-true _ (c .if1 .taken))
-
-lapping-requires : tie.Need-lapping-requires
-lapping-requires c κs = search needs
-
-has-requires-2 : tie.Need-has-requires-2
-has-requires-2 c κs = search needs
 
 returns-2 : tie.Need-returns-2
 returns-2 c = let p = c .before .before .before .before .before .before .before .pre in
     ring-idle-far (p .0) (p .1) (p .2) (p .3) (p .4) (c .before .before .lapping .ensures) (sym (c .before .has2 .ensures) ∙ not-true _ (c .if2 .taken))
 
-lapping-requires-2 : tie.Need-lapping-requires-2
-lapping-requires-2 c κs = search needs
-
-has-requires-3 : tie.Need-has-requires-3
-has-requires-3 c κs = search needs
-
 returns-3 : tie.Need-returns-3
 returns-3 c = let p = c .before .before .before .before .before .before .before .before .before .before .before .pre in
     ring-idle-near (p .0) (p .1) (p .2) (p .3) (p .4) (c .before .before .lapping2 .ensures) (sym (c .before .has3 .ensures) ∙ not-true _ (c .if3 .taken))
-
-lapping-requires-3 : tie.Need-lapping-requires-3
-lapping-requires-3 c κs = search needs
-
-lapping-requires-4 : tie.Need-lapping-requires-4
-lapping-requires-4 c κs = search needs
-
-bit-requires : tie.Need-bit-requires
-bit-requires c κs = search needs
 
 keep-overlap-requires : tie.Need-keep-overlap-requires
 keep-overlap-requires c κs =
@@ -78,21 +42,6 @@ returns-4 c =
 pub ring-at-spec : {M : Type 1} → statement M
 ring-at-spec =
     tie.close
-    (tie.spec
-    mul-has
-    add-has
-    mul-has-2
-    element-copy-out-has
-    has-requires
-    returns
-    lapping-requires
-    has-requires-2
-    returns-2
-    lapping-requires-2
-    has-requires-3
-    returns-3
-    lapping-requires-3
-    lapping-requires-4
-    bit-requires
-    keep-overlap-requires
-    returns-4)
+    (tie.spec (λ c. search needs) (λ c. search needs) (λ c. search needs) (λ c. search needs) (λ c κs. search needs) returns
+    (λ c κs. search needs) (λ c κs. search needs) returns-2 (λ c κs. search needs) (λ c κs. search needs) returns-3
+    (λ c κs. search needs) (λ c κs. search needs) (λ c κs. search needs) keep-overlap-requires returns-4)

@@ -30,18 +30,6 @@ returns c =
 lapping-requires-2 : tie.Need-lapping-requires-2 Inv-loop μ-loop
 lapping-requires-2 c κs = let p = c .before .before .before .before .before .pre in readable (p .0) (p .1) (p .3) (p .3)
 
-mul-left : tie.Need-mul-left Inv-loop μ-loop
-mul-left c = search needs
-
-add-left : tie.Need-add-left Inv-loop μ-loop
-add-left c = search needs
-
-mul-left-2 : tie.Need-mul-left-2 Inv-loop μ-loop
-mul-left-2 c = search needs
-
-element-copy-out-left : tie.Need-element-copy-out-left Inv-loop μ-loop
-element-copy-out-left c = search needs
-
 loop-holds : tie.Need-loop-holds Inv-loop μ-loop
 loop-holds c =
     let p = c .before .before .before .before .before .before .before .pre in
@@ -80,21 +68,6 @@ returns-2 c =
 pub ring-side-spec : {M : Type 1} → statement M
 ring-side-spec =
     tie.close
-    (tie.spec
-    Inv-loop
-    μ-loop
-    lapping-requires
-    has-requires
-    returns
-    lapping-requires-2
-    mul-left
-    add-left
-    mul-left-2
-    element-copy-out-left
-    loop-holds
-    lowest-requires
-    without-requires
-    ring-at-requires
-    loop-less
-    loop-again
-    returns-2)
+    (tie.spec Inv-loop μ-loop lapping-requires has-requires returns lapping-requires-2 (λ c. search needs)
+    (λ c. search needs) (λ c. search needs) (λ c. search needs) loop-holds lowest-requires without-requires ring-at-requires
+    loop-less loop-again returns-2)

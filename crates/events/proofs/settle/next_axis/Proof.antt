@@ -4,14 +4,8 @@ use borrow.Author.Needs.{needs}
 use Rattle.events.proofs.settle.next_axis.Statement.{statement}
 use Rattle.events.proofs.settle.next_axis.Tie as tie
 
-returns : tie.Need-returns
-returns c = search needs
-
-add-result : tie.Need-add-result
-add-result c = search needs
-
 returns-2 : tie.Need-returns-2
 returns-2 c = next-axis-is (c .before .args .a) (c .before .pre) (c .if1 .left)
 
 pub next-axis-spec : {M : Type 1} → statement M
-next-axis-spec = tie.close (tie.spec returns add-result returns-2)
+next-axis-spec = tie.close (tie.spec (λ c. search needs) (λ c. search needs) returns-2)

@@ -22,9 +22,6 @@ element-copy-out-if1 c = omega (arith, c .before .loop .inv .grown .good .mirror
 returns : tie.Need-returns Inv-loop μ-loop
 returns c = settling-conflict (c .before .before .before .loop .inv) (c .if1 .taken)
 
-mul-pair : tie.Need-mul-pair Inv-loop μ-loop
-mul-pair c = search needs
-
 element-copy-out-pair : tie.Need-element-copy-out-pair Inv-loop μ-loop
 element-copy-out-pair c =
     let t = c .before .before in omega (arith, t .loop-test .taken, ends-within (t .before .loop .inv), t .before .loop .inv .grown .good .long)
@@ -64,19 +61,5 @@ returns-2 c = settling-done (c .before .loop .inv) (omega (arith, c .loop-test .
 pub settle-spec : {M : Type 1} → statement M
 settle-spec =
     tie.close
-    (tie.spec
-    Inv-loop
-    μ-loop
-    loop-holds
-    element-copy-out-if1
-    returns
-    mul-pair
-    element-copy-out-pair
-    cast-pair
-    next-axis-requires
-    next-axis-requires-2
-    work-off-requires
-    add-head
-    loop-less
-    loop-again
-    returns-2)
+    (tie.spec Inv-loop μ-loop loop-holds element-copy-out-if1 returns (λ c. search needs) element-copy-out-pair cast-pair
+    next-axis-requires next-axis-requires-2 work-off-requires add-head loop-less loop-again returns-2)

@@ -4,15 +4,6 @@ use borrow.Author.Needs.{needs}
 use Rattle.events.proofs.settle.work_off.Statement.{statement}
 use Rattle.events.proofs.settle.work_off.Tie as tie
 
-follow-both-requires : tie.Need-follow-both-requires
-follow-both-requires c κs = search needs
-
-work-overlap-requires : tie.Need-work-overlap-requires
-work-overlap-requires c κs = search needs
-
-ring-across-requires : tie.Need-ring-across-requires
-ring-across-requires c κs = search needs
-
 returns : tie.Need-returns
 returns c =
     let o = c .before .before .before .before in
@@ -21,4 +12,4 @@ returns c =
 
 pub work-off-spec : {M : Type 1} → statement M
 work-off-spec =
-    tie.close (tie.spec follow-both-requires work-overlap-requires ring-across-requires returns)
+    tie.close (tie.spec (λ c κs. search needs) (λ c κs. search needs) (λ c κs. search needs) returns)

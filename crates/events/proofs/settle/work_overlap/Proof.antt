@@ -7,25 +7,10 @@ use borrow.Author.Needs.{needs}
 use Rattle.events.proofs.settle.work_overlap.Statement.{statement}
 use Rattle.events.proofs.settle.work_overlap.Tie as tie
 
-lapping-requires : tie.Need-lapping-requires
-lapping-requires c κs = search needs
-
-has-requires : tie.Need-has-requires
-has-requires c κs = search needs
-
 returns : tie.Need-returns
 returns c =
     let p = c .before .before .before .before .pre in
     overlapping-idle (p .0) (p .2) (c .before .before .lapping .ensures) (sym (c .before .has .ensures) ∙ not-true _ (c .if1 .taken))
-
-third-axis-requires : tie.Need-third-axis-requires
-third-axis-requires c κs = search needs
-
-third-axis-requires-2 : tie.Need-third-axis-requires-2
-third-axis-requires-2 c κs = search needs
-
-ring-side-requires : tie.Need-ring-side-requires
-ring-side-requires c κs = search needs
 
 ring-side-requires-2 : tie.Need-ring-side-requires-2
 ring-side-requires-2 c κs =
@@ -43,12 +28,5 @@ returns-2 c =
 pub work-overlap-spec : {M : Type 1} → statement M
 work-overlap-spec =
     tie.close
-    (tie.spec
-    lapping-requires
-    has-requires
-    returns
-    third-axis-requires
-    third-axis-requires-2
-    ring-side-requires
-    ring-side-requires-2
-    returns-2)
+    (tie.spec (λ c κs. search needs) (λ c κs. search needs) returns (λ c κs. search needs) (λ c κs. search needs)
+    (λ c κs. search needs) ring-side-requires-2 returns-2)

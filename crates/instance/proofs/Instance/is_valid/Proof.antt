@@ -13,22 +13,13 @@ returns-2 : tie.Need-returns-2
 unfolding valid
 returns-2 c = simp (le-leb _ _ (c .before .if1 .left), lt-leb _ _ (c .if2 .taken))
 
-is-positive-requires : tie.Need-is-positive-requires
-is-positive-requires c κs = search needs
-
 returns-3 : tie.Need-returns-3
 unfolding valid
 returns-3 c = simp (le-leb _ _ (c .before .before .before .before .if1 .left), le-leb _ _ (c .before .before .before .if2 .left), ← (c .before .is-positive .ensures), not-true (c .before .is-positive .result) (c .if3 .taken))
 
-all-positive-requires : tie.Need-all-positive-requires
-all-positive-requires c κs = search needs
-
 returns-4 : tie.Need-returns-4
 unfolding valid
 returns-4 c = simp (le-leb _ _ (c .before .before .before .before .before .before .before .if1 .left), le-leb _ _ (c .before .before .before .before .before .before .if2 .left), ← (c .before .before .before .before .is-positive .ensures), not-false (c .before .before .before .before .is-positive .result) (c .before .before .before .if3 .left), ← (c .before .all-positive .ensures), not-true (c .before .all-positive .result) (c .if4 .taken))
-
-all-stand-in-requires : tie.Need-all-stand-in-requires
-all-stand-in-requires c κs = search needs
 
 returns-5 : tie.Need-returns-5
 unfolding valid
@@ -37,12 +28,5 @@ returns-5 c = simp (le-leb _ _ (c .before .before .before .before .before .befor
 pub is-valid-spec : {M : Type 1} → statement M
 is-valid-spec =
     tie.close
-    (tie.spec
-    returns
-    returns-2
-    is-positive-requires
-    returns-3
-    all-positive-requires
-    returns-4
-    all-stand-in-requires
+    (tie.spec returns returns-2 (λ c κs. search needs) returns-3 (λ c κs. search needs) returns-4 (λ c κs. search needs)
     returns-5)

@@ -16,9 +16,6 @@ use Rattle.instance.proofs.Instance.write.Tie as tie
 full : (c : tie.Start) → Full (c .args .self)
 full c = record { items-room = search length-mapped; precedences-room = search length-mapped }
 
-is-valid-requires : tie.Need-is-valid-requires
-is-valid-requires c κs = search needs
-
 returns : tie.Need-returns
 unfolding write-answer written-room
 returns c =
@@ -39,9 +36,6 @@ returns-2 c =
 write-sheet-requires : tie.Need-write-sheet-requires
 write-sheet-requires c κs = (sym (c .before .before .before .before .is-valid .ensures) ∙ not-false (c .before .before .before .before .is-valid .result) (c .before .before .before .if1 .left), omega arith)
 
-same-length : tie.Need-same-length
-same-length c = search needs
-
 returns-3 : tie.Need-returns-3
 unfolding write-answer written-room
 returns-3 c =
@@ -53,11 +47,4 @@ returns-3 c =
 pub write-spec : {M : Type 1} → statement M
 write-spec =
     tie.close
-    (tie.spec
-    is-valid-requires
-    returns
-    sheet-len-requires
-    returns-2
-    write-sheet-requires
-    same-length
-    returns-3)
+    (tie.spec (λ c κs. search needs) returns sheet-len-requires returns-2 write-sheet-requires (λ c. search needs) returns-3)

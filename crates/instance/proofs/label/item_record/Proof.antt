@@ -9,21 +9,6 @@ use borrow.Author.Needs.{needs}
 use Rattle.instance.proofs.label.item_record.Statement.{statement}
 use Rattle.instance.proofs.label.item_record.Tie as tie
 
-read-requires : tie.Need-read-requires
-read-requires c κs = search needs
-
-enum-told : tie.Need-enum-told
-enum-told c = search needs
-
-slice-aggregate-result : tie.Need-slice-aggregate-result
-slice-aggregate-result c = search needs
-
-enum-told-2 : tie.Need-enum-told-2
-enum-told-2 c = search needs
-
-slice-aggregate-result-2 : tie.Need-slice-aggregate-result-2
-slice-aggregate-result-2 c = search needs
-
 returns : tie.Need-returns
 returns c =
     let s = c .before .before .before .before .before .before .before .before .args .bytes .now in
@@ -43,15 +28,6 @@ length-of-requires c κs =
     let w = was-read (decode s) (c .before .before .before .before .before .before .before .read .result) (c .before .before .before .before .before .before .before .read .ensures) (c .before .before .before .before .enum-told2 .given .1) in
     let i = record-inside s (λ j. c .before .before .before .before .before .before .before .before .shared-slice-known .given j .fits) (w .was) (c .before .before .before .before .before .before .before .before .before .args .k) (omega arith) in
     i .few
-
-add-end : tie.Need-add-end
-add-end c = search needs
-
-sub-result : tie.Need-sub-result
-sub-result c = search needs
-
-part-result-start : tie.Need-part-result-start
-part-result-start c = search needs
 
 part-result-end : tie.Need-part-result-end
 unfolding record-length
@@ -76,18 +52,6 @@ returns-3 c =
 pub item-record-spec : {M : Type 1} → statement M
 item-record-spec =
     tie.close
-    (tie.spec
-    read-requires
-    enum-told
-    slice-aggregate-result
-    enum-told-2
-    slice-aggregate-result-2
-    returns
-    start-of-requires
-    length-of-requires
-    add-end
-    sub-result
-    part-result-start
-    part-result-end
-    returns-2
-    returns-3)
+    (tie.spec (λ c κs. search needs) (λ c. search needs) (λ c. search needs) (λ c. search needs) (λ c. search needs) returns
+    start-of-requires length-of-requires (λ c. search needs) (λ c. search needs) (λ c. search needs) part-result-end
+    returns-2 returns-3)

@@ -7,21 +7,6 @@ use borrow.Author.Needs.{needs}
 use Rattle.instance.proofs.label.item_record_refusal.Statement.{statement}
 use Rattle.instance.proofs.label.item_record_refusal.Tie as tie
 
-read-requires : tie.Need-read-requires
-read-requires c κs = search needs
-
-enum-known-answer : tie.Need-enum-known-answer
-enum-known-answer c = search needs
-
-number-requires : tie.Need-number-requires
-number-requires c κs = search needs
-
-place-requires : tie.Need-place-requires
-place-requires c κs = search needs
-
-enum-told : tie.Need-enum-told
-enum-told c = search needs
-
 returns : tie.Need-returns
 returns c =
     let s = c .before .before .before .before .before .before .before .args .bytes .now in
@@ -43,12 +28,5 @@ returns-3 c =
 pub item-record-refusal-spec : {M : Type 1} → statement M
 item-record-refusal-spec =
     tie.close
-    (tie.spec
-    read-requires
-    enum-known-answer
-    number-requires
-    place-requires
-    enum-told
-    returns
-    returns-2
-    returns-3)
+    (tie.spec (λ c κs. search needs) (λ c. search needs) (λ c κs. search needs) (λ c κs. search needs) (λ c. search needs)
+    returns returns-2 returns-3)

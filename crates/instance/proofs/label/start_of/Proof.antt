@@ -5,22 +5,10 @@ use borrow.Author.Needs.{needs}
 use Rattle.instance.proofs.label.start_of.Statement.{statement}
 use Rattle.instance.proofs.label.start_of.Tie as tie
 
-size-len-requires : tie.Need-size-len-requires
-size-len-requires c κs = search needs
-
-add-result : tie.Need-add-result
-add-result c = search needs
-
-items-len-requires : tie.Need-items-len-requires
-items-len-requires c κs = search needs
-
-add-result-2 : tie.Need-add-result-2
-add-result-2 c = search needs
-
 returns : tie.Need-returns
 unfolding record-start
 returns c = (omega arith, omega arith)
 
 pub start-of-spec : {M : Type 1} → statement M
 start-of-spec =
-    tie.close (tie.spec size-len-requires add-result items-len-requires add-result-2 returns)
+    tie.close (tie.spec (λ c κs. search needs) (λ c. search needs) (λ c κs. search needs) (λ c. search needs) returns)

@@ -10,32 +10,11 @@ use borrow.Author.Needs.{needs}
 use Rattle.instance.proofs.read.read_from_items.Statement.{statement}
 use Rattle.instance.proofs.read.read_from_items.Tie as tie
 
-bit-stands-requires : tie.Need-bit-stands-requires
-bit-stands-requires c κs = search needs
-
-read-item-list-requires : tie.Need-read-item-list-requires
-read-item-list-requires c κs = search needs
-
-enum-known-stop : tie.Need-enum-known-stop
-enum-known-stop c = search needs
-
-refuse-requires : tie.Need-refuse-requires
-refuse-requires c κs = search needs
-
-enum-known-stop-2 : tie.Need-enum-known-stop-2
-enum-known-stop-2 c = search needs
-
-empty-requires : tie.Need-empty-requires
-empty-requires c κs = search needs
-
 sub-read-from-precedences : tie.Need-sub-read-from-precedences
 sub-read-from-precedences c = let w = rw (c .before .before .before .stop2 .given .1) at (c .before .before .before .before .before .read-item-list .ensures .1 .0 .0) in omega arith
 
 part-read-from-precedences-start : tie.Need-part-read-from-precedences-start
 part-read-from-precedences-start c = let w = rw (c .before .before .before .stop2 .given .1) at (c .before .before .before .before .before .read-item-list .ensures .1 .0 .0) in omega arith
-
-part-read-from-precedences-end : tie.Need-part-read-from-precedences-end
-part-read-from-precedences-end c = search needs
 
 add-read-from-precedences : tie.Need-add-read-from-precedences
 add-read-from-precedences c = let w = rw (c .before .before .before .before .stop2 .given .1) at (c .before .before .before .before .before .before .read-item-list .ensures .1 .0 .0) in omega arith
@@ -69,17 +48,6 @@ returns-2 c =
 pub read-from-items-spec : {M : Type 1} → statement M
 read-from-items-spec =
     tie.close
-    (tie.spec
-    bit-stands-requires
-    read-item-list-requires
-    enum-known-stop
-    refuse-requires
-    enum-known-stop-2
-    empty-requires
-    sub-read-from-precedences
-    part-read-from-precedences-start
-    part-read-from-precedences-end
-    add-read-from-precedences
-    read-from-precedences-requires
-    returns
-    returns-2)
+    (tie.spec (λ c κs. search needs) (λ c κs. search needs) (λ c. search needs) (λ c κs. search needs) (λ c. search needs)
+    (λ c κs. search needs) sub-read-from-precedences part-read-from-precedences-start (λ c. search needs)
+    add-read-from-precedences read-from-precedences-requires returns returns-2)

@@ -10,29 +10,11 @@ use borrow.Author.Needs.{needs}
 use Rattle.instance.proofs.read.read_from_precedences.Statement.{statement}
 use Rattle.instance.proofs.read.read_from_precedences.Tie as tie
 
-bit-stands-requires : tie.Need-bit-stands-requires
-bit-stands-requires c κs = search needs
-
-read-precedence-list-requires : tie.Need-read-precedence-list-requires
-read-precedence-list-requires c κs = search needs
-
-enum-known-stop : tie.Need-enum-known-stop
-enum-known-stop c = search needs
-
-refuse-requires : tie.Need-refuse-requires
-refuse-requires c κs = search needs
-
-enum-known-stop-2 : tie.Need-enum-known-stop-2
-enum-known-stop-2 c = search needs
-
 sub-read-from-yard : tie.Need-sub-read-from-yard
 sub-read-from-yard c = let w = rw (c .before .before .stop2 .given .1) at (c .before .before .before .before .read-precedence-list .ensures .1 .0 .0) in omega arith
 
 part-read-from-yard-start : tie.Need-part-read-from-yard-start
 part-read-from-yard-start c = let w = rw (c .before .before .stop2 .given .1) at (c .before .before .before .before .read-precedence-list .ensures .1 .0 .0) in omega arith
-
-part-read-from-yard-end : tie.Need-part-read-from-yard-end
-part-read-from-yard-end c = search needs
 
 add-read-from-yard : tie.Need-add-read-from-yard
 add-read-from-yard c = let w = rw (c .before .before .before .stop2 .given .1) at (c .before .before .before .before .before .read-precedence-list .ensures .1 .0 .0) in omega arith
@@ -69,16 +51,6 @@ returns-2 c =
 pub read-from-precedences-spec : {M : Type 1} → statement M
 read-from-precedences-spec =
     tie.close
-    (tie.spec
-    bit-stands-requires
-    read-precedence-list-requires
-    enum-known-stop
-    refuse-requires
-    enum-known-stop-2
-    sub-read-from-yard
-    part-read-from-yard-start
-    part-read-from-yard-end
-    add-read-from-yard
-    read-from-yard-requires
-    returns
+    (tie.spec (λ c κs. search needs) (λ c κs. search needs) (λ c. search needs) (λ c κs. search needs) (λ c. search needs)
+    sub-read-from-yard part-read-from-yard-start (λ c. search needs) add-read-from-yard read-from-yard-requires returns
     returns-2)

@@ -9,27 +9,6 @@ use borrow.Author.Needs.{needs}
 use Rattle.instance.proofs.read.read_from_yard.Statement.{statement}
 use Rattle.instance.proofs.read.read_from_yard.Tie as tie
 
-bit-stands-requires : tie.Need-bit-stands-requires
-bit-stands-requires c κs = search needs
-
-read-field-requires : tie.Need-read-field-requires
-read-field-requires c κs = search needs
-
-enum-known-e : tie.Need-enum-known-e
-enum-known-e c = search needs
-
-refuse-requires : tie.Need-refuse-requires
-refuse-requires c κs = search needs
-
-enum-known-yard : tie.Need-enum-known-yard
-enum-known-yard c = search needs
-
-add-t14 : tie.Need-add-t14
-add-t14 c = search needs
-
-refuse-requires-2 : tie.Need-refuse-requires-2
-refuse-requires-2 c κs = search needs
-
 returns : tie.Need-returns
 unfolding from-yard
 returns c =
@@ -56,14 +35,5 @@ returns-3 c =
 pub read-from-yard-spec : {M : Type 1} → statement M
 read-from-yard-spec =
     tie.close
-    (tie.spec
-    bit-stands-requires
-    read-field-requires
-    enum-known-e
-    refuse-requires
-    enum-known-yard
-    add-t14
-    refuse-requires-2
-    returns
-    returns-2
-    returns-3)
+    (tie.spec (λ c κs. search needs) (λ c κs. search needs) (λ c. search needs) (λ c κs. search needs) (λ c. search needs)
+    (λ c. search needs) (λ c κs. search needs) returns returns-2 returns-3)

@@ -11,38 +11,17 @@ use borrow.Author.Needs.{needs}
 use Rattle.instance.proofs.read.read_item_list.Statement.{statement}
 use Rattle.instance.proofs.read.read_item_list.Tie as tie
 
-no-item-list-requires : tie.Need-no-item-list-requires
-no-item-list-requires c κs = search needs
-
 returns : tie.Need-returns
 returns c =
     let a = c .before .before .before .args in
     let w = c .no-item-list .ensures in
     (rw (w .0 .0, w .0 .1, not-true (a .standing) (c .before .if1 .taken), add-zero), (rw (w .0 .0, w .0 .1) (omega arith, omega arith), rw (w .0 .0, w .0 .1, w .1) (refl, refl)))
 
-read-count-requires : tie.Need-read-count-requires
-read-count-requires c κs = search needs
-
-enum-known-e : tie.Need-enum-known-e
-enum-known-e c = search needs
-
-no-item-list-requires-2 : tie.Need-no-item-list-requires-2
-no-item-list-requires-2 c κs = search needs
-
-enum-known-count : tie.Need-enum-known-count
-enum-known-count c = search needs
-
-widened-requires : tie.Need-widened-requires
-widened-requires c κs = search needs
-
 sub-read-items : tie.Need-sub-read-items
 sub-read-items c = let h = rw (c .before .before .count .given .1) at (c .before .before .before .before .read-count .ensures .1) in omega arith
 
 part-read-items-start : tie.Need-part-read-items-start
 part-read-items-start c = let h = rw (c .before .before .count .given .1) at (c .before .before .before .before .read-count .ensures .1) in omega arith
-
-part-read-items-end : tie.Need-part-read-items-end
-part-read-items-end c = search needs
 
 add-read-items : tie.Need-add-read-items
 add-read-items c = let h = rw (c .before .before .before .count .given .1) at (c .before .before .before .before .before .read-count .ensures .1) in omega arith
@@ -54,15 +33,6 @@ read-items-requires c κs =
     let e = rw (c .before .before .before .count .given .1) at (c .before .before .before .before .before .read-count .ensures .0) in
     let k = counted 10 (a .at) (a .rest .now) e .within in
     (simp (rest-of, length-drop) (omega arith), omega (arith, c .before .widened .ensures))
-
-enum-known-stop : tie.Need-enum-known-stop
-enum-known-stop c = search needs
-
-no-item-list-requires-3 : tie.Need-no-item-list-requires-3
-no-item-list-requires-3 c κs = search needs
-
-enum-known-stop-2 : tie.Need-enum-known-stop-2
-enum-known-stop-2 c = search needs
 
 add-t25 : tie.Need-add-t25
 add-t25 c =
@@ -99,23 +69,6 @@ returns-4 c =
 pub read-item-list-spec : {M : Type 1} → statement M
 read-item-list-spec =
     tie.close
-    (tie.spec
-    no-item-list-requires
-    returns
-    read-count-requires
-    enum-known-e
-    no-item-list-requires-2
-    enum-known-count
-    widened-requires
-    sub-read-items
-    part-read-items-start
-    part-read-items-end
-    add-read-items
-    read-items-requires
-    enum-known-stop
-    no-item-list-requires-3
-    enum-known-stop-2
-    add-t25
-    returns-2
-    returns-3
-    returns-4)
+    (tie.spec (λ c κs. search needs) returns (λ c κs. search needs) (λ c. search needs) (λ c κs. search needs)
+    (λ c. search needs) (λ c κs. search needs) sub-read-items part-read-items-start (λ c. search needs) add-read-items
+    read-items-requires (λ c. search needs) (λ c κs. search needs) (λ c. search needs) add-t25 returns-2 returns-3 returns-4)

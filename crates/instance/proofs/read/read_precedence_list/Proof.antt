@@ -11,38 +11,17 @@ use borrow.Author.Needs.{needs}
 use Rattle.instance.proofs.read.read_precedence_list.Statement.{statement}
 use Rattle.instance.proofs.read.read_precedence_list.Tie as tie
 
-no-precedence-list-requires : tie.Need-no-precedence-list-requires
-no-precedence-list-requires c κs = search needs
-
 returns : tie.Need-returns
 returns c =
     let a = c .before .before .before .args in
     let w = c .no-precedence-list .ensures in
     (rw (w .0 .0, w .0 .1, not-true (a .standing) (c .before .if1 .taken), add-zero), (rw (w .0 .0, w .0 .1) (omega arith, omega arith), rw (w .0 .0, w .0 .1, w .1) (refl, refl)))
 
-read-count-requires : tie.Need-read-count-requires
-read-count-requires c κs = search needs
-
-enum-known-e : tie.Need-enum-known-e
-enum-known-e c = search needs
-
-no-precedence-list-requires-2 : tie.Need-no-precedence-list-requires-2
-no-precedence-list-requires-2 c κs = search needs
-
-enum-known-count : tie.Need-enum-known-count
-enum-known-count c = search needs
-
-widened-requires : tie.Need-widened-requires
-widened-requires c κs = search needs
-
 sub-read-precedences : tie.Need-sub-read-precedences
 sub-read-precedences c = let h = rw (c .before .before .count .given .1) at (c .before .before .before .before .read-count .ensures .1) in omega arith
 
 part-read-precedences-start : tie.Need-part-read-precedences-start
 part-read-precedences-start c = let h = rw (c .before .before .count .given .1) at (c .before .before .before .before .read-count .ensures .1) in omega arith
-
-part-read-precedences-end : tie.Need-part-read-precedences-end
-part-read-precedences-end c = search needs
 
 add-read-precedences : tie.Need-add-read-precedences
 add-read-precedences c = let h = rw (c .before .before .before .count .given .1) at (c .before .before .before .before .before .read-count .ensures .1) in omega arith
@@ -54,15 +33,6 @@ read-precedences-requires c κs =
     let e = rw (c .before .before .before .count .given .1) at (c .before .before .before .before .before .read-count .ensures .0) in
     let k = counted 90 (a .at) (a .rest .now) e .within in
     (simp (rest-of, length-drop) (omega arith), omega (arith, c .before .widened .ensures))
-
-enum-known-stop : tie.Need-enum-known-stop
-enum-known-stop c = search needs
-
-no-precedence-list-requires-3 : tie.Need-no-precedence-list-requires-3
-no-precedence-list-requires-3 c κs = search needs
-
-enum-known-stop-2 : tie.Need-enum-known-stop-2
-enum-known-stop-2 c = search needs
 
 add-t26 : tie.Need-add-t26
 add-t26 c =
@@ -99,23 +69,7 @@ returns-4 c =
 pub read-precedence-list-spec : {M : Type 1} → statement M
 read-precedence-list-spec =
     tie.close
-    (tie.spec
-    no-precedence-list-requires
-    returns
-    read-count-requires
-    enum-known-e
-    no-precedence-list-requires-2
-    enum-known-count
-    widened-requires
-    sub-read-precedences
-    part-read-precedences-start
-    part-read-precedences-end
-    add-read-precedences
-    read-precedences-requires
-    enum-known-stop
-    no-precedence-list-requires-3
-    enum-known-stop-2
-    add-t26
-    returns-2
-    returns-3
-    returns-4)
+    (tie.spec (λ c κs. search needs) returns (λ c κs. search needs) (λ c. search needs) (λ c κs. search needs)
+    (λ c. search needs) (λ c κs. search needs) sub-read-precedences part-read-precedences-start (λ c. search needs)
+    add-read-precedences read-precedences-requires (λ c. search needs) (λ c κs. search needs) (λ c. search needs) add-t26
+    returns-2 returns-3 returns-4)

@@ -10,43 +10,13 @@ use borrow.Author.Needs.{needs}
 use Rattle.instance.proofs.read.read_sheet.Statement.{statement}
 use Rattle.instance.proofs.read.read_sheet.Tie as tie
 
-refuse-requires : tie.Need-refuse-requires
-refuse-requires c κs = search needs
-
 returns : tie.Need-returns
 unfolding decode
 returns c = let a = c .before .before .before .args in c .refuse .ensures ∙ simp (byte-none 0 (a .bytes .now) (c .before .if1 .taken))
 
-shared-slice-read-map : tie.Need-shared-slice-read-map
-shared-slice-read-map c = search needs
-
-refuse-requires-2 : tie.Need-refuse-requires-2
-refuse-requires-2 c κs = search needs
-
 returns-2 : tie.Need-returns-2
 unfolding decode
 returns-2 c = let a = c .before .before .before .before .before .args in c .refuse2 .ensures ∙ simp (byte-one 0 (a .bytes .now) (c .before .before .before .if1 .left), lt-ltb _ _ (c .before .if2 .taken))
-
-sub-read-size : tie.Need-sub-read-size
-sub-read-size c = search needs
-
-part-read-size-start : tie.Need-part-read-size-start
-part-read-size-start c = search needs
-
-part-read-size-end : tie.Need-part-read-size-end
-part-read-size-end c = search needs
-
-read-size-requires : tie.Need-read-size-requires
-read-size-requires c κs = search needs
-
-enum-known-e : tie.Need-enum-known-e
-enum-known-e c = search needs
-
-refuse-requires-3 : tie.Need-refuse-requires-3
-refuse-requires-3 c κs = search needs
-
-enum-known-container : tie.Need-enum-known-container
-enum-known-container c = search needs
 
 add-at : tie.Need-add-at
 add-at c = let w = rw (c .before .container .given .1, rest-of, length-drop) at (c .before .before .before .read-size .ensures .1) in omega arith
@@ -56,9 +26,6 @@ sub-read-from-items c = let w = rw (c .before .container .given .1, rest-of, len
 
 part-read-from-items-start : tie.Need-part-read-from-items-start
 part-read-from-items-start c = let w = rw (c .before .container .given .1, rest-of, length-drop) at (c .before .before .before .read-size .ensures .1) in omega arith
-
-part-read-from-items-end : tie.Need-part-read-from-items-end
-part-read-from-items-end c = search needs
 
 read-from-items-requires : tie.Need-read-from-items-requires
 read-from-items-requires c κs = let w = rw (c .before .before .container .given .1, rest-of, length-drop) at (c .before .before .before .before .read-size .ensures .1) in simp (rest-of, length-drop) (omega arith)
@@ -81,23 +48,7 @@ returns-4 c =
 pub read-sheet-spec : {M : Type 1} → statement M
 read-sheet-spec =
     tie.close
-    (tie.spec
-    refuse-requires
-    returns
-    shared-slice-read-map
-    refuse-requires-2
-    returns-2
-    sub-read-size
-    part-read-size-start
-    part-read-size-end
-    read-size-requires
-    enum-known-e
-    refuse-requires-3
-    enum-known-container
-    add-at
-    sub-read-from-items
-    part-read-from-items-start
-    part-read-from-items-end
-    read-from-items-requires
-    returns-3
-    returns-4)
+    (tie.spec (λ c κs. search needs) returns (λ c. search needs) (λ c κs. search needs) returns-2 (λ c. search needs)
+    (λ c. search needs) (λ c. search needs) (λ c κs. search needs) (λ c. search needs) (λ c κs. search needs)
+    (λ c. search needs) add-at sub-read-from-items part-read-from-items-start (λ c. search needs) read-from-items-requires
+    returns-3 returns-4)

@@ -7,15 +7,6 @@ use borrow.Author.Needs.{needs}
 use Rattle.instance.proofs.write.precedence_list_len.Statement.{statement}
 use Rattle.instance.proofs.write.precedence_list_len.Tie as tie
 
-returns : tie.Need-returns
-returns c = search needs
-
-mul-result : tie.Need-mul-result
-mul-result c = search needs
-
-add-result : tie.Need-add-result
-add-result c = search needs
-
 returns-2 : tie.Need-returns-2
 returns-2 c =
     let a = c .before .args in
@@ -23,4 +14,4 @@ returns-2 c =
     (rw (counted-some _ _ (c .if1 .left)) (omega (arith, precedences-two (a .m) (a .precedences) (omega arith))), omega arith)
 
 pub precedence-list-len-spec : {M : Type 1} → statement M
-precedence-list-len-spec = tie.close (tie.spec returns mul-result add-result returns-2)
+precedence-list-len-spec = tie.close (tie.spec (λ c. search needs) (λ c. search needs) (λ c. search needs) returns-2)

@@ -11,14 +11,8 @@ use Rattle.instance.proofs.write.write_item_list.Tie as tie
 returns : tie.Need-returns
 returns c = (rw (counted-none _ _ (c .if1 .taken)) (sym (add-zero _)), rw (counted-none _ _ (c .if1 .taken)))
 
-cast-out : tie.Need-cast-out
-cast-out c = search needs
-
 slice-write-out : tie.Need-slice-write-out
 slice-write-out c = let h = rw (counted-some _ _ (c .if1 .left)) at (c .before .before .pre .1) in omega arith
-
-add-write-items : tie.Need-add-write-items
-add-write-items c = search needs
 
 write-items-requires : tie.Need-write-items-requires
 write-items-requires c κs = let h = rw (counted-some _ _ (c .before .if1 .left)) at (c .before .before .before .pre .1) in (omega arith, simp length-set (omega arith))
@@ -34,11 +28,4 @@ returns-2 c =
 pub write-item-list-spec : {M : Type 1} → statement M
 write-item-list-spec =
     tie.close
-    (tie.spec
-    returns
-    cast-out
-    slice-write-out
-    add-write-items
-    write-items-requires
-    same-length
-    returns-2)
+    (tie.spec returns (λ c. search needs) slice-write-out (λ c. search needs) write-items-requires same-length returns-2)

@@ -11,14 +11,8 @@ use Rattle.instance.proofs.write.write_precedence_list.Tie as tie
 returns : tie.Need-returns
 returns c = (rw (counted-none _ _ (c .if1 .taken)) (sym (add-zero _)), rw (counted-none _ _ (c .if1 .taken)))
 
-cast-out : tie.Need-cast-out
-cast-out c = search needs
-
 slice-write-out : tie.Need-slice-write-out
 slice-write-out c = let h = rw (counted-some _ _ (c .if1 .left)) at (c .before .before .pre .1) in omega arith
-
-add-write-precedences : tie.Need-add-write-precedences
-add-write-precedences c = search needs
 
 write-precedences-requires : tie.Need-write-precedences-requires
 write-precedences-requires c κs =
@@ -41,11 +35,5 @@ returns-2 c =
 pub write-precedence-list-spec : {M : Type 1} → statement M
 write-precedence-list-spec =
     tie.close
-    (tie.spec
-    returns
-    cast-out
-    slice-write-out
-    add-write-precedences
-    write-precedences-requires
-    same-length
+    (tie.spec returns (λ c. search needs) slice-write-out (λ c. search needs) write-precedences-requires same-length
     returns-2)

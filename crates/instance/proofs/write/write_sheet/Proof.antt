@@ -6,9 +6,6 @@ use borrow.Author.Needs.{needs}
 use Rattle.instance.proofs.write.write_sheet.Statement.{statement}
 use Rattle.instance.proofs.write.write_sheet.Tie as tie
 
-map-of-requires : tie.Need-map-of-requires
-map-of-requires c κs = search needs
-
 slice-write-out : tie.Need-slice-write-out
 slice-write-out c = omega (arith, encode-length (c .before .before .before .before .before .args .instance))
 
@@ -47,12 +44,5 @@ returns c =
 pub write-sheet-spec : {M : Type 1} → statement M
 write-sheet-spec =
     tie.close
-    (tie.spec
-    map-of-requires
-    slice-write-out
-    write-size-requires
-    write-item-list-requires
-    write-precedence-list-requires
-    write-field-requires
-    same-length
-    returns)
+    (tie.spec (λ c κs. search needs) slice-write-out write-size-requires write-item-list-requires
+    write-precedence-list-requires write-field-requires same-length returns)

@@ -4,14 +4,8 @@ use borrow.Author.Needs.{needs}
 use Rattle.packing.proofs.axes.measure_on.Statement.{statement}
 use Rattle.packing.proofs.axes.measure_on.Tie as tie
 
-returns : tie.Need-returns
-returns c = search needs
-
-returns-2 : tie.Need-returns-2
-returns-2 c = search needs
-
 returns-3 : tie.Need-returns-3
 returns-3 c = measure-last _ _ (c .match .rest .0 .1) (c .match .rest .1)
 
 pub measure-on-spec : {M : Type 1} → statement M
-measure-on-spec = tie.close (tie.spec returns returns-2 returns-3)
+measure-on-spec = tie.close (tie.spec (λ c. search needs) (λ c. search needs) returns-3)

@@ -25,26 +25,11 @@ entries c = search needs
 loop-holds : tie.Need-loop-holds Inv-loop μ-loop
 loop-holds c = (omega arith, refl)
 
-mul-o : tie.Need-mul-o Inv-loop μ-loop
-mul-o c = search needs
-
-array-copy-out-o : tie.Need-array-copy-out-o Inv-loop μ-loop
-array-copy-out-o c = search needs
-
-cast-u : tie.Need-cast-u Inv-loop μ-loop
-cast-u c = search needs
-
-cast-v : tie.Need-cast-v Inv-loop μ-loop
-cast-v c = search needs
-
 placed-item-requires : tie.Need-placed-item-requires Inv-loop μ-loop
 placed-item-requires c κs = c .before .before .before .before .before .pre .1 .predecessor (c .before .before .before .before .loop .i) (c .before .before .before .loop-test .taken)
 
 placed-item-requires-2 : tie.Need-placed-item-requires-2 Inv-loop μ-loop
 placed-item-requires-2 c κs = c .before .before .before .before .before .before .pre .1 .successor (c .before .before .before .before .before .loop .i) (c .before .before .before .before .loop-test .taken)
-
-ends-before-requires : tie.Need-ends-before-requires Inv-loop μ-loop
-ends-before-requires c κs = search needs
 
 returns : tie.Need-returns Inv-loop μ-loop
 returns c =
@@ -52,12 +37,6 @@ returns c =
     let a = c .before .before .before .before .before .before .before .before .before .args in
     let h = entries (c .before .before .before .before .before .before .before .before .before) in
     sym (rw (← (l .inv .1), part-next (a .m) (l .i) (a .t3) (omega arith) no-precedence (omega arith), all-kept-next, kept-is _ _ _ (c .before .before .before .placed-item .ensures) (c .before .before .placed-item2 .ensures) (c .before .ends-before .ensures), not-true (c .before .ends-before .result) (c .if1 .taken)) refl)
-
-add-i : tie.Need-add-i Inv-loop μ-loop
-add-i c = search needs
-
-loop-less : tie.Need-loop-less Inv-loop μ-loop
-loop-less c = search needs
 
 loop-again : tie.Need-loop-again Inv-loop μ-loop
 loop-again c =
@@ -76,19 +55,6 @@ returns-2 c =
 pub all-are-kept-spec : {M : Type 1} → statement M
 all-are-kept-spec =
     tie.close
-    (tie.spec
-    Inv-loop
-    μ-loop
-    loop-holds
-    mul-o
-    array-copy-out-o
-    cast-u
-    cast-v
-    placed-item-requires
-    placed-item-requires-2
-    ends-before-requires
-    returns
-    add-i
-    loop-less
-    loop-again
-    returns-2)
+    (tie.spec Inv-loop μ-loop loop-holds (λ c. search needs) (λ c. search needs) (λ c. search needs) (λ c. search needs)
+    placed-item-requires placed-item-requires-2 (λ c κs. search needs) returns (λ c. search needs) (λ c. search needs)
+    loop-again returns-2)

@@ -21,18 +21,9 @@ abbrev μ-loop : tie.MeasureT-loop
 loop-holds : tie.Need-loop-holds Inv-loop μ-loop
 loop-holds c = (omega arith, refl)
 
-apart-from-lower-items-requires : tie.Need-apart-from-lower-items-requires Inv-loop μ-loop
-apart-from-lower-items-requires c κs = search needs
-
 returns : tie.Need-returns Inv-loop μ-loop
 unfolding problem-of
 returns c = sym (apart-loop _ _ ∙ all-fails _ (apart-from-lower _ _) (c .before .before .before .loop .u) (c .before .before .loop-test .taken) (sym (c .before .apart-from-lower-items .ensures) ∙ not-true _ (c .if1 .taken)))
-
-add-u : tie.Need-add-u Inv-loop μ-loop
-add-u c = search needs
-
-loop-less : tie.Need-loop-less Inv-loop μ-loop
-loop-less c = search needs
 
 loop-again : tie.Need-loop-again Inv-loop μ-loop
 loop-again c = (search needs, all-more _ (apart-from-lower _ _) (c .before .before .before .loop .inv .1) (sym (c .before .apart-from-lower-items .ensures) ∙ not-false _ (c .if1 .left)))
@@ -44,13 +35,5 @@ returns-2 c = sym (apart-loop _ _ ∙ all-done _ (apart-from-lower _ _) (c .befo
 pub apart-spec : {M : Type 1} → statement M
 apart-spec =
     tie.close
-    (tie.spec
-    Inv-loop
-    μ-loop
-    loop-holds
-    apart-from-lower-items-requires
-    returns
-    add-u
-    loop-less
-    loop-again
+    (tie.spec Inv-loop μ-loop loop-holds (λ c κs. search needs) returns (λ c. search needs) (λ c. search needs) loop-again
     returns-2)

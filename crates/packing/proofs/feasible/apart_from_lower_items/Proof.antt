@@ -22,18 +22,9 @@ abbrev μ-loop : tie.MeasureT-loop
 loop-holds : tie.Need-loop-holds Inv-loop μ-loop
 loop-holds c = (omega arith, refl)
 
-apart-on-some-axis-requires : tie.Need-apart-on-some-axis-requires Inv-loop μ-loop
-apart-on-some-axis-requires c κs = search needs
-
 returns : tie.Need-returns Inv-loop μ-loop
 unfolding apart-from-lower
 returns c = sym (all-fails (c .before .before .before .before .args .u) (apart-on-some-axis _ _ _) (c .before .before .before .loop .v) (c .before .before .loop-test .taken) (sym (c .before .apart-on-some-axis .ensures) ∙ not-true _ (c .if1 .taken)))
-
-add-v : tie.Need-add-v Inv-loop μ-loop
-add-v c = search needs
-
-loop-less : tie.Need-loop-less Inv-loop μ-loop
-loop-less c = search needs
 
 loop-again : tie.Need-loop-again Inv-loop μ-loop
 loop-again c = (search needs, all-more _ (apart-on-some-axis _ _ _) (c .before .before .before .loop .inv .1) (sym (c .before .apart-on-some-axis .ensures) ∙ not-false _ (c .if1 .left)))
@@ -45,13 +36,5 @@ returns-2 c = sym (all-done (c .before .before .args .u) (apart-on-some-axis _ _
 pub apart-from-lower-items-spec : {M : Type 1} → statement M
 apart-from-lower-items-spec =
     tie.close
-    (tie.spec
-    Inv-loop
-    μ-loop
-    loop-holds
-    apart-on-some-axis-requires
-    returns
-    add-v
-    loop-less
-    loop-again
+    (tie.spec Inv-loop μ-loop loop-holds (λ c κs. search needs) returns (λ c. search needs) (λ c. search needs) loop-again
     returns-2)

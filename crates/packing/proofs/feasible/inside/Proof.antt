@@ -21,17 +21,8 @@ abbrev μ-loop : tie.MeasureT-loop
 loop-holds : tie.Need-loop-holds Inv-loop μ-loop
 loop-holds c = (omega arith, refl)
 
-inside-on-axis-requires : tie.Need-inside-on-axis-requires Inv-loop μ-loop
-inside-on-axis-requires c κs = search needs
-
 returns : tie.Need-returns Inv-loop μ-loop
 returns c = sym (inside-loop _ _ ∙ all-fails 3 (inside-on _ _) (c .before .before .before .loop .axis) (c .before .before .loop-test .taken) (sym (c .before .inside-on-axis .ensures) ∙ not-true _ (c .if1 .taken)))
-
-add-axis : tie.Need-add-axis Inv-loop μ-loop
-add-axis c = search needs
-
-loop-less : tie.Need-loop-less Inv-loop μ-loop
-loop-less c = search needs
 
 loop-again : tie.Need-loop-again Inv-loop μ-loop
 loop-again c = (search needs, all-more _ (inside-on _ _) (c .before .before .before .loop .inv .1) (sym (c .before .inside-on-axis .ensures) ∙ not-false _ (c .if1 .left)))
@@ -42,13 +33,5 @@ returns-2 c = sym (inside-loop _ _ ∙ all-done 3 (inside-on _ _) (c .before .lo
 pub inside-spec : {M : Type 1} → statement M
 inside-spec =
     tie.close
-    (tie.spec
-    Inv-loop
-    μ-loop
-    loop-holds
-    inside-on-axis-requires
-    returns
-    add-axis
-    loop-less
-    loop-again
+    (tie.spec Inv-loop μ-loop loop-holds (λ c κs. search needs) returns (λ c. search needs) (λ c. search needs) loop-again
     returns-2)

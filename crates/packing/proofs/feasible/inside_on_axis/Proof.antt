@@ -15,29 +15,11 @@ Inv-loop axis items count positions limit u₀ u = (u ≤ count) × (all-below u
 abbrev μ-loop : tie.MeasureT-loop
 μ-loop axis items count positions limit u₀ u = count - u
 
-measure-on-requires : tie.Need-measure-on-requires Inv-loop μ-loop
-measure-on-requires c κs = search needs
-
-cast-limit : tie.Need-cast-limit Inv-loop μ-loop
-cast-limit c = search needs
-
 loop-holds : tie.Need-loop-holds Inv-loop μ-loop
 loop-holds c = (omega arith, refl)
 
-placed-item-requires : tie.Need-placed-item-requires Inv-loop μ-loop
-placed-item-requires c κs = search needs
-
-end-on-requires : tie.Need-end-on-requires Inv-loop μ-loop
-end-on-requires c κs = search needs
-
 returns : tie.Need-returns Inv-loop μ-loop
 returns c = sym (inside-by _ _ _ ∙ rw (← (c .before .before .before .before .before .measure-on .ensures)) (all-fails _ (within-limit _ _ _ _) (c .before .before .before .before .loop .u) (c .before .before .before .loop-test .taken) (within-limit-false _ _ _ _ _ (c .before .before .placed-item .ensures) (c .before .end-on .ensures .0) (c .if1 .taken))))
-
-add-u : tie.Need-add-u Inv-loop μ-loop
-add-u c = search needs
-
-loop-less : tie.Need-loop-less Inv-loop μ-loop
-loop-less c = search needs
 
 loop-again : tie.Need-loop-again Inv-loop μ-loop
 loop-again c = (
@@ -52,16 +34,5 @@ returns-2 c = sym (inside-by _ _ _ ∙ rw (← (c .before .before .measure-on .e
 pub inside-on-axis-spec : {M : Type 1} → statement M
 inside-on-axis-spec =
     tie.close
-    (tie.spec
-    Inv-loop
-    μ-loop
-    measure-on-requires
-    cast-limit
-    loop-holds
-    placed-item-requires
-    end-on-requires
-    returns
-    add-u
-    loop-less
-    loop-again
-    returns-2)
+    (tie.spec Inv-loop μ-loop (λ c κs. search needs) (λ c. search needs) loop-holds (λ c κs. search needs)
+    (λ c κs. search needs) returns (λ c. search needs) (λ c. search needs) loop-again returns-2)

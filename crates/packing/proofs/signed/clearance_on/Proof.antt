@@ -9,21 +9,6 @@ use borrow.Author.Needs.{needs}
 use Rattle.packing.proofs.signed.clearance_on.Statement.{statement}
 use Rattle.packing.proofs.signed.clearance_on.Tie as tie
 
-placed-item-requires : tie.Need-placed-item-requires
-placed-item-requires c κs = search needs
-
-placed-item-requires-2 : tie.Need-placed-item-requires-2
-placed-item-requires-2 c κs = search needs
-
-from-end-requires : tie.Need-from-end-requires
-from-end-requires c κs = search needs
-
-from-end-requires-2 : tie.Need-from-end-requires-2
-from-end-requires-2 c κs = search needs
-
-greater-requires : tie.Need-greater-requires
-greater-requires c κs = search needs
-
 returns : tie.Need-returns
 unfolding clearance-between from-end-to-start end-of problem-of positions-of
 returns c =
@@ -36,10 +21,5 @@ returns c =
 pub clearance-on-spec : {M : Type 1} → statement M
 clearance-on-spec =
     tie.close
-    (tie.spec
-    placed-item-requires
-    placed-item-requires-2
-    from-end-requires
-    from-end-requires-2
-    greater-requires
-    returns)
+    (tie.spec (λ c κs. search needs) (λ c κs. search needs) (λ c κs. search needs) (λ c κs. search needs)
+    (λ c κs. search needs) returns)

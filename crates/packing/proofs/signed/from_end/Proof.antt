@@ -9,18 +9,6 @@ use borrow.Author.Needs.{needs}
 use Rattle.packing.proofs.signed.from_end.Statement.{statement}
 use Rattle.packing.proofs.signed.from_end.Tie as tie
 
-end-on-requires : tie.Need-end-on-requires
-end-on-requires c κs = search needs
-
-start-on-requires : tie.Need-start-on-requires
-start-on-requires c κs = search needs
-
-cast-result : tie.Need-cast-result
-cast-result c = search needs
-
-cast-result-2 : tie.Need-cast-result-2
-cast-result-2 c = search needs
-
 sub-result : tie.Need-sub-result
 sub-result c = rw (toZ-pos w32 (c .start-on .result) (omega arith), toZ-pos w32 (c .before .end-on .result) (omega arith)) (diff-fits (c .start-on .result) (c .before .end-on .result) (omega arith) (omega arith))
 
@@ -30,4 +18,4 @@ returns c = toZ-ofZ w32 _ (sub-result c) ∙ rw (toZ-pos w32 (c .start-on .resul
 pub from-end-spec : {M : Type 1} → statement M
 from-end-spec =
     tie.close
-    (tie.spec end-on-requires start-on-requires cast-result cast-result-2 sub-result returns)
+    (tie.spec (λ c κs. search needs) (λ c κs. search needs) (λ c. search needs) (λ c. search needs) sub-result returns)

@@ -5,15 +5,9 @@ use borrow.Author.Needs.{needs}
 use Rattle.records.proofs.read.both_items.Statement.{statement}
 use Rattle.records.proofs.read.both_items.Tie as tie
 
-index-requires : tie.Need-index-requires
-index-requires c κs = search needs
-
 returns : tie.Need-returns
 unfolding names-items
 returns c = simp (le-ltb _ _ (rw (c .before .index .ensures) at (c .if1 .taken)))
-
-index-requires-2 : tie.Need-index-requires-2
-index-requires-2 c κs = search needs
 
 returns-2 : tie.Need-returns-2
 unfolding names-items
@@ -29,4 +23,4 @@ returns-4 c = simp (lt-ltb _ _ (rw (c .before .before .before .before .before .i
 
 pub both-items-spec : {M : Type 1} → statement M
 both-items-spec =
-    tie.close (tie.spec index-requires returns index-requires-2 returns-2 returns-3 returns-4)
+    tie.close (tie.spec (λ c κs. search needs) returns (λ c κs. search needs) returns-2 returns-3 returns-4)

@@ -5,12 +5,6 @@ use borrow.Author.Needs.{needs}
 use Rattle.records.proofs.read.is_rising.Statement.{statement}
 use Rattle.records.proofs.read.is_rising.Tie as tie
 
-enum-told : tie.Need-enum-told
-enum-told c = search needs
-
-enum-known-last : tie.Need-enum-known-last
-enum-known-last c = search needs
-
 returns : tie.Need-returns
 unfolding above
 returns c = simp (c .before .before .before .before .last .given .1, lt-ltb _ _ (c .if1 .taken))
@@ -19,13 +13,10 @@ returns-2 : tie.Need-returns-2
 unfolding above
 returns-2 c = simp (c .before .before .before .before .before .before .before .before .before .last .given .1, le-ltb _ _ (c .before .before .before .before .before .if1 .left), eq-eqb _ _ (c .before .before .if2 .taken))
 
-returns-3 : tie.Need-returns-3
-returns-3 c = search needs
-
 returns-4 : tie.Need-returns-4
 unfolding above
 returns-4 c = simp (c .before .before .before .before .before .before .before .last .given .1, le-ltb _ _ (c .before .before .before .if1 .left), ne-eqb _ _ (c .if2 .left))
 
 pub is-rising-spec : {M : Type 1} → statement M
 is-rising-spec =
-    tie.close (tie.spec enum-told enum-known-last returns returns-2 returns-3 returns-4)
+    tie.close (tie.spec (λ c. search needs) (λ c. search needs) returns returns-2 (λ c. search needs) returns-4)

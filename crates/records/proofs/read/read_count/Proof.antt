@@ -10,9 +10,6 @@ returns : tie.Need-returns
 unfolding count
 returns c = let a = c .before .before .args in (simp (byte-none (a .at) (a .rest .now) (c .if1 .taken)), tt)
 
-shared-slice-read-n : tie.Need-shared-slice-read-n
-shared-slice-read-n c = search needs
-
 returns-2 : tie.Need-returns-2
 unfolding count
 returns-2 c = let a = c .before .before .before .before .args in (simp (byte-one (a .at) (a .rest .now) (c .before .before .if1 .left), eq-eqb _ _ (c .if2 .taken)), tt)
@@ -21,13 +18,10 @@ returns-3 : tie.Need-returns-3
 unfolding count
 returns-3 c = let a = c .before .before .before .before .before .args in (simp (byte-one (a .at) (a .rest .now) (c .before .before .before .if1 .left), ne-eqb _ _ (c .before .if2 .left), lt-ltb _ _ (c .if3 .taken)), tt)
 
-wide-requires : tie.Need-wide-requires
-wide-requires c κs = search needs
-
 returns-4 : tie.Need-returns-4
 unfolding count
 returns-4 c = let a = c .before .before .before .before .before .before .args in (simp (byte-one (a .at) (a .rest .now) (c .before .before .before .before .if1 .left), ne-eqb _ _ (c .before .before .if2 .left), le-ltb _ _ (c .before .if3 .left), c .wide .ensures .0), search needs)
 
 pub read-count-spec : {M : Type 1} → statement M
 read-count-spec =
-    tie.close (tie.spec returns shared-slice-read-n returns-2 returns-3 wide-requires returns-4)
+    tie.close (tie.spec returns (λ c. search needs) returns-2 returns-3 (λ c κs. search needs) returns-4)

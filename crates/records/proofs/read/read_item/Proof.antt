@@ -14,33 +14,9 @@ returns : tie.Need-returns
 unfolding item
 returns c = let a = c .before .before .args in (simp (byte-none (a .at) (a .rest .now) (c .if1 .taken)), tt)
 
-shared-slice-read-map : tie.Need-shared-slice-read-map
-shared-slice-read-map c = search needs
-
 returns-2 : tie.Need-returns-2
 unfolding item
 returns-2 c = let a = c .before .before .before .before .args in (simp (byte-one (a .at) (a .rest .now) (c .before .before .if1 .left), lt-ltb _ _ (c .if2 .taken)), tt)
-
-sub-read-size : tie.Need-sub-read-size
-sub-read-size c = search needs
-
-part-read-size-start : tie.Need-part-read-size-start
-part-read-size-start c = search needs
-
-part-read-size-end : tie.Need-part-read-size-end
-part-read-size-end c = search needs
-
-add-read-size : tie.Need-add-read-size
-add-read-size c = search needs
-
-read-size-requires : tie.Need-read-size-requires
-read-size-requires c κs = search needs
-
-enum-known-e : tie.Need-enum-known-e
-enum-known-e c = search needs
-
-enum-known-size : tie.Need-enum-known-size
-enum-known-size c = search needs
 
 add-t20 : tie.Need-add-t20
 add-t20 c = let k = rw (c .before .size .given .1, rest-of, length-drop) at (c .before .before .before .read-size .ensures .1) in omega arith
@@ -63,17 +39,5 @@ returns-4 c =
 pub read-item-spec : {M : Type 1} → statement M
 read-item-spec =
     tie.close
-    (tie.spec
-    returns
-    shared-slice-read-map
-    returns-2
-    sub-read-size
-    part-read-size-start
-    part-read-size-end
-    add-read-size
-    read-size-requires
-    enum-known-e
-    enum-known-size
-    add-t20
-    returns-3
-    returns-4)
+    (tie.spec returns (λ c. search needs) returns-2 (λ c. search needs) (λ c. search needs) (λ c. search needs)
+    (λ c. search needs) (λ c κs. search needs) (λ c. search needs) (λ c. search needs) add-t20 returns-3 returns-4)

@@ -27,44 +27,14 @@ here : (c : tie.After-read-item Inv-loop μ-loop) →
     × item-within (length (a .rest .now) - l .used) (c .read-item .result)
 here c = (rw rest-of at (c .read-item .ensures .0), rw (rest-of, length-drop) at (c .read-item .ensures .1))
 
-no-items-requires : tie.Need-no-items-requires Inv-loop μ-loop
-no-items-requires c κs = search needs
-
 loop-holds : tie.Need-loop-holds Inv-loop μ-loop
 loop-holds c = rw (sub-zero, add-zero) (along-start (c .no-items .ensures))
-
-sub-read-item : tie.Need-sub-read-item Inv-loop μ-loop
-sub-read-item c = omega arith
-
-part-read-item-start : tie.Need-part-read-item-start Inv-loop μ-loop
-part-read-item-start c = omega arith
-
-part-read-item-end : tie.Need-part-read-item-end Inv-loop μ-loop
-part-read-item-end c = omega arith
-
-add-read-item : tie.Need-add-read-item Inv-loop μ-loop
-add-read-item c = omega arith
 
 read-item-requires : tie.Need-read-item-requires Inv-loop μ-loop
 read-item-requires c κs = simp (rest-of, length-drop) (omega arith)
 
-enum-known-item : tie.Need-enum-known-item Inv-loop μ-loop
-enum-known-item c = search needs
-
-mul-items : tie.Need-mul-items Inv-loop μ-loop
-mul-items c = search needs
-
-array-set-from-items : tie.Need-array-set-from-items Inv-loop μ-loop
-array-set-from-items c = omega arith
-
 add-used : tie.Need-add-used Inv-loop μ-loop
 add-used c = let h = rw (c .before .item .given .1) at (here (c .before .before .before) .1) in omega arith
-
-add-i : tie.Need-add-i Inv-loop μ-loop
-add-i c = omega arith
-
-loop-less : tie.Need-loop-less Inv-loop μ-loop
-loop-less c = omega arith
 
 loop-again : tie.Need-loop-again Inv-loop μ-loop
 loop-again c =
@@ -76,9 +46,6 @@ loop-again c =
     let e = rw (c .before .item .given .1) at (here d .0) in
     let h = rw (c .before .item .given .1) at (here d .1) in
     along-next (l .inv) (omega arith) x more (items-next (a .n) (l .i) (a .at) (l .used) (a .rest .now) (omega arith) x more e) (omega arith) h
-
-enum-known-e : tie.Need-enum-known-e Inv-loop μ-loop
-enum-known-e c = search needs
 
 returns : tie.Need-returns Inv-loop μ-loop
 returns c =
@@ -98,23 +65,6 @@ returns-2 c =
 pub read-items-spec : {M : Type 1} → statement M
 read-items-spec =
     tie.close
-    (tie.spec
-    Inv-loop
-    μ-loop
-    no-items-requires
-    loop-holds
-    sub-read-item
-    part-read-item-start
-    part-read-item-end
-    add-read-item
-    read-item-requires
-    enum-known-item
-    mul-items
-    array-set-from-items
-    add-used
-    add-i
-    loop-less
-    loop-again
-    enum-known-e
-    returns
-    returns-2)
+    (tie.spec Inv-loop μ-loop (λ c κs. search needs) loop-holds (λ c. omega arith) (λ c. omega arith) (λ c. omega arith)
+    (λ c. omega arith) read-item-requires (λ c. search needs) (λ c. search needs) (λ c. omega arith) add-used
+    (λ c. omega arith) (λ c. omega arith) loop-again (λ c. search needs) returns returns-2)

@@ -29,44 +29,14 @@ here : (c : tie.After-read-precedence Inv-loop μ-loop) →
     × precedence-within (length (a .rest .now) - l .used) (c .read-precedence .result)
 here c = (rw rest-of at (c .read-precedence .ensures .0), rw (rest-of, length-drop) at (c .read-precedence .ensures .1))
 
-no-precedences-requires : tie.Need-no-precedences-requires Inv-loop μ-loop
-no-precedences-requires c κs = search needs
-
 loop-holds : tie.Need-loop-holds Inv-loop μ-loop
 loop-holds c = rw (sub-zero, add-zero) (along-start (c .no-precedences .ensures))
-
-sub-read-precedence : tie.Need-sub-read-precedence Inv-loop μ-loop
-sub-read-precedence c = omega arith
-
-part-read-precedence-start : tie.Need-part-read-precedence-start Inv-loop μ-loop
-part-read-precedence-start c = omega arith
-
-part-read-precedence-end : tie.Need-part-read-precedence-end Inv-loop μ-loop
-part-read-precedence-end c = omega arith
-
-add-read-precedence : tie.Need-add-read-precedence Inv-loop μ-loop
-add-read-precedence c = omega arith
 
 read-precedence-requires : tie.Need-read-precedence-requires Inv-loop μ-loop
 read-precedence-requires c κs = simp (rest-of, length-drop) (omega arith)
 
-enum-known-o : tie.Need-enum-known-o Inv-loop μ-loop
-enum-known-o c = search needs
-
-mul-precedences : tie.Need-mul-precedences Inv-loop μ-loop
-mul-precedences c = search needs
-
-array-set-from-precedences : tie.Need-array-set-from-precedences Inv-loop μ-loop
-array-set-from-precedences c = omega arith
-
 add-used : tie.Need-add-used Inv-loop μ-loop
 add-used c = let h = rw (c .before .o .given .1) at (here (c .before .before .before) .1) in omega arith
-
-add-i : tie.Need-add-i Inv-loop μ-loop
-add-i c = omega arith
-
-loop-less : tie.Need-loop-less Inv-loop μ-loop
-loop-less c = omega arith
 
 loop-again : tie.Need-loop-again Inv-loop μ-loop
 loop-again c =
@@ -78,9 +48,6 @@ loop-again c =
     let e = rw (c .before .o .given .1) at (here d .0) in
     let h = rw (c .before .o .given .1) at (here d .1) in
     along-next (l .inv) (omega arith) x more (precedences-next (a .m) (l .i) (a .at) (l .used) (a .rest .now) (omega arith) (a .n) (l .last) x more e) (omega arith) h
-
-enum-known-e : tie.Need-enum-known-e Inv-loop μ-loop
-enum-known-e c = search needs
 
 returns : tie.Need-returns Inv-loop μ-loop
 returns c =
@@ -100,23 +67,6 @@ returns-2 c =
 pub read-precedences-spec : {M : Type 1} → statement M
 read-precedences-spec =
     tie.close
-    (tie.spec
-    Inv-loop
-    μ-loop
-    no-precedences-requires
-    loop-holds
-    sub-read-precedence
-    part-read-precedence-start
-    part-read-precedence-end
-    add-read-precedence
-    read-precedence-requires
-    enum-known-o
-    mul-precedences
-    array-set-from-precedences
-    add-used
-    add-i
-    loop-less
-    loop-again
-    enum-known-e
-    returns
-    returns-2)
+    (tie.spec Inv-loop μ-loop (λ c κs. search needs) loop-holds (λ c. omega arith) (λ c. omega arith) (λ c. omega arith)
+    (λ c. omega arith) read-precedence-requires (λ c. search needs) (λ c. search needs) (λ c. omega arith) add-used
+    (λ c. omega arith) (λ c. omega arith) loop-again (λ c. search needs) returns returns-2)

@@ -22,41 +22,17 @@ second-took : (c : tie.After-known-told4)
     - c .before .before .before .before .before .before .before .width .given .0 .1 .0
 second-took c = rw (c .before .depth .given .1, rest-of, length-drop) at (c .before .before .before .read-field2 .ensures .1)
 
-bit-stands-requires : tie.Need-bit-stands-requires
-bit-stands-requires c κs = search needs
-
-read-field-requires : tie.Need-read-field-requires
-read-field-requires c κs = search needs
-
-enum-known-e : tie.Need-enum-known-e
-enum-known-e c = search needs
-
-enum-known-width : tie.Need-enum-known-width
-enum-known-width c = search needs
-
 sub-read-field : tie.Need-sub-read-field
 sub-read-field c = omega (arith, first-took c)
 
 part-read-field-start : tie.Need-part-read-field-start
 part-read-field-start c = omega (arith, first-took c)
 
-part-read-field-end : tie.Need-part-read-field-end
-part-read-field-end c = search needs
-
 add-read-field : tie.Need-add-read-field
 add-read-field c = omega (arith, first-took (c .before))
 
-bit-stands-requires-2 : tie.Need-bit-stands-requires-2
-bit-stands-requires-2 c κs = search needs
-
 read-field-requires-2 : tie.Need-read-field-requires-2
 read-field-requires-2 c κs = let h = first-took (c .before .before) in simp (rest-of, length-drop) (omega arith)
-
-enum-known-e-2 : tie.Need-enum-known-e-2
-enum-known-e-2 c = search needs
-
-enum-known-depth : tie.Need-enum-known-depth
-enum-known-depth c = search needs
 
 add-ab : tie.Need-add-ab
 add-ab c = omega (arith, first-took (c .before .before .before .before .before .before), second-took c)
@@ -67,26 +43,14 @@ sub-read-field-2 c = omega (arith, first-took (c .before .before .before .before
 part-read-field-start-2 : tie.Need-part-read-field-start-2
 part-read-field-start-2 c = omega (arith, first-took (c .before .before .before .before .before .before), second-took c)
 
-part-read-field-end-2 : tie.Need-part-read-field-end-2
-part-read-field-end-2 c = search needs
-
 add-read-field-2 : tie.Need-add-read-field-2
 add-read-field-2 c = omega (arith, first-took (c .before .before .before .before .before .before .before), second-took (c .before))
-
-bit-stands-requires-3 : tie.Need-bit-stands-requires-3
-bit-stands-requires-3 c κs = search needs
 
 read-field-requires-3 : tie.Need-read-field-requires-3
 read-field-requires-3 c κs =
     let h = first-took (c .before .before .before .before .before .before .before .before) in
     let k = second-took (c .before .before) in
     simp (rest-of, length-drop) (omega arith)
-
-enum-known-e-3 : tie.Need-enum-known-e-3
-enum-known-e-3 c = search needs
-
-enum-known-shifts : tie.Need-enum-known-shifts
-enum-known-shifts c = search needs
 
 add-t34 : tie.Need-add-t34
 add-t34 c =
@@ -126,30 +90,8 @@ returns-4 c =
 pub read-size-spec : {M : Type 1} → statement M
 read-size-spec =
     tie.close
-    (tie.spec
-    bit-stands-requires
-    read-field-requires
-    enum-known-e
-    enum-known-width
-    sub-read-field
-    part-read-field-start
-    part-read-field-end
-    add-read-field
-    bit-stands-requires-2
-    read-field-requires-2
-    enum-known-e-2
-    enum-known-depth
-    add-ab
-    sub-read-field-2
-    part-read-field-start-2
-    part-read-field-end-2
-    add-read-field-2
-    bit-stands-requires-3
-    read-field-requires-3
-    enum-known-e-3
-    enum-known-shifts
-    add-t34
-    returns
-    returns-2
-    returns-3
-    returns-4)
+    (tie.spec (λ c κs. search needs) (λ c κs. search needs) (λ c. search needs) (λ c. search needs) sub-read-field
+    part-read-field-start (λ c. search needs) add-read-field (λ c κs. search needs) read-field-requires-2
+    (λ c. search needs) (λ c. search needs) add-ab sub-read-field-2 part-read-field-start-2 (λ c. search needs)
+    add-read-field-2 (λ c κs. search needs) read-field-requires-3 (λ c. search needs) (λ c. search needs) add-t34 returns
+    returns-2 returns-3 returns-4)

@@ -21,15 +21,6 @@ abbrev μ-loop : tie.MeasureT-loop
 loop-holds : tie.Need-loop-holds Inv-loop μ-loop
 loop-holds c = (omega arith, refl)
 
-mul-o : tie.Need-mul-o Inv-loop μ-loop
-mul-o c = search needs
-
-array-copy-out-o : tie.Need-array-copy-out-o Inv-loop μ-loop
-array-copy-out-o c = search needs
-
-both-items-requires : tie.Need-both-items-requires Inv-loop μ-loop
-both-items-requires c κs = search needs
-
 returns : tie.Need-returns Inv-loop μ-loop
 returns c =
     let l = c .before .before .before .before .loop in
@@ -37,21 +28,12 @@ returns c =
     let h : length (a .t1) ≡ 90 = search needs in
     sym (rw (← (l .inv .1), part-next (a .m) (l .i) (a .t1) (omega arith) no-precedence (omega arith), all-stand-next, ← (c .before .both-items .ensures), not-true (c .before .both-items .result) (c .if1 .taken)) refl)
 
-is-rising-requires : tie.Need-is-rising-requires Inv-loop μ-loop
-is-rising-requires c κs = search needs
-
 returns-2 : tie.Need-returns-2 Inv-loop μ-loop
 returns-2 c =
     let l = c .before .before .before .before .before .before .loop in
     let a = c .before .before .before .before .before .before .before .args in
     let h : length (a .t1) ≡ 90 = search needs in
     sym (rw (← (l .inv .1), part-next (a .m) (l .i) (a .t1) (omega arith) no-precedence (omega arith), all-stand-next, ← (c .before .before .before .both-items .ensures), not-false (c .before .before .before .both-items .result) (c .before .before .if1 .left), ← (c .before .is-rising .ensures), not-true (c .before .is-rising .result) (c .if2 .taken)) refl)
-
-add-i : tie.Need-add-i Inv-loop μ-loop
-add-i c = search needs
-
-loop-less : tie.Need-loop-less Inv-loop μ-loop
-loop-less c = search needs
 
 loop-again : tie.Need-loop-again Inv-loop μ-loop
 loop-again c =
@@ -70,17 +52,5 @@ returns-3 c =
 pub all-stand-in-spec : {M : Type 1} → statement M
 all-stand-in-spec =
     tie.close
-    (tie.spec
-    Inv-loop
-    μ-loop
-    loop-holds
-    mul-o
-    array-copy-out-o
-    both-items-requires
-    returns
-    is-rising-requires
-    returns-2
-    add-i
-    loop-less
-    loop-again
-    returns-3)
+    (tie.spec Inv-loop μ-loop loop-holds (λ c. search needs) (λ c. search needs) (λ c κs. search needs) returns
+    (λ c κs. search needs) returns-2 (λ c. search needs) (λ c. search needs) loop-again returns-3)

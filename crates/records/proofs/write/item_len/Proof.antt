@@ -5,14 +5,8 @@ use borrow.Author.Needs.{needs}
 use Rattle.records.proofs.write.item_len.Statement.{statement}
 use Rattle.records.proofs.write.item_len.Tie as tie
 
-size-len-requires : tie.Need-size-len-requires
-size-len-requires c κs = search needs
-
-add-result : tie.Need-add-result
-add-result c = search needs
-
 returns : tie.Need-returns
 returns c = (omega (arith, item-length (c .before .before .args .item)), omega arith)
 
 pub item-len-spec : {M : Type 1} → statement M
-item-len-spec = tie.close (tie.spec size-len-requires add-result returns)
+item-len-spec = tie.close (tie.spec (λ c κs. search needs) (λ c. search needs) returns)

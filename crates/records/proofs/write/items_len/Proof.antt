@@ -19,24 +19,6 @@ abbrev μ-loop : tie.MeasureT-loop
 loop-holds : tie.Need-loop-holds Inv-loop μ-loop
 loop-holds c = (omega arith, rw (row-none item-bytes) refl, omega arith)
 
-mul-item-len : tie.Need-mul-item-len Inv-loop μ-loop
-mul-item-len c = search needs
-
-array-copy-out-item-len : tie.Need-array-copy-out-item-len Inv-loop μ-loop
-array-copy-out-item-len c = search needs
-
-item-len-requires : tie.Need-item-len-requires Inv-loop μ-loop
-item-len-requires c κs = search needs
-
-add-sum : tie.Need-add-sum Inv-loop μ-loop
-add-sum c = omega arith
-
-add-i : tie.Need-add-i Inv-loop μ-loop
-add-i c = omega arith
-
-loop-less : tie.Need-loop-less Inv-loop μ-loop
-loop-less c = omega arith
-
 loop-again : tie.Need-loop-again Inv-loop μ-loop
 loop-again c =
     let l = c .before .before .before .loop in
@@ -53,15 +35,5 @@ returns c =
 pub items-len-spec : {M : Type 1} → statement M
 items-len-spec =
     tie.close
-    (tie.spec
-    Inv-loop
-    μ-loop
-    loop-holds
-    mul-item-len
-    array-copy-out-item-len
-    item-len-requires
-    add-sum
-    add-i
-    loop-less
-    loop-again
-    returns)
+    (tie.spec Inv-loop μ-loop loop-holds (λ c. search needs) (λ c. search needs) (λ c κs. search needs) (λ c. omega arith)
+    (λ c. omega arith) (λ c. omega arith) loop-again returns)

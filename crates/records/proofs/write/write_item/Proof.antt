@@ -6,14 +6,8 @@ use borrow.Author.Needs.{needs}
 use Rattle.records.proofs.write.write_item.Statement.{statement}
 use Rattle.records.proofs.write.write_item.Tie as tie
 
-size-flags-of-requires : tie.Need-size-flags-of-requires
-size-flags-of-requires c κs = search needs
-
 slice-write-out : tie.Need-slice-write-out
 slice-write-out c = omega (arith, item-length (c .before .before .before .args .item))
-
-add-write-size : tie.Need-add-write-size
-add-write-size c = search needs
 
 write-size-requires : tie.Need-write-size-requires
 write-size-requires c κs = let h = item-length (c .before .before .before .before .args .item) in simp length-set (omega arith)
@@ -30,10 +24,4 @@ returns c = let a = c .before .before .before .before .before .before .before .a
 pub write-item-spec : {M : Type 1} → statement M
 write-item-spec =
     tie.close
-    (tie.spec
-    size-flags-of-requires
-    slice-write-out
-    add-write-size
-    write-size-requires
-    same-length
-    returns)
+    (tie.spec (λ c κs. search needs) slice-write-out (λ c. search needs) write-size-requires same-length returns)

@@ -25,24 +25,12 @@ abbrev μ-loop : tie.MeasureT-loop
 loop-holds : tie.Need-loop-holds Inv-loop μ-loop
 loop-holds c = (omega arith, rw (row-none item-bytes) (sym (add-zero _)), rw (row-none item-bytes) refl, refl)
 
-mul-write-item : tie.Need-mul-write-item Inv-loop μ-loop
-mul-write-item c = search needs
-
-array-copy-out-write-item : tie.Need-array-copy-out-write-item Inv-loop μ-loop
-array-copy-out-write-item c = search needs
-
 write-item-requires : tie.Need-write-item-requires Inv-loop μ-loop
 write-item-requires c κs =
     let l = c .before .before .before .loop in
     let a = c .before .before .before .before .before .args in
     let h : length (a .t3) ≡ 10 = search needs in
     omega (arith, row-room item-bytes (a .t3) (l .i) (a .n) no-item (omega arith) (omega arith))
-
-add-i : tie.Need-add-i Inv-loop μ-loop
-add-i c = search needs
-
-loop-less : tie.Need-loop-less Inv-loop μ-loop
-loop-less c = search needs
 
 loop-again : tie.Need-loop-again Inv-loop μ-loop
 loop-again c =
@@ -69,15 +57,5 @@ returns c =
 pub write-items-spec : {M : Type 1} → statement M
 write-items-spec =
     tie.close
-    (tie.spec
-    Inv-loop
-    μ-loop
-    loop-holds
-    mul-write-item
-    array-copy-out-write-item
-    write-item-requires
-    add-i
-    loop-less
-    loop-again
-    same-length
-    returns)
+    (tie.spec Inv-loop μ-loop loop-holds (λ c. search needs) (λ c. search needs) write-item-requires (λ c. search needs)
+    (λ c. search needs) loop-again same-length returns)

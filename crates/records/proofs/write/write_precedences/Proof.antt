@@ -24,21 +24,6 @@ abbrev μ-loop : tie.MeasureT-loop
 loop-holds : tie.Need-loop-holds Inv-loop μ-loop
 loop-holds c = (omega arith, omega arith, rw (row-none precedence-bytes) refl, refl)
 
-mul-write-precedence : tie.Need-mul-write-precedence Inv-loop μ-loop
-mul-write-precedence c = search needs
-
-array-copy-out-write-precedence : tie.Need-array-copy-out-write-precedence Inv-loop μ-loop
-array-copy-out-write-precedence c = search needs
-
-write-precedence-requires : tie.Need-write-precedence-requires Inv-loop μ-loop
-write-precedence-requires c κs = omega arith
-
-add-i : tie.Need-add-i Inv-loop μ-loop
-add-i c = search needs
-
-loop-less : tie.Need-loop-less Inv-loop μ-loop
-loop-less c = search needs
-
 loop-again : tie.Need-loop-again Inv-loop μ-loop
 loop-again c =
     let l = c .before .before .before .before .before .before .loop in
@@ -67,15 +52,5 @@ returns c =
 pub write-precedences-spec : {M : Type 1} → statement M
 write-precedences-spec =
     tie.close
-    (tie.spec
-    Inv-loop
-    μ-loop
-    loop-holds
-    mul-write-precedence
-    array-copy-out-write-precedence
-    write-precedence-requires
-    add-i
-    loop-less
-    loop-again
-    same-length
-    returns)
+    (tie.spec Inv-loop μ-loop loop-holds (λ c. search needs) (λ c. search needs) (λ c κs. omega arith) (λ c. search needs)
+    (λ c. search needs) loop-again same-length returns)

@@ -14,9 +14,6 @@ write-field-requires-2 c κs = omega (arith, size-length (c .before .before .bef
 write-field-requires-3 : tie.Need-write-field-requires-3
 write-field-requires-3 c κs = omega (arith, size-length (c .before .before .before .before .before .before .before .before .before .before .args .size), c .before .before .before .before .before .before .before .write-field .kept .0, c .before .before .before .write-field2 .kept .0)
 
-same-length : tie.Need-same-length
-same-length c = search needs
-
 returns : tie.Need-returns
 returns c = let a = c .before .before .before .before .before .before .before .before .before .before .before .before .before .args in (
   omega (arith, size-length (a .size)),
@@ -35,9 +32,4 @@ returns c = let a = c .before .before .before .before .before .before .before .b
 pub write-size-spec : {M : Type 1} → statement M
 write-size-spec =
     tie.close
-    (tie.spec
-    write-field-requires
-    write-field-requires-2
-    write-field-requires-3
-    same-length
-    returns)
+    (tie.spec write-field-requires write-field-requires-2 write-field-requires-3 (λ c. search needs) returns)

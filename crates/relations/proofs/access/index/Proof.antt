@@ -8,9 +8,6 @@ use borrow.Author.Needs.{needs}
 use Rattle.relations.proofs.access.index.Statement.{statement}
 use Rattle.relations.proofs.access.index.Tie as tie
 
-sub-result : tie.Need-sub-result
-sub-result c = search needs
-
 mul-result : tie.Need-mul-result
 mul-result c = omega (arith, square-small (c .args .v) (c .pre .item))
 
@@ -29,4 +26,4 @@ returns c = (refl, index-small (c .pre))
 
 pub index-spec : {M : Type 1} → statement M
 index-spec =
-    tie.close (tie.spec sub-result mul-result add-result mul-result-2 add-result-2 returns)
+    tie.close (tie.spec (λ c. search needs) mul-result add-result mul-result-2 add-result-2 returns)

@@ -7,32 +7,8 @@ use borrow.Author.Needs.{needs}
 use Rattle.relations.proofs.access.remove_overlap.Statement.{statement}
 use Rattle.relations.proofs.access.remove_overlap.Tie as tie
 
-index-requires : tie.Need-index-requires
-index-requires c κs = search needs
-
-element-copy-out-without-overlap : tie.Need-element-copy-out-without-overlap
-element-copy-out-without-overlap c = search needs
-
-without-overlap-requires : tie.Need-without-overlap-requires
-without-overlap-requires c κs = search needs
-
-element-write-k : tie.Need-element-write-k
-element-write-k c = search needs
-
 returns : tie.Need-returns
 returns c = rw (c .without-overlap .ensures, c .before .before .index .ensures .0) (sym (remove-overlap-up (c .before .before .before .before .args .k .now) (c .before .before .before .before .args .a) (c .before .before .before .if1 .taken)))
-
-index-requires-2 : tie.Need-index-requires-2
-index-requires-2 c κs = search needs
-
-element-copy-out-without-overlap-2 : tie.Need-element-copy-out-without-overlap-2
-element-copy-out-without-overlap-2 c = search needs
-
-without-overlap-requires-2 : tie.Need-without-overlap-requires-2
-without-overlap-requires-2 c κs = search needs
-
-element-write-k-2 : tie.Need-element-write-k-2
-element-write-k-2 c = search needs
 
 returns-2 : tie.Need-returns-2
 returns-2 c =
@@ -43,14 +19,5 @@ returns-2 c =
 pub remove-overlap-spec : {M : Type 1} → statement M
 remove-overlap-spec =
     tie.close
-    (tie.spec
-    index-requires
-    element-copy-out-without-overlap
-    without-overlap-requires
-    element-write-k
-    returns
-    index-requires-2
-    element-copy-out-without-overlap-2
-    without-overlap-requires-2
-    element-write-k-2
-    returns-2)
+    (tie.spec (λ c κs. search needs) (λ c. search needs) (λ c κs. search needs) (λ c. search needs) returns
+    (λ c κs. search needs) (λ c. search needs) (λ c κs. search needs) (λ c. search needs) returns-2)

@@ -7,18 +7,9 @@ use borrow.Author.Needs.{needs}
 use Rattle.relations.proofs.access.without_overlap.Statement.{statement}
 use Rattle.relations.proofs.access.without_overlap.Tie as tie
 
-mul-result : tie.Need-mul-result
-mul-result c = search needs
-
-mul-result-2 : tie.Need-mul-result-2
-mul-result-2 c = search needs
-
-add-result : tie.Need-add-result
-add-result c = search needs
-
 returns : tie.Need-returns
 unfolding domain overlap-bit before-bit after-bit
 returns c = omega (arith, weigh (c .args .m) 1, weigh (c .args .m / 2) 2, weigh (c .args .m / 4) 4)
 
 pub without-overlap-spec : {M : Type 1} → statement M
-without-overlap-spec = tie.close (tie.spec mul-result mul-result-2 add-result returns)
+without-overlap-spec = tie.close (tie.spec (λ c. search needs) (λ c. search needs) (λ c. search needs) returns)

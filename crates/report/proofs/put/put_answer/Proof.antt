@@ -6,9 +6,6 @@ use Rattle.report.proofs.Puts.{answer-length, answer-run}
 use Rattle.report.proofs.put.put_answer.Statement.{statement}
 use Rattle.report.proofs.put.put_answer.Tie as tie
 
-put-bytes-requires : tie.Need-put-bytes-requires
-put-bytes-requires c κs = omega arith
-
 put-field-requires : tie.Need-put-field-requires
 put-field-requires c κs = omega (arith, decimal-short 9 (c .before .before .before .before .before .before .before .args .steps) (omega arith), c .before .before .before .put-bytes .kept .0)
 
@@ -32,4 +29,4 @@ returns c =
 pub put-answer-spec : {M : Type 1} → statement M
 put-answer-spec =
     tie.close
-    (tie.spec put-bytes-requires put-field-requires slice-write-out add-result same-length returns)
+    (tie.spec (λ c κs. omega arith) put-field-requires slice-write-out add-result same-length returns)

@@ -5,12 +5,6 @@ use lib.ListN.{length-set}
 use Rattle.report.proofs.put.put_field.Statement.{statement}
 use Rattle.report.proofs.put.put_field.Tie as tie
 
-slice-write-out : tie.Need-slice-write-out
-slice-write-out c = omega arith
-
-add-put-decimal : tie.Need-add-put-decimal
-add-put-decimal c = omega arith
-
 put-decimal-requires : tie.Need-put-decimal-requires
 put-decimal-requires c κs = simp length-set (omega arith)
 
@@ -22,4 +16,4 @@ returns c = (omega arith, rw (c .before .before .put-decimal .ensures .1, add-on
 
 pub put-field-spec : {M : Type 1} → statement M
 put-field-spec =
-    tie.close (tie.spec slice-write-out add-put-decimal put-decimal-requires same-length returns)
+    tie.close (tie.spec (λ c. omega arith) (λ c. omega arith) put-decimal-requires same-length returns)

@@ -9,20 +9,11 @@ use Rattle.report.proofs.put.put_item.Tie as tie
 put-decimal-requires : tie.Need-put-decimal-requires
 put-decimal-requires c κs = omega (arith, decimal-short 0 (c .before .before .args .u) (omega arith))
 
-cast-put-field : tie.Need-cast-put-field
-cast-put-field c = omega arith
-
 put-field-requires : tie.Need-put-field-requires
 put-field-requires c κs = omega (arith, decimal-short 0 (c .before .before .before .before .before .before .before .args .u) (omega arith), decimal-short 4 (c .before .before .before .before .before .before .before .args .p .x) (omega arith), c .before .before .before .before .put-decimal .kept .0)
 
-cast-put-field-2 : tie.Need-cast-put-field-2
-cast-put-field-2 c = omega arith
-
 put-field-requires-2 : tie.Need-put-field-requires-2
 put-field-requires-2 c κs = omega (arith, decimal-short 0 (c .before .before .before .before .before .before .before .before .before .before .before .before .args .u) (omega (arith, c .before .before .before .before .before .before .before .before .before .before .before .before .pre)), decimal-short 4 (c .before .before .before .before .before .before .before .before .before .before .before .before .args .p .x) (omega (arith, c .before .before .before .before .before)), decimal-short 4 (c .before .before .before .before .before .before .before .before .before .before .before .before .args .p .y) (omega arith), c .before .before .before .before .before .before .before .before .before .put-decimal .kept .0, c .before .before .before .before .put-field .kept .0)
-
-cast-put-field-3 : tie.Need-cast-put-field-3
-cast-put-field-3 c = omega arith
 
 put-field-requires-3 : tie.Need-put-field-requires-3
 put-field-requires-3 c κs = omega (arith, decimal-short 0 (c .before .before .before .before .before .before .before .before .before .before .before .before .before .before .before .before .before .args .u) (omega (arith, c .before .before .before .before .before .before .before .before .before .before .before .before .before .before .before .before .before .pre)), decimal-short 4 (c .before .before .before .before .before .before .before .before .before .before .before .before .before .before .before .before .before .args .p .x) (omega (arith, c .before .before .before .before .before .before .before .before .before .before)), decimal-short 4 (c .before .before .before .before .before .before .before .before .before .before .before .before .before .before .before .before .before .args .p .y) (omega (arith, c .before .before .before .before .before)), decimal-short 4 (c .before .before .before .before .before .before .before .before .before .before .before .before .before .before .before .before .before .args .p .t) (omega arith), c .before .before .before .before .before .before .before .before .before .before .before .before .before .before .put-decimal .kept .0, c .before .before .before .before .before .before .before .before .before .put-field .kept .0, c .before .before .before .before .put-field2 .kept .0, c .before .before .before .before .before .before .before .before .before .before .before .before .before .before .put-decimal .ensures .0, c .before .before .before .before .before .before .before .before .before .put-field .ensures .0, c .before .before .before .before .before .before .before .before .before .before .before .before .before .before .before .before .before .pre)
@@ -52,15 +43,5 @@ returns c =
 pub put-item-spec : {M : Type 1} → statement M
 put-item-spec =
     tie.close
-    (tie.spec
-    put-decimal-requires
-    cast-put-field
-    put-field-requires
-    cast-put-field-2
-    put-field-requires-2
-    cast-put-field-3
-    put-field-requires-3
-    slice-write-out
-    add-result
-    same-length
-    returns)
+    (tie.spec put-decimal-requires (λ c. omega arith) put-field-requires (λ c. omega arith) put-field-requires-2
+    (λ c. omega arith) put-field-requires-3 slice-write-out add-result same-length returns)

@@ -5,14 +5,8 @@ use borrow.Author.Needs.{needs}
 use Rattle.rows.proofs.bits.bit.Statement.{statement}
 use Rattle.rows.proofs.bits.bit.Tie as tie
 
-cast-result : tie.Need-cast-result
-cast-result c = search needs
-
-shl-result : tie.Need-shl-result
-shl-result c = search needs
-
 returns : tie.Need-returns
 returns c = let h = power-small (c .args .v) (c .pre) in (omega (arith, h), omega (arith, h))
 
 pub bit-spec : {M : Type 1} → statement M
-bit-spec = tie.close (tie.spec cast-result shl-result returns)
+bit-spec = tie.close (tie.spec (λ c. search needs) (λ c. search needs) returns)

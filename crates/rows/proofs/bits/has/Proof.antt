@@ -4,15 +4,9 @@ use borrow.Author.Needs.{needs}
 use Rattle.rows.proofs.bits.has.Statement.{statement}
 use Rattle.rows.proofs.bits.has.Tie as tie
 
-cast-result : tie.Need-cast-result
-cast-result c = search needs
-
-shr-result : tie.Need-shr-result
-shr-result c = search needs
-
 returns : tie.Need-returns
 unfolding bit-at
 returns c = search needs
 
 pub has-spec : {M : Type 1} → statement M
-has-spec = tie.close (tie.spec cast-result shr-result returns)
+has-spec = tie.close (tie.spec (λ c. search needs) (λ c. search needs) returns)

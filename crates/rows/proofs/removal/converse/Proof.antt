@@ -4,14 +4,8 @@ use borrow.Author.Needs.{needs}
 use Rattle.rows.proofs.removal.converse.Statement.{statement}
 use Rattle.rows.proofs.removal.converse.Tie as tie
 
-returns : tie.Need-returns
-returns c = search needs
-
-sub-result : tie.Need-sub-result
-sub-result c = search needs
-
 returns-2 : tie.Need-returns-2
 returns-2 c = converse-is (c .before .args .kind) (c .before .pre) (c .if1 .left)
 
 pub converse-spec : {M : Type 1} → statement M
-converse-spec = tie.close (tie.spec returns sub-result returns-2)
+converse-spec = tie.close (tie.spec (λ c. search needs) (λ c. search needs) returns-2)

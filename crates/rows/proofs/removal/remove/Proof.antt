@@ -4,24 +4,6 @@ use borrow.Author.Needs.{needs}
 use Rattle.rows.proofs.removal.remove.Statement.{statement}
 use Rattle.rows.proofs.removal.remove.Tie as tie
 
-mul-left : tie.Need-mul-left
-mul-left c = search needs
-
-mul-left-2 : tie.Need-mul-left-2
-mul-left-2 c = search needs
-
-add-left : tie.Need-add-left
-add-left c = search needs
-
-add-left-2 : tie.Need-add-left-2
-add-left-2 c = search needs
-
-mul-left-3 : tie.Need-mul-left-3
-mul-left-3 c = search needs
-
-element-copy-out-left : tie.Need-element-copy-out-left
-element-copy-out-left c = search needs
-
 returns : tie.Need-returns
 returns c = let p = c .before .before .pre in rest-none (p .0) (p .1) (p .2) (p .3) (p .4) (c .if1 .taken)
 
@@ -36,13 +18,5 @@ returns-2 c = let p = c .before .before .before .before .before .before .pre in 
 pub remove-spec : {M : Type 1} → statement M
 remove-spec =
     tie.close
-    (tie.spec
-    mul-left
-    mul-left-2
-    add-left
-    add-left-2
-    mul-left-3
-    element-copy-out-left
-    returns
-    remove-each-requires
-    returns-2)
+    (tie.spec (λ c. search needs) (λ c. search needs) (λ c. search needs) (λ c. search needs) (λ c. search needs)
+    (λ c. search needs) returns remove-each-requires returns-2)

@@ -6,22 +6,13 @@ use borrow.Author.Needs.{needs}
 use Rattle.rows.proofs.removal.remove_from.Statement.{statement}
 use Rattle.rows.proofs.removal.remove_from.Tie as tie
 
-remove-overlap-requires : tie.Need-remove-overlap-requires
-remove-overlap-requires c κs = search needs
-
 returns : tie.Need-returns
 unfolding without
 returns c = rw (c .before .before .if1 .taken) (c .remove-overlap .ensures)
 
-remove-before-requires : tie.Need-remove-before-requires
-remove-before-requires c κs = search needs
-
 returns-2 : tie.Need-returns-2
 unfolding without
 returns-2 c = rw (c .before .before .if2 .taken) (c .remove-before .ensures)
-
-remove-before-requires-2 : tie.Need-remove-before-requires-2
-remove-before-requires-2 c κs = search needs
 
 returns-3 : tie.Need-returns-3
 unfolding without
@@ -32,10 +23,4 @@ returns-3 c =
 pub remove-from-spec : {M : Type 1} → statement M
 remove-from-spec =
     tie.close
-    (tie.spec
-    remove-overlap-requires
-    returns
-    remove-before-requires
-    returns-2
-    remove-before-requires-2
-    returns-3)
+    (tie.spec (λ c κs. search needs) returns (λ c κs. search needs) returns-2 (λ c κs. search needs) returns-3)

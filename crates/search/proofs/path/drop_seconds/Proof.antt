@@ -24,30 +24,12 @@ abbrev μ-loop : tie.MeasureT-loop
 loop-holds : tie.Need-loop-holds Inv-loop μ-loop
 loop-holds c = (omega arith, c .pre .0, (λ start h. (start, h, refl)))
 
-sub-if1 : tie.Need-sub-if1 Inv-loop μ-loop
-sub-if1 c = omega arith
-
-element-copy-out-if1 : tie.Need-element-copy-out-if1 Inv-loop μ-loop
-element-copy-out-if1 c = omega arith
-
 returns : tie.Need-returns Inv-loop μ-loop
 returns c = λ start h.
     let l = c .before .before .before .loop in
     let (path, g, e) = l .inv .2 start h in
     let s = first-stays path g (omega arith) (omega (arith, c .before .before .before .before .pre .1)) (c .if1 .taken) in
     rw (e, s) g
-
-sub-branches : tie.Need-sub-branches Inv-loop μ-loop
-sub-branches c = omega arith
-
-element-write-branches : tie.Need-element-write-branches Inv-loop μ-loop
-element-write-branches c = omega arith
-
-sub-left : tie.Need-sub-left Inv-loop μ-loop
-sub-left c = omega arith
-
-loop-less : tie.Need-loop-less Inv-loop μ-loop
-loop-less c = omega arith
 
 loop-again : tie.Need-loop-again Inv-loop μ-loop
 loop-again c = (
@@ -71,16 +53,5 @@ returns-2 c = λ start h.
 pub drop-seconds-spec : {M : Type 1} → statement M
 drop-seconds-spec =
     tie.close
-    (tie.spec
-    Inv-loop
-    μ-loop
-    loop-holds
-    sub-if1
-    element-copy-out-if1
-    returns
-    sub-branches
-    element-write-branches
-    sub-left
-    loop-less
-    loop-again
-    returns-2)
+    (tie.spec Inv-loop μ-loop loop-holds (λ c. omega arith) (λ c. omega arith) returns (λ c. omega arith) (λ c. omega arith)
+    (λ c. omega arith) (λ c. omega arith) loop-again returns-2)

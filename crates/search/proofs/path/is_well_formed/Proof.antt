@@ -9,15 +9,9 @@ returns : tie.Need-returns
 unfolding well-formed
 returns c = simp (lt-leb _ _ (c .if1 .taken))
 
-length-allowed-requires : tie.Need-length-allowed-requires
-length-allowed-requires c κs = search needs
-
 returns-2 : tie.Need-returns-2
 unfolding well-formed
 returns-2 c = simp (le-leb _ _ (c .before .before .if1 .left), ← (c .before .length-allowed .ensures), not-true (c .before .length-allowed .result) (c .if2 .taken))
-
-all-branches-requires : tie.Need-all-branches-requires
-all-branches-requires c κs = search needs
 
 returns-3 : tie.Need-returns-3
 unfolding well-formed
@@ -25,4 +19,4 @@ returns-3 c = simp (le-leb _ _ (c .before .before .before .before .if1 .left), �
 
 pub is-well-formed-spec : {M : Type 1} → statement M
 is-well-formed-spec =
-    tie.close (tie.spec returns length-allowed-requires returns-2 all-branches-requires returns-3)
+    tie.close (tie.spec returns (λ c κs. search needs) returns-2 (λ c κs. search needs) returns-3)

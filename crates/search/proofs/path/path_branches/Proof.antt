@@ -19,17 +19,8 @@ loop-holds : tie.Need-loop-holds Inv-loop μ-loop
 unfolding branches-of
 loop-holds c = (omega arith, holds-root)
 
-array-read-branches : tie.Need-array-read-branches Inv-loop μ-loop
-array-read-branches c = omega arith
-
 array-write-branches : tie.Need-array-write-branches Inv-loop μ-loop
 array-write-branches c = omega (arith, c .before .before .pre .within)
-
-add-i : tie.Need-add-i Inv-loop μ-loop
-add-i c = omega arith
-
-loop-less : tie.Need-loop-less Inv-loop μ-loop
-loop-less c = omega arith
 
 loop-again : tie.Need-loop-again Inv-loop μ-loop
 loop-again c =
@@ -44,13 +35,5 @@ returns c = let e : c .before .loop .i ≡ c .before .before .args .length = ome
 pub path-branches-spec : {M : Type 1} → statement M
 path-branches-spec =
     tie.close
-    (tie.spec
-    Inv-loop
-    μ-loop
-    loop-holds
-    array-read-branches
-    array-write-branches
-    add-i
-    loop-less
-    loop-again
-    returns)
+    (tie.spec Inv-loop μ-loop loop-holds (λ c. omega arith) array-write-branches (λ c. omega arith) (λ c. omega arith)
+    loop-again returns)

@@ -5,12 +5,9 @@ use Rattle.search.specs.Results.{infeasible-after}
 use Rattle.search.proofs.results.infeasible.Statement.{statement}
 use Rattle.search.proofs.results.infeasible.Tie as tie
 
-origin-requires : tie.Need-origin-requires
-origin-requires c κs = search needs
-
 returns : tie.Need-returns
 unfolding infeasible-after value-of branches-of
 returns c = rw (c .origin .ensures)
 
 pub infeasible-spec : {M : Type 1} → statement M
-infeasible-spec = tie.close (tie.spec origin-requires returns)
+infeasible-spec = tie.close (tie.spec (λ c κs. search needs) returns)

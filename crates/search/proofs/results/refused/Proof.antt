@@ -4,12 +4,9 @@ use Rattle.search.specs.Results.{refused}
 use Rattle.search.proofs.results.refused.Statement.{statement}
 use Rattle.search.proofs.results.refused.Tie as tie
 
-origin-requires : tie.Need-origin-requires
-origin-requires c κs = search needs
-
 returns : tie.Need-returns
 unfolding refused
 returns c = rw (c .origin .ensures)
 
 pub refused-spec : {M : Type 1} → statement M
-refused-spec = tie.close (tie.spec origin-requires returns)
+refused-spec = tie.close (tie.spec (λ c κs. search needs) returns)

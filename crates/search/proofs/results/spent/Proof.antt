@@ -4,12 +4,9 @@ use Rattle.search.specs.Results.{spent-after}
 use Rattle.search.proofs.results.spent.Statement.{statement}
 use Rattle.search.proofs.results.spent.Tie as tie
 
-origin-requires : tie.Need-origin-requires
-origin-requires c κs = search needs
-
 returns : tie.Need-returns
 unfolding spent-after
 returns c = rw (c .origin .ensures)
 
 pub spent-spec : {M : Type 1} → statement M
-spent-spec = tie.close (tie.spec origin-requires returns)
+spent-spec = tie.close (tie.spec (λ c κs. search needs) returns)

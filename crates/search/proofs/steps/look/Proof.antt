@@ -18,12 +18,6 @@ returns-2 c = let h = c .before .propagate .ensures in (h .0, λ os path ρ. loo
 branching-requires : tie.Need-branching-requires
 branching-requires c κs = let h = c .before .before .before .before .before .before .before .before .before .pre in (c .before .before .propagate .ensures .1 (h .precedences) (h .ready) .propagated .well-formed, h .arrays .limited)
 
-enum-told : tie.Need-enum-told
-enum-told c = search needs
-
-enum-known-place : tie.Need-enum-known-place
-enum-known-place c = search needs
-
 returns-3 : tie.Need-returns-3
 returns-3 c = let h = c .before .before .before .before .before .propagate .ensures in
     (h .0, λ os path ρ. looked-complete _ _ _ os path ρ (h .1 os (ρ .ready)) (c .before .before .before .before .if2 .left) (rw (c .enum-told .given .1) at (c .before .before .branching .ensures)))
@@ -35,12 +29,5 @@ returns-4 c = let h = c .before .before .before .before .before .before .propaga
 pub look-spec : {M : Type 1} → statement M
 look-spec =
     tie.close
-    (tie.spec
-    returns
-    propagate-requires
-    returns-2
-    branching-requires
-    enum-told
-    enum-known-place
-    returns-3
+    (tie.spec returns propagate-requires returns-2 branching-requires (λ c. search needs) (λ c. search needs) returns-3
     returns-4)

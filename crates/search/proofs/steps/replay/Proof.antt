@@ -67,12 +67,6 @@ seen : (c : tie.After-look Inv-loop μ-loop)
     → Looked (problem (c .before .before .before .before .before .before .before .before .before .before .before .before .before .before .before .before .before .before .before .before .before .before .before .before)) (path-of (c .before .before .before .before .before .before .before .before .before .loop .i) (c .before .before .before .before .before .before .before .before .before .before .before .before .before .before .before .before .before .before .before .before .before .before .before .before .before .args .t2)) (c .look .last .0) (c .look .last .1 .0) (c .look .last .1 .1 .0) (c .look .last .1 .1 .1 .0) (c .look .result)
 seen c = c .look .ensures .1 _ _ (here (c .before .before .before .before .before .before .before .before .before) .ready)
 
-shape-of-requires : tie.Need-shape-of-requires Inv-loop μ-loop
-shape-of-requires c κs = search needs
-
-no-levels-requires : tie.Need-no-levels-requires Inv-loop μ-loop
-no-levels-requires c κs = search needs
-
 fix-precedences-requires : tie.Need-fix-precedences-requires Inv-loop μ-loop
 fix-precedences-requires c κs =
     let v = valid-parts (c .before .before .before .before .before .before .before .before .args .instance) (c .before .before .before .before .before .before .before .before .pre .0) in
@@ -93,9 +87,6 @@ loop-holds c = (omega arith, λ os σ. σ)
 look-requires : tie.Need-look-requires Inv-loop μ-loop
 look-requires c κs = record { arrays = arrays (c .before .before .before .before .before .before .before .before .before .before .before .before .before .before .before .before .before .before .before .before .before .before .before); verdict = c .before .before .before .before .before .before .before .before .before .any-large .ensures; precedences = _; ready = here (c .before .before .before .before .before .before .before .before) .ready .ready }
 
-enum-known-place : tie.Need-enum-known-place Inv-loop μ-loop
-enum-known-place c = search needs
-
 mul-levels : tie.Need-mul-levels Inv-loop μ-loop
 mul-levels c = omega (arith, c .before .before .before .before .before .before .before .before .before .before .before .before .before .before .before .before .before .before .before .before .before .before .before .before .before .before .before .before .pre .1)
 
@@ -115,9 +106,6 @@ apply-branch-requires c κs =
 add-i : tie.Need-add-i Inv-loop μ-loop
 add-i c = omega (arith, c .before .before .before .before .before .before .before .before .before .before .before .before .before .before .before .loop-test .taken, c .before .before .before .before .before .before .before .before .before .before .before .before .before .before .before .before .before .before .before .before .before .before .before .before .before .before .before .before .before .before .before .before .pre .1)
 
-loop-less : tie.Need-loop-less Inv-loop μ-loop
-loop-less c = omega arith
-
 loop-again : tie.Need-loop-again Inv-loop μ-loop
 loop-again c = (
   omega (arith, c .before .before .before .before .before .before .before .before .before .before .before .before .before .before .before .loop-test .taken),
@@ -131,17 +119,11 @@ loop-again c = (
       (stand-next (shape-problem _ _ _ os) σ s (sym (path-length (l .i) bs)) (omega (arith, c .before .before .before .before .before .before .before .before .before .before .before .before .before .before .before .loop-test .taken, c .before .before .before .before .before .before .before .before .before .before .before .before .before .before .before .before .before .before .before .before .before .before .before .before .before .before .before .before .before .before .before .before .pre .1)) (β .0) (β .1)),
 )
 
-enum-told : tie.Need-enum-told Inv-loop μ-loop
-enum-told c = search needs
-
 returns : tie.Need-returns Inv-loop μ-loop
 returns c =
     let s = rw (c .enum-told .given .1) at (seen (c .before .before)) in
     replayed-of (c .before .before .before .before .before .before .before .before .before .before .before .before .before .before .before .before .before .before .before .before .before .before .before .before .before .before .shape-of .ensures .means)
     (replayed-not (problem (c .before .before .before .before .before .before .before .before .before .before .before .before .before .before .before .before .before .before .before .before .before .before .before .before .before .before)) _ (c .before .before .before .before .before .before .before .before .before .before .before .before .before .before .before .before .before .before .before .before .before .before .before .before .before .before .before .args .t2) (c .before .before .before .before .before .before .before .before .before .before .before .loop .i) (c .before .before .before .before .before .before .before .before .before .before .before .before .before .before .before .before .before .before .before .before .before .before .before .before .before .before .before .args .length) refl (omega arith) (rw s))
-
-enum-told-2 : tie.Need-enum-told-2 Inv-loop μ-loop
-enum-told-2 c = search needs
 
 returns-2 : tie.Need-returns-2 Inv-loop μ-loop
 returns-2 c =
@@ -157,27 +139,7 @@ returns-3 c =
 pub replay-spec : {M : Type 1} → statement M
 replay-spec =
     tie.close
-    (tie.spec
-    Inv-loop
-    μ-loop
-    shape-of-requires
-    no-levels-requires
-    fix-precedences-requires
-    alone-requires
-    all-items-requires
-    any-large-requires
-    loop-holds
-    look-requires
-    enum-known-place
-    mul-levels
-    array-set-from-levels
-    array-read-apply-branch
-    apply-branch-requires
-    add-i
-    loop-less
-    loop-again
-    enum-told
-    returns
-    enum-told-2
-    returns-2
-    returns-3)
+    (tie.spec Inv-loop μ-loop (λ c κs. search needs) (λ c κs. search needs) fix-precedences-requires alone-requires
+    all-items-requires any-large-requires loop-holds look-requires (λ c. search needs) mul-levels array-set-from-levels
+    array-read-apply-branch apply-branch-requires add-i (λ c. omega arith) loop-again (λ c. search needs) returns
+    (λ c. search needs) returns-2 returns-3)

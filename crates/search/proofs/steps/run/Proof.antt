@@ -94,31 +94,19 @@ blank = record { domains = []; rows = []; ends = []; starts = []; place = record
 fork-room : (c : tie.After-place Inv-loop μ-loop) → c .before .before .before .before .before .before .before .before .before .before .before .loop .depth < 270
 fork-room c = fork-depth (going (c .before .before .before .before .before .before .before .before .before .before .before)) (sound (c .before .before .before .before .before .before .before .before .before .before .before .before .before .before .before .before .before .before .before .before .before .before .before)) ((rw (c .place .given .1) at (seen (c .before .before))) .0)
 
-shape-of-requires : tie.Need-shape-of-requires Inv-loop μ-loop
-shape-of-requires c κs = search needs
-
 any-large-requires : tie.Need-any-large-requires Inv-loop μ-loop
 any-large-requires c κs = (arrays (c .before .before .before .before) .sizes-long, arrays (c .before .before .before .before) .capacity-long)
 
 loop-holds : tie.Need-loop-holds Inv-loop μ-loop
 loop-holds c = λ os σ s h. going-start s h
 
-add-taken : tie.Need-add-taken Inv-loop μ-loop
-add-taken c = search needs
-
 look-requires : tie.Need-look-requires Inv-loop μ-loop
 look-requires c κs = record { arrays = arrays (c .before .before .before .before .before .before .before .before .before .before .before .before .before .before .before .before .before .before .before .before); verdict = c .before .before .before .before .before .before .before .before .before .before .before .before .before .before .before .any-large .ensures; precedences = _; ready = going (c .before .before .before .before .before .before .before .before) .stands .ready .ready }
-
-enum-told : tie.Need-enum-told Inv-loop μ-loop
-enum-told c = search needs
 
 drop-seconds-requires : tie.Need-drop-seconds-requires Inv-loop μ-loop
 drop-seconds-requires c κs =
     let γ = going (c .before .before .before .before .before .before .before .before .before .before .before .before) in
     (ap L.length (γ .holds .values) ∙ branches-length (γ .path), going-depth γ (sound (c .before .before .before .before .before .before .before .before .before .before .before .before .before .before .before .before .before .before .before .before .before .before .before .before)))
-
-infeasible-requires : tie.Need-infeasible-requires Inv-loop μ-loop
-infeasible-requires c κs = search needs
 
 returns : tie.Need-returns Inv-loop μ-loop
 returns c =
@@ -164,14 +152,8 @@ loop-again c = λ os σ s h.
     let β = c .apply-branch .ensures in
     turn-goes γ δ (there γ δ (c .before .before .before .before .before .before .before .before .before .if1 .left)) blank (c .before .before .before .before .before .before .before .before .before .before .before .before .before .before .before .before .before .before .before .before .before .before .loop-test .taken) l (β .0) (β .1)
 
-enum-told-2 : tie.Need-enum-told-2 Inv-loop μ-loop
-enum-told-2 c = search needs
-
 starts-of-requires : tie.Need-starts-of-requires Inv-loop μ-loop
 starts-of-requires c κs = startable _ _ _ _ (going (c .before .before .before .before .before .before .before .before .before .before .before .before .before .before) .path) (arrays (c .before .before .before .before .before .before .before .before .before .before .before .before .before .before .before .before .before .before .before .before .before .before .before .before .before .before)) (rw (c .before .before .before .enum-told2 .given .1) at (seen (c .before .before .before .before .before)))
-
-packed-requires : tie.Need-packed-requires Inv-loop μ-loop
-packed-requires c κs = search needs
 
 returns-2 : tie.Need-returns-2 Inv-loop μ-loop
 returns-2 c =
@@ -182,9 +164,6 @@ returns-2 c =
     (c .packed .ensures
     ∙ comes-packed (problem (c .before .before .before .before .before .before .before .before .before .before .before .before .before .before .before .before .before .before .before .before .before .before .before .before .before .before .before .before)) (c .before .before .before .before .before .before .before .before .before .before .before .before .before .before .before .before .before .before .before .before .before .before .before .before .before .before .before .before .before .args .budget) (S.open-at (start (c .before .before .before .before .before .before .before .before .before .before .before .before .before .before .before .before .before .before .before .before .before .before .before .before .before .before .before .before .before))) (γ .holds)
     (started-plan _ _ _ _ (γ .path) (arrays (c .before .before .before .before .before .before .before .before .before .before .before .before .before .before .before .before .before .before .before .before .before .before .before .before .before .before .before .before)) l (c .before .starts-of .ensures) q) (complete-comes γ (c .before .before .before .before .before .before .before .before .before .before .before .before .before .before .before .loop-test .taken) (l .0)))
-
-enum-known-place : tie.Need-enum-known-place Inv-loop μ-loop
-enum-known-place c = search needs
 
 mul-levels : tie.Need-mul-levels Inv-loop μ-loop
 mul-levels c = omega (arith, fork-room (c .before))
@@ -215,9 +194,6 @@ loop-again-2 c = λ os σ s h.
     let β = c .apply-branch2 .ensures in
     fork-goes γ (fork-depth γ σ (l .0)) (c .before .before .before .before .before .before .before .before .before .before .before .before .before .before .before .loop-test .taken) l (β .0) (β .1)
 
-spent-requires : tie.Need-spent-requires Inv-loop μ-loop
-spent-requires c κs = search needs
-
 returns-3 : tie.Need-returns-3 Inv-loop μ-loop
 returns-3 c =
     let γ = going (c .before .before) in
@@ -228,37 +204,8 @@ returns-3 c =
 pub run-spec : {M : Type 1} → statement M
 run-spec =
     tie.close
-    (tie.spec
-    Inv-loop
-    μ-loop
-    shape-of-requires
-    any-large-requires
-    loop-holds
-    add-taken
-    look-requires
-    enum-told
-    drop-seconds-requires
-    infeasible-requires
-    returns
-    sub-branches
-    array-write-branches
-    sub-last
-    mul-last
-    array-copy-out-last
-    apply-branch-requires
-    loop-less
-    loop-again
-    enum-told-2
-    starts-of-requires
-    packed-requires
-    returns-2
-    enum-known-place
-    mul-levels
-    array-set-from-levels
-    array-write-branches-2
-    add-depth
-    apply-branch-requires-2
-    loop-less-2
-    loop-again-2
-    spent-requires
-    returns-3)
+    (tie.spec Inv-loop μ-loop (λ c κs. search needs) any-large-requires loop-holds (λ c. search needs) look-requires
+    (λ c. search needs) drop-seconds-requires (λ c κs. search needs) returns sub-branches array-write-branches sub-last
+    mul-last array-copy-out-last apply-branch-requires loop-less loop-again (λ c. search needs) starts-of-requires
+    (λ c κs. search needs) returns-2 (λ c. search needs) mul-levels array-set-from-levels array-write-branches-2 add-depth
+    apply-branch-requires-2 loop-less-2 loop-again-2 (λ c κs. search needs) returns-3)

@@ -13,47 +13,14 @@ Inv-loop near far n capacity a u own items₀ v₀ items v = (v ≤ n) × Tested
 abbrev μ-loop : tie.MeasureT-loop
 μ-loop near far n capacity a u own items₀ v₀ items v = n - v
 
-mul-own : tie.Need-mul-own Inv-loop μ-loop
-mul-own c = search needs
-
-add-own : tie.Need-add-own Inv-loop μ-loop
-add-own c = search needs
-
-mul-own-2 : tie.Need-mul-own-2 Inv-loop μ-loop
-mul-own-2 c = search needs
-
-element-copy-out-own : tie.Need-element-copy-out-own Inv-loop μ-loop
-element-copy-out-own c = search needs
-
 loop-holds : tie.Need-loop-holds Inv-loop μ-loop
 loop-holds c = (omega arith, tested-none)
-
-mul-above : tie.Need-mul-above Inv-loop μ-loop
-mul-above c = search needs
-
-add-above : tie.Need-add-above Inv-loop μ-loop
-add-above c = search needs
-
-mul-above-2 : tie.Need-mul-above-2 Inv-loop μ-loop
-mul-above-2 c = search needs
-
-element-copy-out-above : tie.Need-element-copy-out-above Inv-loop μ-loop
-element-copy-out-above c = search needs
 
 add-above-2 : tie.Need-add-above-2 Inv-loop μ-loop
 add-above-2 c =
     let p = c .before .before .before .before .pre in
     let a = c .before .before .before .before .args in
     omega (arith, p .0 .small (a .a * 10 + a .u), p .1 .small (a .a * 10 + c .before .before .loop .v))
-
-above-requires : tie.Need-above-requires Inv-loop μ-loop
-above-requires c κs = omega arith
-
-add-v : tie.Need-add-v Inv-loop μ-loop
-add-v c = omega arith
-
-loop-less : tie.Need-loop-less Inv-loop μ-loop
-loop-less c = omega arith
 
 loop-again : tie.Need-loop-again Inv-loop μ-loop
 loop-again c = (omega arith, tested-next (c .before .before .before .loop .inv .1) (c .above .ensures))
@@ -69,22 +36,6 @@ returns c =
 pub too-long-spec : {M : Type 1} → statement M
 too-long-spec =
     tie.close
-    (tie.spec
-    Inv-loop
-    μ-loop
-    mul-own
-    add-own
-    mul-own-2
-    element-copy-out-own
-    loop-holds
-    mul-above
-    add-above
-    mul-above-2
-    element-copy-out-above
-    add-above-2
-    above-requires
-    add-v
-    loop-less
-    loop-again
-    without-requires
-    returns)
+    (tie.spec Inv-loop μ-loop (λ c. search needs) (λ c. search needs) (λ c. search needs) (λ c. search needs) loop-holds
+    (λ c. search needs) (λ c. search needs) (λ c. search needs) (λ c. search needs) add-above-2 (λ c κs. omega arith)
+    (λ c. omega arith) (λ c. omega arith) loop-again without-requires returns)

@@ -8,32 +8,11 @@ use borrow.Author.Needs.{needs}
 use Rattle.tables.proofs.marks.mark_pair.Statement.{statement}
 use Rattle.tables.proofs.marks.mark_pair.Tie as tie
 
-mul-has : tie.Need-mul-has
-mul-has c = search needs
-
-add-has : tie.Need-add-has
-add-has c = search needs
-
-mul-has-2 : tie.Need-mul-has-2
-mul-has-2 c = search needs
-
-element-copy-out-has : tie.Need-element-copy-out-has
-element-copy-out-has c = search needs
-
-has-requires : tie.Need-has-requires
-has-requires c κs = search needs
-
 returns : tie.Need-returns
 returns c =
     let a = c .before .before .before .args in
     let e = sym (c .before .has .ensures) ∙ not-true (c .before .has .result) (c .if1 .taken) in
     pair-none (c .before .before .before .pre .1) (rw (← first-row (a .rows .now) (a .code / 256) (a .code / 16 % 16)) e)
-
-mark-requires : tie.Need-mark-requires
-mark-requires c κs = search needs
-
-mark-requires-2 : tie.Need-mark-requires-2
-mark-requires-2 c κs = search needs
 
 returns-2 : tie.Need-returns-2
 returns-2 c =
@@ -43,13 +22,5 @@ returns-2 c =
 pub mark-pair-spec : {M : Type 1} → statement M
 mark-pair-spec =
     tie.close
-    (tie.spec
-    mul-has
-    add-has
-    mul-has-2
-    element-copy-out-has
-    has-requires
-    returns
-    mark-requires
-    mark-requires-2
-    returns-2)
+    (tie.spec (λ c. search needs) (λ c. search needs) (λ c. search needs) (λ c. search needs) (λ c κs. search needs) returns
+    (λ c κs. search needs) (λ c κs. search needs) returns-2)

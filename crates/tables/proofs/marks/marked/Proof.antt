@@ -18,23 +18,11 @@ abbrev μ-loop : tie.MeasureT-loop
 loop-holds : tie.Need-loop-holds Inv-loop μ-loop
 loop-holds c = let a = c .args in (omega arith, inl refl, marked-none (a .rows .now) (a .queue .now) (a .from))
 
-mul-mark-pair : tie.Need-mul-mark-pair Inv-loop μ-loop
-mul-mark-pair c = search needs
-
-element-copy-out-mark-pair : tie.Need-element-copy-out-mark-pair Inv-loop μ-loop
-element-copy-out-mark-pair c = search needs
-
 mark-pair-requires : tie.Need-mark-pair-requires Inv-loop μ-loop
 mark-pair-requires c κs =
     let p = c .before .before .before .before .pre in
     let l = c .before .before .before .loop in
     (p .rows-long, l .inv .2 .sets, p .coded (l .i) (l .inv .0) (c .before .before .loop-test .taken))
-
-add-i : tie.Need-add-i Inv-loop μ-loop
-add-i c = omega arith
-
-loop-less : tie.Need-loop-less Inv-loop μ-loop
-loop-less c = omega arith
 
 loop-again : tie.Need-loop-again Inv-loop μ-loop
 loop-again c =
@@ -47,14 +35,5 @@ returns c = let l = c .before .loop .inv in marked-end (l .1) (c .loop-test .lef
 pub marked-spec : {M : Type 1} → statement M
 marked-spec =
     tie.close
-    (tie.spec
-    Inv-loop
-    μ-loop
-    loop-holds
-    mul-mark-pair
-    element-copy-out-mark-pair
-    mark-pair-requires
-    add-i
-    loop-less
-    loop-again
-    returns)
+    (tie.spec Inv-loop μ-loop loop-holds (λ c. search needs) (λ c. search needs) mark-pair-requires (λ c. omega arith)
+    (λ c. omega arith) loop-again returns)

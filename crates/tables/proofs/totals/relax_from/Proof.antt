@@ -10,36 +10,6 @@ Inv-loop rows t₀ sizes n x a v left₀ grown₀ t left grown = Partway n rows 
 abbrev μ-loop : tie.MeasureT-loop
 μ-loop rows t₀ sizes n x a v left₀ grown₀ t left grown = left
 
-mul-left : tie.Need-mul-left Inv-loop μ-loop
-mul-left c = search needs
-
-add-left : tie.Need-add-left Inv-loop μ-loop
-add-left c = search needs
-
-mul-left-2 : tie.Need-mul-left-2 Inv-loop μ-loop
-mul-left-2 c = search needs
-
-element-copy-out-left : tie.Need-element-copy-out-left Inv-loop μ-loop
-element-copy-out-left c = search needs
-
-mul-left-3 : tie.Need-mul-left-3 Inv-loop μ-loop
-mul-left-3 c = search needs
-
-mul-left-4 : tie.Need-mul-left-4 Inv-loop μ-loop
-mul-left-4 c = search needs
-
-add-left-2 : tie.Need-add-left-2 Inv-loop μ-loop
-add-left-2 c = search needs
-
-add-left-3 : tie.Need-add-left-3 Inv-loop μ-loop
-add-left-3 c = search needs
-
-mul-left-5 : tie.Need-mul-left-5 Inv-loop μ-loop
-mul-left-5 c = search needs
-
-element-copy-out-left-2 : tie.Need-element-copy-out-left-2 Inv-loop μ-loop
-element-copy-out-left-2 c = search needs
-
 loop-holds : tie.Need-loop-holds Inv-loop μ-loop
 loop-holds c = let p = c .before .before .pre in partway-start (c .before .before .args .x) (p .0) (p .1) (p .2)
 
@@ -75,23 +45,6 @@ returns c =
 pub relax-from-spec : {M : Type 1} → statement M
 relax-from-spec =
     tie.close
-    (tie.spec
-    Inv-loop
-    μ-loop
-    mul-left
-    add-left
-    mul-left-2
-    element-copy-out-left
-    mul-left-3
-    mul-left-4
-    add-left-2
-    add-left-3
-    mul-left-5
-    element-copy-out-left-2
-    loop-holds
-    lowest-requires
-    without-requires
-    relax-one-requires
-    loop-less
-    loop-again
-    returns)
+    (tie.spec Inv-loop μ-loop (λ c. search needs) (λ c. search needs) (λ c. search needs) (λ c. search needs)
+    (λ c. search needs) (λ c. search needs) (λ c. search needs) (λ c. search needs) (λ c. search needs) (λ c. search needs)
+    loop-holds lowest-requires without-requires relax-one-requires loop-less loop-again returns)

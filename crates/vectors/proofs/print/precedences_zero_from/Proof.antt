@@ -10,45 +10,8 @@ Inv-loop m precedences i₀ i = Unit {0}
 abbrev μ-loop : tie.MeasureT-loop
 μ-loop m precedences i₀ i = 90 - i
 
-loop-holds : tie.Need-loop-holds Inv-loop μ-loop
-loop-holds c = search needs
-
-mul-precedence : tie.Need-mul-precedence Inv-loop μ-loop
-mul-precedence c = search needs
-
-array-copy-out-precedence : tie.Need-array-copy-out-precedence Inv-loop μ-loop
-array-copy-out-precedence c = search needs
-
-returns : tie.Need-returns Inv-loop μ-loop
-returns c = search needs
-
-returns-2 : tie.Need-returns-2 Inv-loop μ-loop
-returns-2 c = search needs
-
-add-i : tie.Need-add-i Inv-loop μ-loop
-add-i c = search needs
-
-loop-less : tie.Need-loop-less Inv-loop μ-loop
-loop-less c = search needs
-
-loop-again : tie.Need-loop-again Inv-loop μ-loop
-loop-again c = search needs
-
-returns-3 : tie.Need-returns-3 Inv-loop μ-loop
-returns-3 c = search needs
-
 pub precedences-zero-from-spec : {M : Type 1} → statement M
 precedences-zero-from-spec =
     tie.close
-    (tie.spec
-    Inv-loop
-    μ-loop
-    loop-holds
-    mul-precedence
-    array-copy-out-precedence
-    returns
-    returns-2
-    add-i
-    loop-less
-    loop-again
-    returns-3)
+    (tie.spec Inv-loop μ-loop (λ c. search needs) (λ c. search needs) (λ c. search needs) (λ c. search needs)
+    (λ c. search needs) (λ c. search needs) (λ c. search needs) (λ c. search needs) (λ c. search needs))
