@@ -17,7 +17,7 @@ A case is an op byte, the payload's length in 2 bytes, and the payload; numbers 
     6 rewrite     a sheet, read and then written               rewritten LENGTH HEX or refused ..
     7 valid       instance                                     valid, not valid
 
-An instance is 252 bytes: container (6), item count (2), ten items (6 each), precedence count (2), ninety
+An instance is 264 bytes: container (6), item count (8), ten items (6 each), precedence count (8), ninety
 precedences (2 each), yard number (2). Positions are ten times x, y, t, 2 bytes each.
 A write gets a room of that many bytes, all of them fill; its HEX is the room and the 4 fill bytes after it.
 """
@@ -73,14 +73,14 @@ def little(number, size):
 
 
 def instance_bytes(value):
-    out = b"".join(little(m, 2) for m in value["container"]) + little(value["item_count"], 2)
+    out = b"".join(little(m, 2) for m in value["container"]) + little(value["item_count"], 8)
     for item in value["items"]:
         out += b"".join(little(m, 2) for m in item)
-    out += little(value["precedence_count"], 2)
+    out += little(value["precedence_count"], 8)
     for u, v in value["precedences"]:
         out += bytes([u, v])
     out += little(value["yard_number"], 2)
-    assert len(out) == 252
+    assert len(out) == 264
     return out
 
 
@@ -463,6 +463,14 @@ def refused_values():
     values.append(instance([1, 1, 1], [], [(0, 0)]))
     values.append(changed(FULL, "item_count", None, 9))
     values.append(changed(FULL, "item_count", None, 0))
+    # counts whose low bytes alone are a count that stands
+    for count in (2 ** 16 - 1, 2 ** 16, 2 ** 32, 2 ** 63, 2 ** 64 - 1):
+        values.append(changed(FULL, "item_count", None, count))
+        values.append(changed(instance([2, 3, 4]), "item_count", None, count))
+        values.append(changed(FULL, "precedence_count", None, count))
+    for part in (2 ** 16, 2 ** 32, 2 ** 63):
+        values.append(changed(FULL, "item_count", None, part + 10))
+        values.append(changed(FULL, "precedence_count", None, part + 90))
     return values
 
 

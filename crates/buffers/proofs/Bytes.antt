@@ -8,8 +8,8 @@ use native.Mathlib.Nat.{add-zero}
 use native.Mathlib.Numerals.{add-one}
 use lib.ListN.{length, getD, take, drop, set, replicate, length-set, drop-of-length-le, List·getD-eq-default}
 use lib.Seq.{sets, ext-getD, length-take-le, take-suc, getD-set-same, getD-set-other, getD-append-add, getD-take}
-use Rattle.records.specs.Bytes.{row-bytes}
-use Rattle.records.proofs.Writers.{sets-front, sets-append, row-next}
+use Rattle.formats.specs.Formats.{row-bytes}
+use Rattle.formats.proofs.Stores.{sets-front, sets-append, row-next}
 use Rattle.instance.specs.declared.Packing.{Packing}
 use Rattle.instance.specs.declared.Position.{Position}
 use Rattle.instance.specs.Values.{origin}

@@ -10,8 +10,8 @@ use lib.Dec.{ltb, eqb}
 use lib.ListN.{length, getD, take, drop, set, length-drop, drop-of-length-le}
 use lib.Seq.{sets, drop-cons, drop-append-add, getD-drop, take-all}
 use Rattle.model.proofs.Below.{and-both}
-use Rattle.records.specs.Bounds.{Bytes}
-use Rattle.records.proofs.Writers.{sets-append}
+use Rattle.formats.specs.Reading.{Bytes}
+use Rattle.formats.proofs.Stores.{sets-append}
 use Rattle.instance.specs.declared.Checkpoint.{Checkpoint}
 use Rattle.instance.specs.declared.Status.{Status}
 use Rattle.instance.specs.declared.Status.the-variants.{Open, Infeasible, Packed}

@@ -2,9 +2,10 @@
 use mathlib.Core.List.{List, [], _∷_, _++_, map}
 use Prim.Native.Nat.{ℕ, _+_, _*_, _/_, _%_}
 use lib.ListN.{getD, take}
-use Rattle.records.specs.Bytes.{row-bytes}
+use Rattle.formats.specs.Formats.{row-bytes}
 use Rattle.instance.specs.declared.Packing.{Packing}
 use Rattle.instance.specs.declared.Position.{Position}
+use Rattle.buffers.specs.Lengths.{position-length}
 
 -- "2 bytes each", "low byte first"
 abbrev pub word-bytes : ℕ → List ℕ
@@ -23,7 +24,7 @@ packing-bytes n q = row-bytes position-bytes (take n (q .positions))
 
 -- the packing that plan bytes give; what they do not give is 0
 abbrev pub position-at : List ℕ → ℕ → Position
-position-at s u = record { x = word-at s (6 * u); y = word-at s (6 * u + 2); t = word-at s (6 * u + 4) }
+position-at s u = record { x = word-at s (position-length * u); y = word-at s (position-length * u + 2); t = word-at s (position-length * u + 4) }
 
 unfoldable pub packing-in : List ℕ → Packing
 packing-in s = record { positions = map (position-at s) (0 ∷ 1 ∷ 2 ∷ 3 ∷ 4 ∷ 5 ∷ 6 ∷ 7 ∷ 8 ∷ 9 ∷ []) }

@@ -1,4 +1,6 @@
 // Note bytes: status, length of the path, 270 branches.
+ghost use Rattle.buffers.specs.Lengths.{note-length};
+ghost use Rattle.sheet.specs.Sheet.{max-branches};
 ghost use mathlib.Core.Path.{_≡_};
 ghost use Prim.Native.Nat.{_+_, _≤_};
 ghost use lib.ListN.{length, drop};
@@ -6,6 +8,7 @@ ghost use lib.Seq.{sets};
 ghost use Rattle.buffers.specs.Checkpoints.{status-byte, status-of, checkpoint-bytes, checkpoint-in, all-zero, is-checkpoint};
 use crate::words;
 use instance::Checkpoint;
+use instance::Instance;
 use instance::Status;
 
 fn status_byte(status: Status) -> u8
@@ -46,7 +49,7 @@ fn zero_from(s: &[u8], from: usize) -> bool
 
 // Whether the bytes hold a checkpoint: a status of the three, and 0 past the path's length.
 pub fn is_checkpoint(note: &[u8]) -> bool
-    requires { ⌜ length (now note) ≡ 273 ⌝ }
+    requires { ⌜ length (now note) ≡ note-length ⌝ }
     ensures { λ r. ⌜ r ≡ is-checkpoint (now (note .entry)) ⌝ }
 {
     if 2 < note[0] {
@@ -55,13 +58,13 @@ pub fn is_checkpoint(note: &[u8]) -> bool
     zero_from(note, 3 + words::word_at(note, 1) as usize)
 }
 
-fn read_branches(note: &[u8]) -> [u8; 270]
-    requires { ⌜ length (now note) ≡ 273 ⌝ }
+fn read_branches(note: &[u8]) -> [u8; Instance::MAX_BRANCHES]
+    requires { ⌜ length (now note) ≡ note-length ⌝ }
     ensures { λ r. ⌜ r ≡ drop 3 (now (note .entry)) ⌝ }
 {
-    let mut branches = [0u8; 270];
+    let mut branches = [0u8; Instance::MAX_BRANCHES];
     let mut i: usize = 0;
-    while i < 270 {
+    while i < Instance::MAX_BRANCHES {
         branches[i] = note[3 + i];
         i = i + 1;
     }
@@ -69,7 +72,7 @@ fn read_branches(note: &[u8]) -> [u8; 270]
 }
 
 pub fn read_checkpoint(note: &[u8]) -> Checkpoint
-    requires { ⌜ length (now note) ≡ 273 ⌝ }
+    requires { ⌜ length (now note) ≡ note-length ⌝ }
     ensures { λ r. ⌜ r ≡ checkpoint-in (now (note .entry)) ⌝ }
 {
     let status = status_of(note[0]);
@@ -82,12 +85,12 @@ pub fn read_checkpoint(note: &[u8]) -> Checkpoint
     }
 }
 
-fn write_branches(out: &mut [u8], branches: [u8; 270])
-    requires { ⌜ length (now out) ≡ 273 ⌝ }
+fn write_branches(out: &mut [u8], branches: [u8; Instance::MAX_BRANCHES])
+    requires { ⌜ length (now out) ≡ note-length ⌝ }
     ensures { λ _. ⌜ now (out .exit) ≡ sets (now (out .entry)) 3 branches ⌝ }
 {
     let mut i: usize = 0;
-    while i < 270 {
+    while i < Instance::MAX_BRANCHES {
         out[3 + i] = branches[i];
         i = i + 1;
     }
@@ -95,7 +98,7 @@ fn write_branches(out: &mut [u8], branches: [u8; 270])
 
 // The bytes of a checkpoint, which fill the buffer.
 pub fn write_checkpoint(out: &mut [u8], checkpoint: Checkpoint)
-    requires { ⌜ (length (now out) ≡ 273) × (checkpoint .length ≤ 270) ⌝ }
+    requires { ⌜ (length (now out) ≡ note-length) × (checkpoint .length ≤ max-branches) ⌝ }
     ensures { λ _. ⌜ now (out .exit) ≡ checkpoint-bytes checkpoint ⌝ }
 {
     let status = checkpoint.status;

@@ -2,3 +2,12 @@
 pub mod checkpoints;
 pub mod positions;
 pub mod words;
+
+// "A note is 273 bytes": state, length and branches.
+pub const NOTE_BYTES: usize = 273;
+
+// "4 bytes of steps"
+pub const STEP_BYTES: usize = 4;
+
+// "x, y, t for each piece, 2 bytes each"
+pub const POSITION_BYTES: usize = 6;

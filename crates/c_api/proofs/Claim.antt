@@ -17,15 +17,15 @@ use Rattle.model.specs.Run.{look, machine, plan-at, search}
 use Rattle.model.specs.Search as S
 use Rattle.refusal.specs.Numbers.{number-of}
 use Rattle.refusal.specs.declared.Refusal.{Refusal}
-use Rattle.records.specs.Bounds.{Bytes}
-use Rattle.records.specs.Reading as Reading
-use Rattle.instance.specs.Decode.{decode}
+use Rattle.formats.specs.Reading.{Bytes}
+use Rattle.formats.specs.Reading as Reading
+use Rattle.instance.specs.Sheets.{decode}
 use Rattle.instance.specs.Meaning.{problem-of}
 use Rattle.instance.specs.Reads.{Reads}
 use Rattle.instance.specs.declared.Instance.{Instance}
-use Rattle.search.proofs.Checkpoints.{checkpoint-back}
+use Rattle.replay.proofs.Checkpoints.{checkpoint-back}
 use Rattle.search.proofs.Claim.{following-so, short, held-follows}
-use Rattle.search.specs.Checkpoints.{value-of}
+use Rattle.replay.specs.Checkpoints.{value-of}
 use Rattle.search.specs.Results as R
 use Rattle.search.specs.declared.SearchResult.{SearchResult}
 use Rattle.buffers.proofs.Bytes.{steps-back}

@@ -15,14 +15,13 @@ use Rattle.model.specs.Run.{look, machine, plan-at, search}
 use Rattle.model.specs.Search as S
 use Rattle.refusal.specs.Numbers.{number-of}
 use Rattle.refusal.specs.declared.Refusal.{Refusal}
-use Rattle.records.specs.Bounds.{Bytes}
-use Rattle.records.specs.Reading.{refused}
-use Rattle.instance.proofs.Readings.{read-or-refused}
-use Rattle.instance.specs.Decode.{decode}
+use Rattle.formats.specs.Reading.{Bytes, refused}
+use Rattle.instance.proofs.Readings.{read-or-refused, decode-refuses}
+use Rattle.instance.specs.Sheets.{decode}
 use Rattle.instance.specs.Meaning.{problem-of}
 use Rattle.instance.specs.Reads.{Reads}
 use Rattle.search.proofs.Claim.{following-so, answered-small, zero-is-spent}
-use Rattle.search.specs.Checkpoints.{checkpoint-of, following}
+use Rattle.replay.specs.Checkpoints.{checkpoint-of, following}
 use Rattle.search.specs.Results as R
 use Rattle.search.specs.declared.Answer.{Answer}
 use Rattle.search.specs.declared.Answer.the-variants.{Packed, Infeasible, BudgetSpent, Refused}
@@ -102,7 +101,7 @@ module _ (sheet note steps plan : List ℕ) (allowance : ℕ) where
     follow-so r h = note-so (problem r) (reads-sound sheet bytes r) note note-is (h .note-is)
 
     fault-code : {n : ℕ} → Fault n → code ≡ 100 + n
-    fault-code (SearchBytesFault.unread e d k) = rw k (unread-code e d)
+    fault-code (SearchBytesFault.unread e d k) = rw k (unread-code e (decode-refuses sheet e .1 d))
     fault-code (SearchBytesFault.eight r h k) = rw k (eight-code r (not-so _ (fit-so r) h))
     fault-code (SearchBytesFault.ten r l h k) = rw k (ten-code r (fit-so r .1 l) (not-so _ (follow-so r l) h))
 
@@ -119,7 +118,7 @@ module _ (sheet note steps plan : List ℕ) (allowance : ℕ) where
 
         go : Reads sheet ⊎ ((e : Refusal) × (decode sheet ≡ refused e)) → ((n : ℕ) × Fault n) ⊎ Searched sheet allowance call
         go (inl r) = read r _ _ refl refl
-        go (inr (e, d)) = inl (number-of e, SearchBytesFault.unread e d refl)
+        go (inr (e, d)) = inl (number-of e, SearchBytesFault.unread e (decode-refuses sheet e .0 d) refl)
 
     -- what holds of a call with a number below 100 is what holds of the search's
     served : {A : Type 0} → code < 100 → (Searched sheet allowance call → A) → A

@@ -15,19 +15,19 @@ use Rattle.model.specs.Run.{plan-at}
 use Rattle.model.specs.Search as S
 use Rattle.refusal.specs.Numbers.{number-of}
 use Rattle.refusal.specs.declared.Refusal.{Refusal}
-use Rattle.records.specs.Bounds.{Bytes}
-use Rattle.records.specs.Reading.{refused}
-use Rattle.instance.proofs.Inverse.{read-valid}
-use Rattle.instance.proofs.Lookup.{made-room}
-use Rattle.instance.proofs.Readings.{read-or-refused}
-use Rattle.instance.specs.Decode.{decode}
+use Rattle.formats.specs.Reading.{Bytes}
+use Rattle.formats.specs.Reading.{refused}
+use Rattle.instance.proofs.RoundTrips.{read-valid}
+use Rattle.instance.proofs.RoundTrips.{read-full}
+use Rattle.instance.proofs.Readings.{read-or-refused, decode-refuses}
+use Rattle.instance.specs.Sheets.{decode}
 use Rattle.instance.specs.Meaning.{start, problem-of, positions-of}
 use Rattle.instance.specs.Reads.{Reads}
 use Rattle.instance.specs.Valid.{valid}
 use Rattle.instance.specs.declared.Instance.{Instance}
 use Rattle.packing.specs.Check.{answer-of, check-answer, check-number}
 use Rattle.search.proofs.Packing as Value
-use Rattle.search.proofs.Sound.{valid-sound}
+use Rattle.replay.proofs.Sound.{valid-sound}
 use Rattle.search.specs.Results.{packing-of}
 use Rattle.buffers.proofs.Bytes.{packing-length, packing-back}
 use Rattle.buffers.specs.Bytes.{packing-in}
@@ -43,10 +43,10 @@ reads-one sheet r s = cc (r .reads, s .reads)
 
 module _ (sheet : List ℕ) (bytes : Bytes sheet) (r : Reads sheet) where
   pub reads-valid : valid (r .instance) ≡ true
-  reads-valid = read-valid sheet bytes (r .reads)
+  reads-valid = read-valid sheet (r .reads) bytes
 
   pub reads-sound : Sound (problem-of (r .instance))
-  reads-sound = valid-sound (r .instance) reads-valid (made-room sheet bytes (r .reads))
+  reads-sound = valid-sound (r .instance) reads-valid (read-full sheet (r .reads) bytes .items-room)
 
 -- Check by the table: a fault's number, or yes or no
 
@@ -59,7 +59,7 @@ module _ (sheet plan : List ℕ) where
 
   fault-code : {n : ℕ} → Fault n → code ≡ 100 + n
   unfolding check-code
-  fault-code (CheckBytesFault.unread e d k) = rw (d, k)
+  fault-code (CheckBytesFault.unread e f k) = rw (decode-refuses sheet e .1 f, k)
   fault-code (CheckBytesFault.eight r h k) = rw (r .reads, ne-eqb _ _ h, k)
 
   -- there is a fault, or nothing is refused
@@ -72,7 +72,7 @@ module _ (sheet plan : List ℕ) where
 
       go : Reads sheet ⊎ ((e : Refusal) × (decode sheet ≡ refused e)) → ((n : ℕ) × Fault n) ⊎ Checkable sheet plan
       go (inl r) = read r (plan-fits (r .instance) (length plan)) refl
-      go (inr (e, d)) = inl (number-of e, CheckBytesFault.unread e d refl)
+      go (inr (e, d)) = inl (number-of e, CheckBytesFault.unread e (decode-refuses sheet e .0 d) refl)
 
   module _ (bytes : Bytes sheet) where
     -- where nothing is refused, the test of the plan decides

@@ -6,28 +6,30 @@ use lib.Dec.{eqb}
 use lib.ListN.{length}
 use Rattle.model.specs.Problem.{Problem}
 use Rattle.refusal.specs.declared.Refusal.the-variants.{BadArgument}
-use Rattle.records.specs.Reading.{Read, got, refused}
-use Rattle.instance.specs.Decode.{decode}
+use Rattle.formats.specs.Reading.{Read, got, refused}
+use Rattle.instance.specs.Sheets.{decode}
 use Rattle.instance.specs.Meaning.{problem-of}
 use Rattle.instance.specs.declared.Instance.{Instance}
 use Rattle.packing.specs.Check.{check-answer, check-number}
 use Rattle.packing.specs.declared.CheckAnswer.{CheckAnswer}
 use Rattle.packing.specs.declared.CheckAnswer.the-variants as K
-use Rattle.search.specs.Checkpoints.{checkpoint-of, following}
+use Rattle.replay.specs.Checkpoints.{checkpoint-of, following}
 use Rattle.search.specs.Results as R
 use Rattle.search.specs.declared.Answer.{Answer}
 use Rattle.search.specs.declared.Answer.the-variants.{Packed, Infeasible, BudgetSpent, Refused}
 use Rattle.search.specs.declared.SearchResult.{SearchResult}
 use Rattle.buffers.specs.Bytes.{packing-bytes, packing-in, step-bytes}
 use Rattle.buffers.specs.Checkpoints.{checkpoint-bytes, checkpoint-in, is-checkpoint}
+use Rattle.sheet.specs.Sheet.{max-branches}
+use Rattle.buffers.specs.Lengths.{note-length, steps-length, position-length}
 
 -- 8: "plan bytes not 6 for each piece"
 abbrev pub plan-fits : Instance → ℕ → Bool
-plan-fits i plan = eqb plan (6 * i .«item_count»)
+plan-fits i plan = eqb plan (position-length * i .«item_count»)
 
 -- 8: "note bytes not 273; step bytes not 4"
 abbrev pub lengths-fit : Instance → ℕ → ℕ → ℕ → Bool
-lengths-fit i note steps plan = eqb note 273 && (eqb steps 4 && plan-fits i plan)
+lengths-fit i note steps plan = eqb note note-length && (eqb steps steps-length && plan-fits i plan)
 
 -- Check
 
@@ -88,9 +90,9 @@ steps-of r steps = rewritten (r .answer) steps (step-bytes (r .steps))
 
 -- what is to be written has a path that a note has room for
 abbrev pub PathFits : Answer → ℕ → Type 0
-PathFits BudgetSpent length = length ≤ 270
-PathFits Packed length = length ≤ 270
-PathFits Infeasible length = length ≤ 270
+PathFits BudgetSpent length = length ≤ max-branches
+PathFits Packed length = length ≤ max-branches
+PathFits Infeasible length = length ≤ max-branches
 PathFits (Refused e) length = Unit {0}
 
 -- n is the number of items

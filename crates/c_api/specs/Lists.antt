@@ -12,6 +12,7 @@ use Rattle.search.specs.Results.{packing-of}
 use Rattle.buffers.specs.Bytes.{packing-bytes, steps-in}
 use Rattle.c_api.specs.Calls.{lengths-fit, search-code, note-after, steps-after, plan-after}
 use Rattle.c_api.specs.Notes.{note-bytes}
+use Rattle.buffers.specs.Lengths.{note-length}
 
 -- what a call is handed beside the sheet and the note: its allowance, and what the step bytes and the plan bytes hold before it
 pub record Lent : Type 0 where
@@ -40,7 +41,7 @@ own-note sheet (other note c refused) x = x
 
 -- not "plan bytes not 6 for each piece; note bytes not 273; step bytes not 4"
 abbrev pub lengths-right : {sheet : List ℕ} → Instance → Call sheet → Bool
-lengths-right i (own c) = lengths-fit i 273 (length (c .steps)) (length (c .plan))
+lengths-right i (own c) = lengths-fit i note-length (length (c .steps)) (length (c .plan))
 lengths-right i (other note c refused) = false
 
 -- "the run's whole plan, on the screen as plan bytes"
@@ -51,7 +52,7 @@ plan-bytes i κ = packing-bytes (i .«item_count») (packing-of (problem-of i) (
 abbrev pub on-bytes : (sheet : List ℕ) → Instance → Service S.Checkpoint (Call sheet) (List ℕ) (List ℕ)
 on-bytes sheet i = record {
   -- "A search opens with 273 zeros"
-  opening = replicate 273 0;
+  opening = replicate note-length 0;
   budget = λ c. lent c .allowance;
   admitted = lengths-right i;
   code = λ c x. search-code sheet (lent-note c x) (lent c .allowance) (lent c .steps) (lent c .plan);

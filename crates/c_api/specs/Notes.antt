@@ -7,14 +7,15 @@ use Rattle.model.specs.Problem.{Problem}
 use Rattle.model.specs.Run.{look}
 use Rattle.model.specs.Search as S
 use Rattle.instance.specs.declared.Instance.{Instance}
-use Rattle.search.specs.Checkpoints.{value-of}
+use Rattle.replay.specs.Checkpoints.{value-of}
 use Rattle.buffers.specs.Checkpoints.{checkpoint-bytes}
+use Rattle.buffers.specs.Lengths.{note-length, steps-length, position-length}
 
 -- none of "plan bytes not 6 for each piece; note bytes not 273; step bytes not 4"
 pub record Lengths (i : Instance) (note steps plan : List ℕ) : Type 0 where
-  pub note-is : length note ≡ 273
-  pub steps-are : length steps ≡ 4
-  pub plan-is : length plan ≡ 6 * i .«item_count»
+  pub note-is : length note ≡ note-length
+  pub steps-are : length steps ≡ steps-length
+  pub plan-is : length plan ≡ position-length * i .«item_count»
 
 -- the note bytes of a checkpoint: state, the row's length, its turns and 0 past them
 unfoldable pub note-bytes : S.Checkpoint → List ℕ

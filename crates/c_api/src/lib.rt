@@ -1,10 +1,12 @@
 // Check and search for a C program: numbers and byte slices.
+ghost use Rattle.sheet.specs.Sheet.{max-items};
+ghost use Rattle.buffers.specs.Lengths.{note-length, steps-length, position-length};
 ghost use mathlib.Core.Path.{_≡_};
 ghost use mathlib.Core.Bool.{true};
 ghost use Prim.Native.Nat.{_+_, _*_, _≤_};
 ghost use lib.ListN.{length};
 ghost use Rattle.refusal.specs.Numbers.{number-of};
-ghost use Rattle.records.specs.Bounds.{Bytes};
+ghost use Rattle.formats.specs.Reading.{Bytes};
 ghost use Rattle.instance.specs.Valid.{valid};
 ghost use Rattle.packing.specs.Check.{check-number};
 ghost use Rattle.search.specs.Results.{answer-number};
@@ -70,7 +72,7 @@ fn check_instance(instance: Instance, plan: &[u8]) -> u32
     ensures { λ r. ⌜ r ≡ check-number (checked-if (plan-fits instance (length (now (plan .entry)))) instance (now (plan .entry))) ⌝ }
 {
     let n = instance.item_count;
-    if plan.len() != 6 * n {
+    if plan.len() != buffers::POSITION_BYTES * n {
         return refusal_code(Refusal::BadArgument);
     }
     let packing = positions::read_packing(plan, n);
@@ -86,13 +88,13 @@ fn lengths_fit(instance: Instance, note: usize, steps: usize, plan: usize) -> bo
     requires { ⌜ valid instance ≡ true ⌝ }
     ensures { λ r. ⌜ r ≡ lengths-fit instance note steps plan ⌝ }
 {
-    if note != 273 {
+    if note != buffers::NOTE_BYTES {
         return false;
     }
-    if steps != 4 {
+    if steps != buffers::STEP_BYTES {
         return false;
     }
-    plan == 6 * instance.item_count
+    plan == buffers::POSITION_BYTES * instance.item_count
 }
 
 // The search on a sheet that reads as the instance.
@@ -129,7 +131,7 @@ fn hand_over(
     plan: &mut [u8],
 ) -> u32
     requires { ⌜ PathFits (result .answer) (result .checkpoint .length) ⌝ }
-    requires { ⌜ (length (now note) ≡ 273) × (length (now steps) ≡ 4) × (length (now plan) ≡ 6 * n) × (n ≤ 10) ⌝ }
+    requires { ⌜ (length (now note) ≡ note-length) × (length (now steps) ≡ steps-length) × (length (now plan) ≡ position-length * n) × (n ≤ max-items) ⌝ }
     ensures { λ r. ⌜ r ≡ answer-number (result .answer) ⌝ }
     ensures { λ _. ⌜ now (note .exit) ≡ note-of result (now (note .entry)) ⌝ }
     ensures { λ _. ⌜ now (steps .exit) ≡ steps-of result (now (steps .entry)) ⌝ }

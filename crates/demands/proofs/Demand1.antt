@@ -4,15 +4,11 @@ use mathlib.Core.Logic.{_⊎_, inl, inr}
 use mathlib.Core.Path.{_≡_}
 use Prim.Native.Nat.{_≤_, _+_}
 use native.Mathlib.Omega.{arith}
-use Rattle.refusal.specs.Numbers.{number-of}
-use Rattle.refusal.specs.declared.Refusal.{Refusal}
-use Rattle.refusal.specs.declared.Refusal.the-variants.{EndsEarly, UnknownBit, WrittenDefault, BadCount, BadItem, NotRising, TrailingBytes, BadArgument, InvalidInstance, NotFollowing}
-use Rattle.records.specs.Reading.{refused}
-use Rattle.instance.proofs.Faults.{refused-fault}
-use Rattle.instance.proofs.Readings.{read-refuses}
-use Rattle.instance.proofs.Refusing.{write-refuses, write-writes, room-untouched, record-refuses, record-serves, record-empty}
-use Rattle.instance.specs.Decode.{decode}
-use Rattle.instance.specs.Faults.{Fault}
+use Rattle.instance.proofs.Readings.{read-refuses, read-answers}
+use Rattle.item_record.proofs.Records.{record-is-read}
+use Rattle.item_record.proofs.Refusing.{record-refuses, record-serves, record-empty}
+use Rattle.writer.proofs.Refusing.{write-refuses, write-writes, room-untouched}
+use Rattle.instance.specs.Sheets.{decode}
 use Rattle.packing.proofs.Answers.{answers}
 use Rattle.packing.proofs.Decides.{decides}
 use Rattle.packing.specs.Check.{check-answer, check-number}
@@ -40,19 +36,6 @@ search-answers Searching.Packed = inl (omega arith)
 search-answers Searching.Infeasible = inl (omega arith)
 search-answers (Searching.Refused e) = inr (omega arith)
 
--- reading's numbers
-from-1-to-7 : (sheet : List _) (e : Refusal) → Fault sheet e → (1 ≤ number-of e) × (number-of e ≤ 7)
-from-1-to-7 sheet (EndsEarly p) f = (omega arith, omega arith)
-from-1-to-7 sheet (UnknownBit p) f = (omega arith, omega arith)
-from-1-to-7 sheet (WrittenDefault p) f = (omega arith, omega arith)
-from-1-to-7 sheet (BadCount p) f = (omega arith, omega arith)
-from-1-to-7 sheet (BadItem p) f = (omega arith, omega arith)
-from-1-to-7 sheet (NotRising p) f = (omega arith, omega arith)
-from-1-to-7 sheet (TrailingBytes p) f = (omega arith, omega arith)
-from-1-to-7 sheet BadArgument f = absurd f
-from-1-to-7 sheet InvalidInstance f = absurd f
-from-1-to-7 sheet NotFollowing f = absurd f
-
 pub demand1 : Demand1
 unfolding check-code
 demand1 = record {
@@ -63,7 +46,7 @@ demand1 = record {
   search-bytes-answers = λ sheet note steps plan allowance. search-answers (search-call sheet note allowance steps plan .answer);
   buffers-untouched = untouched;
   read-refuses = read-refuses;
-  read-faults = λ sheet e d. let f = refused-fault sheet e d in let (a, b) = from-1-to-7 sheet e f in (f, a, b);
+  read-answers = read-answers;
   write-refuses = write-refuses;
   write-answers = write-writes;
   room-untouched = room-untouched;
@@ -76,5 +59,6 @@ demand1 = record {
   clearance-answers = λ i q u v a. answers i q u v a .value;
   record-refuses = record-refuses;
   record-answers = record-serves;
+  record-part = λ sheet bytes r k l. record-is-read sheet bytes r k l .1;
   record-empty = record-empty;
 }

@@ -1,5 +1,5 @@
 -- The mission's second demand holds.
-use Rattle.instance.proofs.RoundTrips.{written-read-back, read-written-again}
+use Rattle.writer.proofs.Refusing.{written-read-back, read-written-again}
 use Rattle.packing.proofs.Decides.{decides}
 use Rattle.c_api.proofs.Plans.{yes-exactly, no-exactly}
 use Rattle.demands.specs.Demand2.{Demand2}

@@ -14,7 +14,7 @@ use Rattle.model.specs.Machine.{steps}
 use Rattle.model.specs.Problem.{Problem, Positions, Feasible}
 use Rattle.model.specs.Run.{look, machine, plan-at, run, step-count}
 use Rattle.model.specs.Search as S
-use Rattle.records.specs.Bounds.{Bytes}
+use Rattle.formats.specs.Reading.{Bytes}
 use Rattle.instance.specs.Meaning.{problem-of, positions-of}
 use Rattle.instance.specs.Reads.{Reads, Full}
 use Rattle.instance.specs.Valid.{valid}
@@ -24,7 +24,7 @@ use Rattle.packing.proofs.Decides.{decides}
 use Rattle.packing.specs.Check.{check-answer, check-number}
 use Rattle.search.proofs.Claim as Values
 use Rattle.search.proofs.Packing.{packing-back, feasible-same}
-use Rattle.search.proofs.Sound.{valid-sound}
+use Rattle.replay.proofs.Sound.{valid-sound}
 use Rattle.search.specs.Calls.{values}
 use Rattle.search.specs.Results.{answer-number, packing-of, search-result, nine}
 use Rattle.buffers.specs.Bytes.{packing-in}
@@ -34,6 +34,7 @@ use Rattle.c_api.proofs.Plans.{reads-one, reads-sound, yes-exactly, placed-chec
 use Rattle.c_api.specs.Calls.{check-code}
 use Rattle.c_api.specs.Lists.{on-bytes}
 use Rattle.demands.specs.Demand3.{run-number, Holds, Demand3}
+use Rattle.instance.proofs.Readings.{decode-refuses}
 
 two-is-none : (κ : S.Checkpoint) → status-number (S.status κ) ≡ 2 → κ ≡ S.infeasible
 two-is-none (S.open-at path) e = absurd (omega arith)
@@ -157,5 +158,5 @@ demand3 = record {
   spent-exactly = Values.spent-exactly;
   spent-bytes-exactly = Faults.spent-exactly;
   refused-values = Values.every-call-refused;
-  refused-bytes = OnBytes.every-call-refused;
+  refused-bytes = λ sheet e f. OnBytes.every-call-refused sheet e (decode-refuses sheet e .1 f);
 }

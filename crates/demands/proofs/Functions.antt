@@ -4,10 +4,10 @@ use Rattle.c_api.proofs.hallplan_search.Met as SearchBytes
 use Rattle.instance.proofs.Instance.is_valid.Met as IsValid
 use Rattle.instance.proofs.Instance.opening.Met as Opening
 use Rattle.instance.proofs.Instance.read.Met as Read
-use Rattle.instance.proofs.Instance.write.Met as Write
+use Rattle.writer.proofs.write.Met as Write
 use Rattle.instance.proofs.Packing.origin.Met as Origin
-use Rattle.instance.proofs.label.item_record.Met as Record
-use Rattle.instance.proofs.label.item_record_refusal.Met as RecordRefusal
+use Rattle.item_record.proofs.item_record.Met as Record
+use Rattle.item_record.proofs.item_record_refusal.Met as RecordRefusal
 use Rattle.packing.proofs.check.Met as Check
 use Rattle.packing.proofs.clearance.Met as Clearance
 use Rattle.refusal.proofs.Refusal.number.Met as Number

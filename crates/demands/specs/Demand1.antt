@@ -1,31 +1,34 @@
 -- The mission's first demand, as one theorem: that every function answers, what is refused and with which number, and what a refusal
 -- leaves. The table's conditions stand beside the definitions that test them: c_api Faults (check and search in bytes), search Results
--- (`SearchFault`), instance Refusing (writing, an item's record) and Faults (reading), packing Clearance.
+-- (`SearchFault`), sheet Faults (reading), writer and item_record Refusing, packing Clearance.
 use mathlib.Core.Bool.{true, false}
 use mathlib.Core.List.{List, []}
 use mathlib.Core.Logic.{_↔_, _⊎_, inl, inr}
 use mathlib.Core.Path.{_≡_}
 use Prim.Native.Nat.{ℕ, _+_, _≤_, _<_}
 use lib.IntN.{ℤ}
-use lib.ListN.{length}
+use lib.ListN.{length, getD}
 use Rattle.refusal.specs.Numbers.{number-of, place-of}
 use Rattle.refusal.specs.declared.Refusal.{Refusal}
-use Rattle.records.specs.Bounds.{Bytes}
-use Rattle.records.specs.Reading.{refused}
-use Rattle.instance.specs.Decode.{decode, read-result}
-use Rattle.instance.specs.Encode.{encode, write-answer, written-room}
-use Rattle.instance.specs.Faults.{Fault}
+use Rattle.formats.specs.Formats.{Format}
+use Rattle.formats.specs.Reading.{Bytes}
+use Rattle.parts.specs.Parts.{item}
+use Rattle.parts.specs.Sizes.{no-item}
+use Rattle.sheet.specs.Faults.{Fault, FirstFault}
+use Rattle.sheet.specs.Told.{sheet-at}
+use Rattle.instance.specs.Answers.{read-result, read-values}
 use Rattle.instance.specs.Meaning.{problem-of, positions-of}
 use Rattle.instance.specs.Reads.{Reads}
-use Rattle.instance.specs.Record.{item-record, item-record-code, code}
-use Rattle.instance.specs.Refusing.{WriteFault, RecordFault}
+use Rattle.instance.specs.Sheets.{instance-of, decode, encode}
 use Rattle.instance.specs.Valid.{valid}
 use Rattle.instance.specs.Values.{origin-packing}
 use Rattle.instance.specs.declared.Checkpoint.{Checkpoint}
 use Rattle.instance.specs.declared.Instance.{Instance}
 use Rattle.instance.specs.declared.Packing.{Packing}
-use Rattle.instance.specs.declared.ReadAnswer.the-variants as Reading
-use Rattle.instance.specs.declared.WriteAnswer.the-variants as Writing
+use Rattle.item_record.specs.Record.{item-record, item-record-code, code}
+use Rattle.item_record.specs.Refusing.{RecordFault}
+use Rattle.writer.specs.Answers.{write-answer, write-values, written-room}
+use Rattle.writer.specs.Refusing.{WriteFault}
 use Rattle.packing.specs.Check.{check-answer, check-number}
 use Rattle.packing.specs.Clearance.{clearance-between, clearance-answer, clearance-values, ClearanceFault}
 use Rattle.search.specs.Results.{answer-number, search-result, SearchFault}
@@ -51,17 +54,20 @@ pub record Demand1 : Type 2 where
       → (note-after sheet note allowance steps plan ≡ note)
       × (steps-after sheet note allowance steps plan ≡ steps)
       × (plan-after sheet note allowance steps plan ≡ plan)
-  -- Reading: 1 to 7, and the condition of the number holds of the bytes at the place that goes with it
-  pub read-refuses : (sheet : List ℕ) (e : Refusal)
-      → (read-result (decode sheet) .answer ≡ Reading.Refused e) ↔ (decode sheet ≡ refused e)
-  pub read-faults : (sheet : List ℕ) (e : Refusal) → decode sheet ≡ refused e
-      → Fault sheet e × (1 ≤ number-of e) × (number-of e ≤ 7)
-  -- Writing: 9, then 8, and the lent room stays; otherwise the sheet's length
-  pub write-refuses : (i : Instance) (room : ℕ) (e : Refusal) → (write-answer i room ≡ Writing.Refused e) ↔ WriteFault i room e
-  pub write-answers : (i : Instance) (room n : ℕ) → (write-answer i room ≡ Writing.Written n)
+  -- Reading: number and place of the sheet's first fault; otherwise the instance that its bytes tell
+  pub read-refuses : (sheet : List ℕ) (n place : ℕ)
+      → (read-values (read-result (decode sheet)) ≡ inr (n, place))
+      ↔ ((e : Refusal) × FirstFault sheet e × (n ≡ number-of e) × (place ≡ place-of e))
+  pub read-answers : (sheet : List ℕ) (i : Instance)
+      → (read-values (read-result (decode sheet)) ≡ inl i)
+      ↔ (((e : Refusal) → Fault sheet e → ⊥) × (i ≡ instance-of (sheet-at sheet)))
+  -- Writing: 9, then 8, each with place 0, and the lent room stays; otherwise the sheet's length
+  pub write-refuses : (i : Instance) (room n place : ℕ)
+      → (write-values (write-answer i room) ≡ inr (n, place)) ↔ (WriteFault i room n × (place ≡ 0))
+  pub write-answers : (i : Instance) (room n : ℕ) → (write-values (write-answer i room) ≡ inl n)
       ↔ ((valid i ≡ true) × (length (encode i) ≤ room) × (n ≡ length (encode i)))
-  pub room-untouched : (i : Instance) (room : List ℕ) (e : Refusal)
-      → write-answer i (length room) ≡ Writing.Refused e → written-room i room ≡ room
+  pub room-untouched : (i : Instance) (room : List ℕ) (n place : ℕ)
+      → write-values (write-answer i (length room)) ≡ inr (n, place) → written-room i room ≡ room
   -- Check in values: 9; otherwise 0 or 1
   pub check-refuses : (i : Instance) (q : Packing) (n : ℕ)
       → (check-number (check-answer i q) ≡ 100 + n) ↔ ((valid i ≡ false) × (n ≡ 9))
@@ -80,10 +86,13 @@ pub record Demand1 : Type 2 where
       → (clearance-values (clearance-answer i q u v a) ≡ inl z)
       ↔ ((valid i ≡ true) × (u < i .«item_count») × (v < i .«item_count») × (a < 3)
       × (z ≡ clearance-between (problem-of i) (positions-of q) a u v))
-  -- An item's record: the sheet's number and place, then 5 and 0, and the part is empty; otherwise 0 and 0
+  -- An item's record: the sheet's number and place, then 5 and 0, and the part is empty; otherwise 0 and 0, and the part is the
+  -- bytes that the item was read from
   pub record-refuses : (sheet : List ℕ) (k : ℕ) (e : Refusal)
       → (item-record-code sheet k ≡ code (number-of e) (place-of e)) ↔ RecordFault sheet k e
   pub record-answers : (sheet : List ℕ) (k : ℕ)
       → (item-record-code sheet k ≡ code 0 0) ↔ ((r : Reads sheet) × (k < r .instance .«item_count»))
+  pub record-part : (sheet : List ℕ) → Bytes sheet → (r : Reads sheet) (k : ℕ) → k < r .instance .«item_count»
+      → item-record sheet k ≡ item .bytes (getD (r .instance .items) k no-item)
   pub record-empty : (sheet : List ℕ) (k : ℕ) (e : Refusal)
       → item-record-code sheet k ≡ code (number-of e) (place-of e) → item-record sheet k ≡ []

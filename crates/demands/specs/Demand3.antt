@@ -12,9 +12,8 @@ use Rattle.model.specs.Run.{machine, step-count}
 use Rattle.model.specs.Search as S
 use Rattle.refusal.specs.Numbers.{number-of}
 use Rattle.refusal.specs.declared.Refusal.{Refusal}
-use Rattle.records.specs.Bounds.{Bytes}
-use Rattle.records.specs.Reading.{refused}
-use Rattle.instance.specs.Decode.{decode}
+use Rattle.formats.specs.Reading.{Bytes}
+use Rattle.sheet.specs.Faults.{FirstFault}
 use Rattle.instance.specs.Meaning.{problem-of}
 use Rattle.instance.specs.Reads.{Reads, Full}
 use Rattle.instance.specs.Valid.{valid}
@@ -26,6 +25,7 @@ use Rattle.search.specs.Results.{answer-number, search-result}
 use Rattle.buffers.specs.Bytes.{steps-in}
 use Rattle.c_api.specs.Calls.{check-code, search-code, steps-after, plan-after}
 use Rattle.c_api.specs.Lists.{Lent, Call, on-bytes}
+use Rattle.buffers.specs.Lengths.{note-length}
 
 -- what the one run answers: "0 spent, 1 placed, 2 none"
 abbrev pub run-number : Problem → ℕ
@@ -59,7 +59,7 @@ pub record Demand3 : Type 0 where
   pub in-bytes : (sheet : List ℕ) → Bytes sheet → (r : Reads sheet)
       → Holds (problem-of (r .instance)) (on-bytes sheet (r .instance)) (check-code sheet)
   -- a call that is lent bytes of another length as its note is refused too, so it may stand in the list
-  pub another-length : (sheet note : List ℕ) (c : Lent) → (length note ≡ 273 → ⊥)
+  pub another-length : (sheet note : List ℕ) (c : Lent) → (length note ≡ note-length → ⊥)
       → 100 ≤ search-code sheet note (c .allowance) (c .steps) (c .plan)
   -- Whatever note is handed in, of a list or not: where a call answers placed, the check says yes to its plan
   pub placed-fits : (i : Instance) → Full i → (c : Checkpoint) (budget : ℕ)
@@ -73,5 +73,5 @@ pub record Demand3 : Type 0 where
       → search-code sheet note allowance steps plan ≡ 0 → steps-in (steps-after sheet note allowance steps plan) ≡ allowance
   -- (01) "on a refused sheet every call is refused, and the note stays the opening one"
   pub refused-values : (i : Instance) → valid i ≡ false → (calls : List ℕ) → AllRefused (values i) 109 calls
-  pub refused-bytes : (sheet : List ℕ) (e : Refusal) → decode sheet ≡ refused e → (i : Instance) (calls : List (Call sheet))
+  pub refused-bytes : (sheet : List ℕ) (e : Refusal) → FirstFault sheet e → (i : Instance) (calls : List (Call sheet))
       → AllRefused (on-bytes sheet i) (100 + number-of e) calls

@@ -10,25 +10,26 @@ use Rattle.refusal.proofs.Refusal.number.Statement as NumberRuns
 use Rattle.refusal.proofs.Refusal.place.Reads as Place
 use Rattle.refusal.proofs.Refusal.place.Statement as PlaceRuns
 use Rattle.refusal.specs.Numbers.{number-of, place-of}
-use Rattle.records.specs.Bounds.{Bytes}
+use Rattle.formats.specs.Reading.{Bytes}
 use Rattle.instance.proofs.Instance.is_valid.Reads as IsValid
 use Rattle.instance.proofs.Instance.is_valid.Statement as IsValidRuns
 use Rattle.instance.proofs.Instance.opening.Reads as Opening
 use Rattle.instance.proofs.Instance.opening.Statement as OpeningRuns
 use Rattle.instance.proofs.Instance.read.Reads as Read
 use Rattle.instance.proofs.Instance.read.Statement as ReadRuns
-use Rattle.instance.proofs.Instance.write.Reads as Write
-use Rattle.instance.proofs.Instance.write.Statement as WriteRuns
+use Rattle.writer.proofs.write.Reads as Write
+use Rattle.writer.proofs.write.Statement as WriteRuns
 use Rattle.instance.proofs.Packing.origin.Reads as Origin
 use Rattle.instance.proofs.Packing.origin.Statement as OriginRuns
-use Rattle.instance.proofs.label.item_record.Reads as Record
-use Rattle.instance.proofs.label.item_record.Statement as RecordRuns
-use Rattle.instance.proofs.label.item_record_refusal.Reads as RecordRefusal
-use Rattle.instance.proofs.label.item_record_refusal.Statement as RecordRefusalRuns
-use Rattle.instance.specs.Decode.{decode, read-result}
-use Rattle.instance.specs.Encode.{write-answer, written-room}
+use Rattle.item_record.proofs.item_record.Reads as Record
+use Rattle.item_record.proofs.item_record.Statement as RecordRuns
+use Rattle.item_record.proofs.item_record_refusal.Reads as RecordRefusal
+use Rattle.item_record.proofs.item_record_refusal.Statement as RecordRefusalRuns
+use Rattle.instance.specs.Sheets.{decode}
+use Rattle.instance.specs.Answers.{read-result}
+use Rattle.writer.specs.Answers.{write-answer, written-room}
 use Rattle.instance.specs.Reads.{Full}
-use Rattle.instance.specs.Record.{item-record, item-record-code}
+use Rattle.item_record.specs.Record.{item-record, item-record-code}
 use Rattle.instance.specs.Valid.{valid}
 use Rattle.instance.specs.Values.{opening-checkpoint, origin-packing}
 use Rattle.packing.proofs.check.Reads as Check
@@ -71,14 +72,14 @@ pub record Functions (M : Type 1) : Type 2 where
   pub read-runs : ReadRuns.statement M
   pub read-asks : (κs : Lfts 1) (a : _) → Read.Asked κs a
   pub read-says : (κs : Lfts 1) (a : _) (r : _) (s : _) → Read.Learnt κs a r s → r ≡ read-result (decode (a .0 .now))
-  -- `Instance::write`
+  -- `writer::write`
   pub write-runs : WriteRuns.statement M
   pub write-asks : (κs : Lfts 1) (a : _) → Write.Asked κs a
   pub write-says : (κs : Lfts 1) (a : _) (r : _) (s : _) → Write.Learnt κs a r s
       → let instance = a .0 in
       let room = a .1 .0 .now in
       (r ≡ write-answer instance (length room)) × (s .1 .0 .now ≡ written-room instance room) × Full instance
-  -- `label::item_record`, `label::item_record_refusal`
+  -- `item_record::item_record`, `item_record::item_record_refusal`
   pub record-runs : RecordRuns.statement M
   pub record-asks : (κs : Lfts 1) (a : _) → Record.Asked κs a
   pub record-says : (κs : Lfts 1) (a : _) (r : _) (s : _) → Record.Learnt κs a r s → r .now ≡ item-record (a .0 .now) (a .1 .0)

@@ -11,13 +11,14 @@ use lib.Dec.{ltb}
 use lib.ListN.{getD, set, length, length-set}
 use lib.Seq.{getD-set-same, getD-set-other}
 use borrow.Author.Tests.{lt-ltb, le-ltb}
-use Rattle.records.specs.declared.Size.{Size}
-use Rattle.records.specs.declared.Item.{Item}
-use Rattle.records.specs.Sizes.{no-item}
+use Rattle.parts.specs.declared.Size.{Size}
+use Rattle.parts.specs.declared.Item.{Item}
+use Rattle.parts.specs.Sizes.{no-item}
 use Rattle.instance.specs.declared.Instance.{Instance}
 use Rattle.instance.specs.Valid.{precedences-of}
 use Rattle.instance.specs.Meaning.{measure, precedence-of, problem-of}
-use Rattle.domains.specs.Shape.{Copied, Same, size-at, capacity-at, shape-problem}
+use Rattle.propagation.specs.Shape.{size-at, capacity-at, shape-problem}
+use Rattle.domains.specs.Shape.{Copied, Same}
 
 module _ (items : List Item) (sizes : List ℕ) (i : ℕ) (room : i < 10) (h : Copied items sizes i) where
   abbrev m : ℕ → ℕ

@@ -1,13 +1,7 @@
 pub mod Branches
 pub mod Choices
-pub mod Cuts
-pub mod Directions
 pub mod Layouts
 pub mod Openings
 pub mod Packings
 pub mod Removals
-pub mod Rest
 pub mod Rooms
-pub mod Rounds
-pub mod Shapes
-pub mod Updates

@@ -8,12 +8,12 @@ use lib.Dec.{ltb, leb, eqb}
 use lib.ListN.{getD, length, take, drop}
 use lib.Seq.{getD-take, length-take-le}
 use borrow.Author.Tests.{ltb-true, leb-true, eqb-false, not-true}
-use Rattle.records.specs.declared.Precedence.{Precedence}
-use Rattle.records.specs.declared.Previous.{Previous}
-use Rattle.records.specs.declared.Previous.the-variants.{Nothing, Was}
-use Rattle.records.specs.Precedences.{names-items, rises, all-stand}
-use Rattle.records.specs.Sizes.{positive, all-have-size, no-precedence}
-use Rattle.records.proofs.Tests.{part-next, part-done}
+use Rattle.parts.specs.declared.Precedence.{Precedence}
+use Rattle.parts.specs.declared.Previous.{Previous}
+use Rattle.parts.specs.declared.Previous.the-variants.{Nothing, Was}
+use Rattle.parts.specs.Precedences.{names-items, rises, all-stand}
+use Rattle.parts.specs.Sizes.{positive, all-have-size, no-precedence}
+use Rattle.formats.proofs.Entries.{part-next, part-done}
 use Rattle.instance.specs.declared.Instance.{Instance}
 use Rattle.instance.specs.Valid.{valid, items-of, precedences-of}
 use Rattle.instance.specs.Meaning.{precedence-of}

@@ -1,28 +1,15 @@
--- A problem laid out as arrays.
-use mathlib.Core.Bool.{cond}
+-- An instance laid out as arrays.
 use mathlib.Core.List.{List, map}
 use mathlib.Core.Path.{_≡_}
-use Prim.Native.Nat.{ℕ, _+_, _*_, _<_, min}
-use lib.Dec.{ltb}
+use Prim.Native.Nat.{ℕ, _+_, _*_, _<_}
 use lib.ListN.{getD, length}
-use Rattle.model.specs.Problem as M
-use Rattle.records.specs.declared.Item.{Item}
-use Rattle.records.specs.Sizes.{no-item}
+use Rattle.parts.specs.declared.Item.{Item}
+use Rattle.parts.specs.Sizes.{no-item}
 use Rattle.instance.specs.declared.Instance.{Instance}
 use Rattle.instance.specs.Valid.{precedences-of}
 use Rattle.instance.specs.Meaning.{measure, problem-of, precedence-of}
+use Rattle.propagation.specs.Shape.{shape-problem}
 use Rattle.domains.specs.declared.Shape.{Shape}
-
--- the measure of the item u on the axis a: at a * 10 + u; past the ten items it is 0, and past the axis t it is that on t
-unfoldable pub size-at : List ℕ → ℕ → ℕ → ℕ
-size-at sizes a u = cond (ltb u 10) (getD sizes (min a 2 * 10 + u) 0) 0
-
-unfoldable pub capacity-at : List ℕ → ℕ → ℕ
-capacity-at capacity a = getD capacity (min a 2) 0
-
--- what the arrays mean
-abbrev pub shape-problem : ℕ → List ℕ → List ℕ → List M.Precedence → M.Problem
-shape-problem n sizes capacity os = record { items = n; size = size-at sizes; capacity = capacity-at capacity; precedences = os }
 
 -- the first i items are copied
 pub record Copied (items : List Item) (sizes : List ℕ) (i : ℕ) : Type 0 where

@@ -7,7 +7,7 @@ use Rattle.instance.specs.declared.Packing.{Packing}
 use Rattle.instance.specs.Meaning.{positions-of}
 use Rattle.instance.specs.Values.{origin}
 use Rattle.tables.specs.Totals.{at}
-use Rattle.domains.specs.Shape.{size-at}
+use Rattle.propagation.specs.Shape.{size-at}
 
 -- "On each axis a piece starts at the total of the greatest chain ending in it, less its own measure"
 abbrev pub start-at : List ℕ → List ℕ → ℕ → ℕ → ℕ

@@ -4,13 +4,14 @@ ghost use Prim.Native.Nat.{ℕ, _≤_, _<_};
 ghost use lib.Dec.{ltb};
 ghost use lib.ListN.{getD, length};
 ghost use Rattle.rows.specs.Bits.{bit-at};
-ghost use Rattle.domains.specs.Shape.{Copied, Laid, Same, size-at};
+ghost use Rattle.propagation.specs.Shape.{size-at};
+ghost use Rattle.domains.specs.Shape.{Copied, Laid, Same};
 use crate::Shape;
 use instance::Instance;
-use records::Item;
+use parts::Item;
 
 // The items' measures, axis by axis.
-fn copied(items: [Item; 10]) -> [u16; 30]
+fn copied(items: [Item; Instance::MAX_ITEMS]) -> [u16; 30]
     ensures { λ r. ⌜ Copied items r 10 × (length items ≡ 10) ⌝ }
 {
     let mut sizes = [0u16; 30];

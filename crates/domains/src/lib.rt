@@ -1,8 +1,7 @@
-// The domains of all pairs and axes in one array: their accessors, propagation, greatest chains, and where the search branches.
+// An instance as arrays with its opening domains, where the search branches, and the packing that packed domains give.
 pub mod branch;
 pub mod layout;
 pub mod opening;
-pub mod propagation;
 pub mod starts;
 
 // An instance's measures as arrays: the size of an item at axis * 10 + item.

@@ -4,12 +4,13 @@ ghost use mathlib.Core.Bool.{true};
 ghost use mathlib.Core.List.{map};
 ghost use Prim.Native.Nat.{_≤_};
 ghost use lib.ListN.{take};
-ghost use Rattle.records.specs.Precedences.{all-stand};
-ghost use Rattle.records.specs.declared.Previous.{Previous};
+ghost use Rattle.parts.specs.Precedences.{all-stand};
+ghost use Rattle.parts.specs.declared.Previous.{Previous};
 ghost use Rattle.instance.specs.Meaning.{precedence-of};
 ghost use Rattle.model.specs.Branching as B;
 ghost use Rattle.rows.specs.Queue.{Good, Grown};
-use records::Precedence;
+use instance::Instance;
+use parts::Precedence;
 use rows::bits::bit;
 use rows::removal::remove;
 
@@ -19,7 +20,7 @@ pub fn fix_precedences(
     rows: &mut [u16; 91],
     queue: &mut [u16; 945],
     n: usize,
-    precedences: [Precedence; 90],
+    precedences: [Precedence; Instance::MAX_PRECEDENCES],
     m: usize,
 ) -> usize
     requires { ⌜ Good n (now k) (now rows) (now queue) 0 × (m ≤ 90) × (all-stand n Previous.Nothing (take m precedences) ≡ true) ⌝ }

@@ -3,6 +3,7 @@ ghost use mathlib.Core.Path.{_≡_};
 ghost use Prim.Native.Nat.{min};
 ghost use Rattle.domains.specs.Starts.{Startable, Started, StartsAt, start-at};
 use crate::layout::size_of;
+use instance::Instance;
 use instance::Packing;
 use instance::Position;
 
@@ -31,7 +32,7 @@ pub fn starts_of(ends: &[u32; 30], n: usize, sizes: &[u16; 30], capacity: &[u16;
     requires { ⌜ Startable n (now sizes) (now capacity) (now ends) ⌝ }
     ensures { λ r. ⌜ Started n (now (sizes .entry)) (now (ends .entry)) r ⌝ }
 {
-    let mut positions = [Position { x: 0, y: 0, t: 0 }; 10];
+    let mut positions = [Position { x: 0, y: 0, t: 0 }; Instance::MAX_ITEMS];
     let mut u: usize = 0;
     while u < n {
         let x = start_at(ends, sizes, capacity, 0, u);

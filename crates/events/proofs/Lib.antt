@@ -1,12 +1,9 @@
 pub mod Clauses
 pub mod Works
-pub mod Pending
-pub mod Instances
 pub mod Reading
 pub mod Masks
 pub mod Triangles
 pub mod OnAxes
 pub mod Cycles
 pub mod Looks
-pub mod Pairs
-pub mod Settling
+pub mod Along

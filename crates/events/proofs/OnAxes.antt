@@ -1,9 +1,8 @@
--- Rule 1: overlap known on two axes is removed on the third. And the axes in a circle.
+-- Rule 1: overlap known on two axes is removed on the third.
 use mathlib.Core.Bool.{true, false}
 use mathlib.Core.List.{List}
-use mathlib.Core.Logic.{_≢_}
 use mathlib.Core.Path.{_≡_, refl, sym, _∙_, ap, subst}
-use Prim.Native.Nat.{ℕ, zero, suc, _+_, _^_, _<_}
+use Prim.Native.Nat.{ℕ, _^_, _<_}
 use native.Mathlib.Omega.{arith}
 use borrow.Author.Tests.{eqb-true, eq-eqb}
 use Rattle.model.specs.Domains.{Domains}
@@ -16,22 +15,10 @@ use Rattle.rows.specs.Queue.{Good, In, Items, Removed}
 use Rattle.rows.proofs.Sets.{bit-power, power-small}
 use Rattle.rows.proofs.Claims.{says-mono}
 use Rattle.events.specs.Clauses.{of, Axes, c3, AllHold, Obeyed}
-use Rattle.events.specs.Worked.{Worked, next-axis}
+use Rattle.events.specs.Worked.{Worked}
 use Rattle.events.specs.Sets.{Gives, Third, lapping}
 use Rattle.events.proofs.Works.{worked-none}
 use Rattle.events.proofs.Reading.{lapping-says, lapping-of}
-
-pub next-axis-is : (a : ℕ) → a < 3 → a ≢ 2 → a + 1 ≡ next-axis a
-next-axis-is zero h d = refl
-next-axis-is (suc zero) h d = refl
-next-axis-is (suc (suc zero)) h d = absurd (d refl)
-next-axis-is (suc (suc (suc a))) h d = absurd (omega arith)
-
-pub axes-next : (a : ℕ) → a < 3 → Axes a (next-axis a) (next-axis (next-axis a))
-axes-next zero h = record { axis-a = h; axis-b = omega arith; axis-c = omega arith; ab = omega arith; ac = omega arith; bc = omega arith }
-axes-next (suc zero) h = record { axis-a = h; axis-b = omega arith; axis-c = omega arith; ab = omega arith; ac = omega arith; bc = omega arith }
-axes-next (suc (suc zero)) h = record { axis-a = h; axis-b = omega arith; axis-c = omega arith; ab = omega arith; ac = omega arith; bc = omega arith }
-axes-next (suc (suc (suc a))) h = absurd (omega arith)
 
 -- the set of v alone
 only-in : (v w : ℕ) {m : ℕ} → v < 10 → w < 10 → m ≡ 2 ^ v → In m w → w ≡ v

@@ -12,7 +12,7 @@ use Rattle.rows.specs.Bits.{bit-at}
 use Rattle.rows.specs.Rows.{row}
 use Rattle.rows.specs.Claims.{overlaps, removed, forced, Claim, Holds}
 use Rattle.rows.specs.Queue.{Grown, In}
-use Rattle.events.specs.Clauses.{of, Axes, Three, Order, Rule}
+use Rattle.events.specs.Clauses.{of, Axes, Three, Order}
 use Rattle.events.specs.Worked.{Clauses}
 
 -- rows as they are lent: 91 numbers below 1024
@@ -77,23 +77,6 @@ Sides n a q r ps c = (s : ℕ) × (s < n) × Ring n a q r s ps c
 
 abbrev pub Diagonal : ℕ → ℕ → ℕ → ℕ → Clauses
 Diagonal n a q s ps c = (r : ℕ) × (r < n) × Ring n a q r s ps c
-
--- the clauses with "u and v overlap" as a premise: rule 1 for the axes b and c, and rule 4 with them as a side
-abbrev pub Overlapping : ℕ → ℕ → ℕ → ℕ → ℕ → ℕ → Clauses
-Overlapping n a b c u v ps t = Third n a b c u v ps t ⊎ (Third n a c b u v ps t ⊎ (Sides n a u v ps t ⊎ Sides n a v u ps t))
-
--- the claim is of u and v on the axis a, in one order or the other
-abbrev pub Names : ℕ → ℕ → ℕ → Claim → Type 0
-Names a u v c = (c .axis ≡ a) × (((c .u ≡ u) × (c .v ≡ v)) ⊎ ((c .u ≡ v) × (c .v ≡ u)))
-
--- one of the claims is
-abbrev pub Mentions : ℕ → ℕ → ℕ → List Claim → Type 0
-Mentions a u v [] = ⊥
-Mentions a u v (c ∷ cs) = Names a u v c ⊎ Mentions a u v cs
-
--- all clauses with a premise of u and v on the axis a
-abbrev pub Mentioning : ℕ → ℕ → ℕ → ℕ → Clauses
-Mentioning n a u v ps c = Rule n ps c × Mentions a u v ps
 
 -- u is made to overlap the items of a set, and nothing else is done
 pub record Overlapped (n a u items : ℕ) (k : Domains) (q : List ℕ) (top : ℕ) (j : Domains) (rows r : List ℕ) (end : ℕ) : Type 0 where

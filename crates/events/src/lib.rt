@@ -1,11 +1,4 @@
-// Rules 1 to 4 by events: each pair that changed is worked off once, with the clauses that it is a premise of.
-mod paths;
-mod rings;
-mod sets;
-pub mod settle;
-
-// How working the queue off ended, and where the queue ends then.
-pub struct Settled {
-    pub conflict: bool,
-    pub end: usize,
-}
+// Rules 1 to 4 by events: what each removes where a pair has changed, by sets of items read from the rows.
+pub mod paths;
+pub mod rings;
+pub mod sets;

@@ -1,66 +1,55 @@
 -- The answers as single numbers, 0 in place of what an answer does not hold.
 use mathlib.Core.Bool.{cond}
 use mathlib.Core.List.{List}
+use mathlib.Core.Logic.{_⊎_, inl, inr}
 use Prim.Native.Nat.{ℕ}
 use lib.Dec.{ltb}
-use lib.ListN.{length, getD, set}
+use lib.ListN.{length, getD}
 use lib.IntN.{ℤ, pos}
-use Rattle.refusal.specs.Numbers.{number-of, place-of}
 use Rattle.instance.specs.declared.Instance.{Instance}
-use Rattle.instance.specs.declared.Packing.{Packing}
-use Rattle.instance.specs.declared.Position.{Position}
-use Rattle.instance.specs.declared.ReadAnswer.{ReadAnswer}
-use Rattle.instance.specs.declared.ReadAnswer.the-variants as R
-use Rattle.instance.specs.declared.WriteAnswer.{WriteAnswer}
-use Rattle.instance.specs.declared.WriteAnswer.the-variants as W
-use Rattle.instance.specs.Encode.{write-answer, written-room}
-use Rattle.packing.specs.declared.ClearanceAnswer.{ClearanceAnswer}
-use Rattle.packing.specs.declared.ClearanceAnswer.the-variants as C
-use Rattle.packing.specs.Clearance.{clearance-answer}
+use Rattle.instance.specs.Answers.{read-result, read-values}
+use Rattle.instance.specs.Sheets.{decode}
+use Rattle.writer.specs.Answers.{write-answer, write-values, written-room}
+use Rattle.packing.specs.Clearance.{clearance-answer, clearance-values}
+use Rattle.test_values.specs.Values.{instance-in, packing-at}
 
-abbrev pub read-number : ReadAnswer → ℕ
-read-number R.Read = 0
-read-number (R.Refused e) = number-of e
+-- number and place of a refusal
+abbrev pub number-in : {A : Type 0} → A ⊎ (ℕ × ℕ) → ℕ
+number-in (inl value) = 0
+number-in (inr (number, place)) = number
 
-abbrev pub read-place : ReadAnswer → ℕ
-read-place R.Read = 0
-read-place (R.Refused e) = place-of e
+abbrev pub place-in : {A : Type 0} → A ⊎ (ℕ × ℕ) → ℕ
+place-in (inl value) = 0
+place-in (inr (number, place)) = place
 
-abbrev pub rewritten-length : WriteAnswer → ℕ
-rewritten-length (W.Written n) = n
-rewritten-length (W.Refused e) = 0
+-- what writing, and the clearance, answers where it is not refused
+abbrev pub length-in : ℕ ⊎ (ℕ × ℕ) → ℕ
+length-in (inl length) = length
+length-in (inr refusal) = 0
+
+abbrev pub clearance-in : ℤ ⊎ (ℕ × ℕ) → ℤ
+clearance-in (inl z) = z
+clearance-in (inr refusal) = pos 0
+
+-- the values of reading a sheet
+abbrev pub sheet-values : List ℕ → Instance ⊎ (ℕ × ℕ)
+sheet-values s = read-values (read-result (decode s))
 
 -- what reading and writing again returns and leaves in the room
-abbrev pub rewrite-length : ReadAnswer → Instance → ℕ → ℕ
-rewrite-length R.Read i room = rewritten-length (write-answer i room)
-rewrite-length (R.Refused e) i room = 0
+abbrev pub rewrite-length : Instance ⊎ (ℕ × ℕ) → ℕ → ℕ
+rewrite-length (inl i) room = length-in (write-values (write-answer i room))
+rewrite-length (inr refusal) room = 0
 
-abbrev pub rewrite-room : ReadAnswer → Instance → List ℕ → List ℕ
-rewrite-room R.Read i room = written-room i room
-rewrite-room (R.Refused e) i room = room
+abbrev pub rewrite-room : Instance ⊎ (ℕ × ℕ) → List ℕ → List ℕ
+rewrite-room (inl i) room = written-room i room
+rewrite-room (inr refusal) room = room
 
-abbrev pub position-at : ℕ → ℕ → ℕ → Position
-position-at x y t = record { x = x; y = y; t = t }
+-- the values of writing a value's bytes, and of the clearance in one
+abbrev pub written-values : List ℕ → ℕ → ℕ ⊎ (ℕ × ℕ)
+written-values value room = write-values (write-answer (instance-in value) room)
 
-abbrev pub item-put : Packing → ℕ → Position → Packing
-item-put q k x = record { positions = set (q .positions) k x }
-
--- a packing with item k at a position; as it was, where k is over the limit
-unfoldable pub with-item : Packing → ℕ → Position → Packing
-with-item q k x = cond (ltb k 10) (item-put q k x) q
-
--- the clearance of two items, each at its position, or the sheet's refusal
-abbrev pub sheet-clearance : ReadAnswer → Instance → Packing → ℕ → ℕ → ℕ → ClearanceAnswer
-sheet-clearance R.Read i q u v a = clearance-answer i q u v a
-sheet-clearance (R.Refused e) i q u v a = C.Refused e
-
-abbrev pub clearance-integer : ClearanceAnswer → ℤ
-clearance-integer (C.Clearance z) = z
-clearance-integer (C.Refused e) = pos 0
-
-abbrev pub clearance-number : ClearanceAnswer → ℕ
-clearance-number (C.Clearance z) = 0
-clearance-number (C.Refused e) = number-of e
+abbrev pub cleared-values : List ℕ → List ℕ → ℕ → ℕ → ℕ → ℤ ⊎ (ℕ × ℕ)
+cleared-values value plan u v a = clearance-values (clearance-answer (instance-in value) (packing-at plan 0) u v a)
 
 -- byte i, 256 past the end
 unfoldable pub byte-at : List ℕ → ℕ → ℕ

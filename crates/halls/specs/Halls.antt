@@ -12,10 +12,10 @@ use Rattle.model.specs.Calls.{Answer, budget-spent, no-packing, packing}
 use Rattle.model.specs.Run.{look, step-count}
 use Rattle.model.specs.Trials.{Triple, Call, right-problem, xyt, with-budget}
 use Rattle.refusal.specs.Numbers.{number-of, place-of}
-use Rattle.records.specs.Precedences.{names-items, above}
-use Rattle.records.specs.Reading.{Read, got, refused, word, size, item, items, count, precedence, precedences}
+use Rattle.formats.specs.Reading.{Read, got, refused}
 use Rattle.instance.specs.declared.Instance.{Instance}
-use Rattle.instance.specs.Decode.{instance-of, from-yard, from-precedences, from-items, decode}
+use Rattle.instance.specs.Sheets.{instance-of, decode}
+use Rattle.sheet.specs.Computing.{computing}
 use Rattle.instance.specs.Meaning.{problem-of}
 
 -- a refusal's number and place; or the calls made one after the other
@@ -35,7 +35,7 @@ right-outcome (refused e) (calls cs) = false
 
 -- what the bytes give is what the table says. This opens all that reading and searching compute by
 unfoldable pub right : Case → Bool
-unfolding names-items above word size item items count precedence precedences instance-of from-yard from-precedences from-items decode problem-of ends-before inside-test apart-on-some-axis apart-test ordered-test feasible pairs pair-number domain overlap-bit before-bit after-bit index index-of may-overlap may-before remove-overlap remove-before fixed-before fixed-overlap fix-before fix-overlap joined ending starting greatest-ending greatest-starting rule1 rule2 rule3 rule4 rule5 asks-overlap asks-before slots kept pass passes propagate opening-domains empty inconsistent separated packed undecided choice-pair choice-axis choice branched path-domains starts plan look step-count
+unfolding computing instance-of decode problem-of ends-before inside-test apart-on-some-axis apart-test ordered-test feasible pairs pair-number domain overlap-bit before-bit after-bit index index-of may-overlap may-before remove-overlap remove-before fixed-before fixed-overlap fix-before fix-overlap joined ending starting greatest-ending greatest-starting rule1 rule2 rule3 rule4 rule5 asks-overlap asks-before slots kept pass passes propagate opening-domains empty inconsistent separated packed undecided choice-pair choice-axis choice branched path-domains starts plan look step-count
 right c = right-outcome (decode (c .bytes)) (c .outcome)
 
 -- one call with the program's budget: the answer and its steps

@@ -1,22 +1,23 @@
 // Runs every row of document 01's table "Small halls" and prints what the program prints for it.
 ghost use Prim.Native.Nat.{_≤_};
+ghost use Rattle.sheet.specs.Sheet.{max-items};
 use instance::Checkpoint;
 use instance::Instance;
 use instance::ReadAnswer;
 
 // One call with the program's budget.
 fn run(sheet: &[u8]) {
-    let mut text = [0u8; 218];
+    let mut text = [0u8; report::MAX_TEXT];
     let m = planner::sheet_text(&mut text, sheet);
     io::write_all(1, &text[..m]);
 }
 
 // One call with a budget; returns the checkpoint that it leads to.
 fn resume(instance: Instance, checkpoint: Checkpoint, budget: u32) -> Checkpoint
-    requires { ⌜ instance .«item_count» ≤ 10 ⌝ }
+    requires { ⌜ instance .«item_count» ≤ max-items ⌝ }
 {
     let result = search::search(instance, checkpoint, budget);
-    let mut text = [0u8; 218];
+    let mut text = [0u8; report::MAX_TEXT];
     let m = planner::result_text(&mut text, instance.item_count, result);
     io::write_all(1, &text[..m]);
     result.checkpoint
@@ -24,7 +25,7 @@ fn resume(instance: Instance, checkpoint: Checkpoint, budget: u32) -> Checkpoint
 
 // Budgets 0, 1, 1, 1, each call from the checkpoint that the last one returned.
 fn resume_all(instance: Instance)
-    requires { ⌜ instance .«item_count» ≤ 10 ⌝ }
+    requires { ⌜ instance .«item_count» ≤ max-items ⌝ }
 {
     let a = resume(instance, Instance::opening(), 0);
     let b = resume(instance, a, 1);

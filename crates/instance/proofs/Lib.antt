@@ -1,10 +1,6 @@
 pub mod Arrays
-pub mod Drafts
+pub mod Rows
+pub mod Readers
 pub mod Sheets
-pub mod Inverse
-pub mod Lookup
-pub mod Faults
-pub mod Longest
-pub mod Readings
-pub mod Refusing
 pub mod RoundTrips
+pub mod Readings

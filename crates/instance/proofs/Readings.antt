@@ -1,59 +1,49 @@
--- A sheet reads as an instance, to the end of its bytes, or is refused.
-use mathlib.Core.Bool.{Bool, true, false}
-use mathlib.Core.List.{List, [], _∷_}
+-- A sheet reads as an instance, to the end of its bytes, or is refused: what reading returns.
+use mathlib.Core.List.{List, []}
 use mathlib.Core.Logic.{_↔_, _⊎_, inl, inr}
-use mathlib.Core.Path.{_≡_, refl, sym, ap, _∙_, subst}
+use mathlib.Core.Path.{_≡_, refl, sym, ap, _∙_}
 use Prim.Native.Nat.{ℕ}
 use native.Mathlib.Omega.{arith}
-use lib.Dec.{ltb}
 use lib.ListN.{length}
 use Rattle.refusal.specs.declared.Refusal.{Refusal}
-use Rattle.records.specs.Reading.{Read, got, refused, after, unless, byte, stands, field, size}
+use Rattle.refusal.specs.Numbers.{number-of, place-of}
+use Rattle.formats.specs.Formats.{whole}
+use Rattle.formats.specs.Reading.{Read, got, refused, run, read-as}
+use Rattle.formats.proofs.Run.{read-as-refused}
+use Rattle.formats.proofs.Laws.{whole-ends}
+use Rattle.sheet.specs.Faults.{Fault, FirstFault}
+use Rattle.sheet.specs.Sheet.{Sheet, sheet}
+use Rattle.sheet.specs.Told.{sheet-at}
+use Rattle.sheet.proofs.Faults.{refused-first, faultless-got, faultless-reads}
 use Rattle.instance.specs.declared.Instance.{Instance}
-use Rattle.instance.specs.declared.ReadAnswer.the-variants as A
-use Rattle.instance.specs.Decode.{item-list, precedence-list, ended, from-yard}
-use Rattle.instance.specs.Decode.{from-precedences, from-items, decode, read-result}
+use Rattle.instance.specs.declared.ReadAnswer.the-variants as R
+use Rattle.instance.specs.declared.ReadResult.{ReadResult}
+use Rattle.instance.specs.Sheets.{instance-of, decode}
+use Rattle.instance.specs.Answers.{read-result, read-values}
 use Rattle.instance.specs.Reads.{Reads}
-use Rattle.instance.proofs.Faults.{got-here, here-length}
-use Rattle.instance.proofs.Lookup.{was-read, was-refused}
+use Rattle.instance.proofs.RoundTrips.{read-sheet}
 
--- a reading of a whole sheet that leaves no bytes
-abbrev Ends : Read Instance → Type 0
-Ends (got i at rest) = rest ≡ []
-Ends (refused e) = Unit {0}
+-- a reading that was answered "read"
+pub record WasRead (r : Read Instance) (i : Instance) : Type 0 where
+  pub place : ℕ
+  pub left : List ℕ
+  pub was : r ≡ got i place left
 
-ends-after : {A : Type 0} (r : Read A) (next : A → ℕ → List ℕ → Read Instance)
-    → ((x : A) (at : ℕ) (rest : List ℕ) → Ends (next x at rest)) → Ends (after r next)
-ends-after (got x at rest) next f = f x at rest
-ends-after (refused e) next f = tt
+pub was-read : (r : Read Instance) (result : ReadResult) → result ≡ read-result r → result .answer ≡ R.Read → WasRead r (result .instance)
+was-read (got i at rest) result e h = record { place = at; left = rest; was = rw e }
+was-read (refused e′) result e h = let z : _≡_ {A = ℕ} 0 1 = cc in absurd (omega arith)
 
-ends-unless : (b : Bool) (e : Refusal) (r : Read Instance) → Ends r → Ends (unless b e r)
-ends-unless true e r f = tt
-ends-unless false e r f = f
-
--- 7: "bytes after the last field"
-ends-ended : (i : Instance) (at : ℕ) (rest : List ℕ) → Ends (ended i at rest)
-ends-ended i at [] = refl
-ends-ended i at (b ∷ rest) = tt
-
-decode-ends : (s : List ℕ) → Ends (decode s)
-unfolding decode from-items from-precedences from-yard
-decode-ends s =
-    ends-after (byte 0 s) _ λ map at₁ rest₁.
-    ends-unless (ltb 63 map) _ _
-    (ends-after (size map at₁ rest₁) _ λ container at₂ rest₂.
-    ends-after (item-list (stands map 8) at₂ rest₂) _ λ is at₃ rest₃.
-    ends-after (precedence-list (length is) (stands map 16) at₃ rest₃) _ λ os at₄ rest₄.
-    ends-after (field 0 (stands map 32) at₄ rest₄) _ λ yard at₅ rest₅. ends-ended _ at₅ rest₅)
+pub was-refused : (r : Read Instance) (result : ReadResult) {e : Refusal} → result ≡ read-result r → result .answer ≡ R.Refused e → r ≡ refused e
+was-refused (got i at rest) result q h = let z : _≡_ {A = ℕ} 0 1 = cc in absurd (omega arith)
+was-refused (refused e) result q h = cc
 
 module _ (s : List ℕ) {i : Instance} {at : ℕ} {rest : List ℕ} (h : decode s ≡ got i at rest) where
   -- whatever reading leaves, it is at the end of the bytes with none left
   pub reads-whole : decode s ≡ got i (length s) []
   reads-whole =
-      let none : rest ≡ [] = subst Ends h (decode-ends s) in
-      let η = got-here s h in
-      let l : at ≡ length s = omega (arith, η .inside, here-length s η, ap length none) in
-      h ∙ rw (none, l)
+      let (x, r, e) = read-sheet s h in
+      let (p, l) = whole-ends sheet s r in
+      rw (← p, ← l) h
 
   abbrev pub reads-as : Reads s
   reads-as = record { instance = i; reads = reads-whole }
@@ -65,12 +55,54 @@ read-or-refused s = go (decode s) refl
     go (got i at rest) h = inl (reads-as s h)
     go (refused e) h = inr (e, h)
 
+-- 1 to 7: reading refuses exactly the first fault of the table
+pub decode-refuses : (s : List ℕ) (e : Refusal) → (decode s ≡ refused e) ↔ FirstFault s e
+unfolding decode
+decode-refuses s e =
+    let (to, from) = read-as-refused instance-of (run (whole sheet) 0 s) e in
+    let (there, back) = refused-first s e in
+    ((λ h. there (to h)), (λ f. from (back f)))
+
+-- number and place among the values of a reading
+abbrev number-in : Instance ⊎ (ℕ × ℕ) → ℕ
+number-in (inl i) = 0
+number-in (inr (n, place)) = n
+
+abbrev place-in : Instance ⊎ (ℕ × ℕ) → ℕ
+place-in (inl i) = 0
+place-in (inr (n, place)) = place
+
 -- What reading returns: the instance that the sheet reads as, or the refusal.
 module _ (s : List ℕ) where
-  pub read-reads : (i : Instance) → (read-result (decode s) ≡ record { answer = A.Read; instance = i })
-      ↔ (decode s ≡ got i (length s) [])
-  read-reads i = ((λ e. reads-whole s (was-read (decode s) _ (sym e) refl .was)), (λ h. rw h))
+  pub read-reads : (i : Instance) → read-values (read-result (decode s)) ≡ inl i → decode s ≡ got i (length s) []
+  read-reads i k = go (decode s) refl k
+    where
+      go : (r : Read Instance) → decode s ≡ r → read-values (read-result r) ≡ inl i → decode s ≡ got i (length s) []
+      go (got j at rest) h k = let q : j ≡ i = cc in let w : decode s ≡ got i at rest = h ∙ rw q in reads-whole s w
+      go (refused e) h k = let z : _≡_ {A = ℕ} 0 1 = cc in absurd (omega arith)
 
-  pub read-refuses : (e : Refusal)
-      → (read-result (decode s) .answer ≡ A.Refused e) ↔ (decode s ≡ refused e)
-  read-refuses e = ((λ k. was-refused (decode s) _ refl k), (λ h. rw h))
+  -- number and place of the first fault
+  pub read-refuses : (n place : ℕ) → (read-values (read-result (decode s)) ≡ inr (n, place))
+      ↔ ((e : Refusal) × FirstFault s e × (n ≡ number-of e) × (place ≡ place-of e))
+  read-refuses n place = (fore (decode s) refl, λ (e, f, p, q). rw (decode-refuses s e .1 f, p, q))
+    where
+      fore : (r : Read Instance) → decode s ≡ r → read-values (read-result r) ≡ inr (n, place)
+          → (e : Refusal) × FirstFault s e × (n ≡ number-of e) × (place ≡ place-of e)
+      fore (got i at rest) h k = let z : _≡_ {A = ℕ} 0 1 = cc in absurd (omega arith)
+      fore (refused e) h k = (e, decode-refuses s e .0 h, sym (ap number-in k), sym (ap place-in k))
+
+  -- the instance that the bytes tell, where there is none
+  pub read-answers : (i : Instance) → (read-values (read-result (decode s)) ≡ inl i)
+      ↔ (((e : Refusal) → Fault s e → ⊥) × (i ≡ instance-of (sheet-at s)))
+  unfolding decode
+  read-answers i = (fore (run (whole sheet) 0 s) refl, λ (none, q). rw (faultless-got s none, q))
+    where
+      fore : (r : Read Sheet) → run (whole sheet) 0 s ≡ r → read-values (read-result (read-as instance-of r)) ≡ inl i
+          → ((e : Refusal) → Fault s e → ⊥) × (i ≡ instance-of (sheet-at s))
+      fore (got x at rest) h k =
+          let (p, l) = whole-ends sheet s h in
+          let none = faultless-reads s .0 (x, h ∙ rw (p, l)) in
+          let q : x ≡ sheet-at s = cc (h, faultless-got s none) in
+          let j : instance-of x ≡ i = cc in
+          (none, sym j ∙ ap instance-of q)
+      fore (refused e) h k = let z : _≡_ {A = ℕ} 0 1 = cc in absurd (omega arith)

@@ -1,65 +1,85 @@
--- Reading and writing undo one another: what the functions return, and what is left in the room.
-use mathlib.Core.List.{List, _++_}
-use mathlib.Core.Bool.{true}
-use mathlib.Core.Path.{_≡_, refl, sym}
-use Prim.Native.Nat.{ℕ, _≤_}
-use lib.ListN.{length, take, drop}
+-- Reading and writing undo one another.
+use mathlib.Core.Bool.{true, _&&_}
+use mathlib.Core.List.{List, [], _++_}
+use mathlib.Core.Path.{_≡_, refl, sym, ap, _∙_, subst}
+use Prim.Native.Nat.{ℕ, _+_, _-_, _≤_}
+use native.Mathlib.Omega.{arith}
+use lib.Dec.{leb}
+use lib.ListN.{length, length-append, length-replicate}
 use lib.Seq.{take-append-seam}
-use borrow.Author.Tests.{le-leb}
-use Rattle.records.specs.Bounds.{Bytes}
+use borrow.Author.Tests.{leb-true}
+use Rattle.formats.specs.Reading.{Bytes, Read, got, run}
+use Rattle.formats.specs.Formats.{Format, whole}
+use Rattle.formats.proofs.Laws.{both-true}
+use Rattle.formats.proofs.Run.{read-as-got}
+use Rattle.sheet.specs.Sheet.{Sheet, sheet, max-items, max-precedences}
+use Rattle.sheet.proofs.Laws as Laws
+use Rattle.sheet.proofs.Valid.{sheet-valid}
 use Rattle.instance.specs.declared.Instance.{Instance}
-use Rattle.instance.specs.declared.ReadAnswer.the-variants.{Read}
-use Rattle.instance.specs.declared.WriteAnswer.the-variants.{Written}
 use Rattle.instance.specs.Valid.{valid, items-of, precedences-of}
-use Rattle.instance.specs.Decode.{instance-of, decode, read-result}
-use Rattle.instance.specs.Encode.{encode, write-answer, written-room}
+use Rattle.instance.specs.Sheets.{instance-of, sheet-of, decode, encode}
 use Rattle.instance.specs.Reads.{Full, SameInstance}
-use Rattle.instance.proofs.Sheets.{items-counted, precedences-counted}
-use Rattle.instance.proofs.Inverse.{made-items, made-precedences, blanked}
-use Rattle.instance.proofs.Inverse.{decode-encodes, read-valid, encode-decodes}
-use Rattle.instance.proofs.Readings.{read-reads}
-use Rattle.instance.proofs.Refusing.{write-writes}
+use Rattle.instance.proofs.Sheets.{valid-says, items-counted, precedences-counted, sheet-of-valid}
 
-fills : (i : Instance) (room : List ℕ) → valid i ≡ true → length (encode i) ≤ length room
-    → written-room i room ≡ encode i ++ drop (length (encode i)) room
-unfolding written-room
-fills i room v l = rw (v, le-leb (length (encode i)) (length room) l)
-
--- an instance with its entries past the counts as 0 is the same sheet
-same-blanked : (i : Instance) → valid i ≡ true → Full i → SameInstance i (blanked i)
+-- the instance of a sheet says what the sheet says
+sheet-back : (x : Sheet) → sheet-of (instance-of x) ≡ x
 unfolding instance-of
-same-blanked i v full =
-    let is = items-of i in
-    let os = precedences-of i in
+sheet-back x = rw (take-append-seam, take-append-seam)
+
+instance-valid : (x : Sheet) → valid (instance-of x) ≡ sheet .valid x
+unfolding valid instance-of
+instance-valid x = sym (sheet-valid x ∙ rw (take-append-seam, take-append-seam))
+
+-- its arrays are full
+filled-full : (x : Sheet) → valid (instance-of x) ≡ true → Full (instance-of x)
+unfolding instance-of
+filled-full x v =
+    let σ = valid-says (instance-of x) v in
     record {
-      container = refl;
-      item-count = sym (items-counted i v full);
-      items = sym (made-items (i .container) is os (i .«yard_number»));
-      precedence-count = sym (precedences-counted i v full);
-      precedences = sym (made-precedences (i .container) is os (i .«yard_number»));
-      yard-number = refl;
+      items-room = simp (length-append, length-replicate) (omega (arith, σ .items-few));
+      precedences-room = simp (length-append, length-replicate) (omega (arith, σ .precedences-few));
     }
 
--- "A written sheet reads back as the same sheet"
-pub written-read-back : (i : Instance) → Full i → (room : List ℕ) (n : ℕ)
-    → write-answer i (length room) ≡ Written n
-    → (j : Instance)
-    × (read-result (decode (take n (written-room i room))) ≡ record { answer = Read; instance = j })
-    × SameInstance i j
-written-read-back i full room n e =
-    let (v, l, m) = write-writes i (length room) n .0 e in
-    let back = encode-decodes i v full in
-    (blanked i, rw (m, fills i room v l, take-append-seam, back), same-blanked i v full)
+module _ (s : List ℕ) {i : Instance} {at : ℕ} {rest : List ℕ} (h : decode s ≡ got i at rest) where
+  -- the sheet that was read
+  pub read-sheet : (x : Sheet) × (run (whole sheet) 0 s ≡ got x at rest) × (instance-of x ≡ i)
+  unfolding decode
+  read-sheet = read-as-got instance-of (run (whole sheet) 0 s) h
 
--- "bytes that read as a sheet are written again as those bytes"; the room past them stays
-pub read-written-again : (s : List ℕ) → Bytes s → (i : Instance)
-    → read-result (decode s) ≡ record { answer = Read; instance = i }
-    → (room : List ℕ) → length s ≤ length room
-    → (write-answer i (length room) ≡ Written (length s))
-    × (written-room i room ≡ s ++ drop (length s) room)
-read-written-again s bytes i e room l =
-    let h = read-reads s i .0 e in
-    let v = read-valid s bytes h in
-    let same = decode-encodes s bytes h in
-    let k : length (encode i) ≤ length room = rw same l in
-    rw (← same) (write-writes i (length room) _ .1 (v, k, refl), fills i room v k)
+  -- what was read is valid, and its arrays are full
+  pub read-valid : Bytes s → valid i ≡ true
+  read-valid b =
+      let (x, r, e) = read-sheet in
+      subst (λ (j : Instance). valid j ≡ true) e (instance-valid x ∙ Laws.read-valid s b r)
+
+  pub read-full : Bytes s → Full i
+  read-full b =
+      let (x, r, e) = read-sheet in
+      subst Full e (filled-full x (instance-valid x ∙ Laws.read-valid s b r))
+
+  -- "bytes that read as a sheet are written again as those bytes"
+  pub decode-encodes : Bytes s → encode i ≡ s
+  unfolding encode
+  decode-encodes b =
+      let (x, r, e) = read-sheet in
+      subst (λ (j : Instance). sheet .bytes (sheet-of j) ≡ s) e (ap (sheet .bytes) (sheet-back x) ∙ Laws.read-written s b r)
+
+-- the instance with its entries past the counts blank
+abbrev pub blanked : Instance → Instance
+blanked i = instance-of (sheet-of i)
+
+-- "A written sheet reads back as the same sheet"
+pub encode-decodes : (i : Instance) → valid i ≡ true → Full i → decode (encode i) ≡ got (blanked i) (length (encode i)) []
+unfolding decode encode
+encode-decodes i v full = rw (Laws.written-read (sheet-of i) (sheet-of-valid i v full))
+
+pub same-blanked : (i : Instance) → valid i ≡ true → Full i → SameInstance i (blanked i)
+unfolding instance-of
+same-blanked i v full = record {
+  container = refl;
+  item-count = sym (items-counted i v full);
+  items = sym (ap (λ (x : Sheet). x .items) (sheet-back (sheet-of i)));
+  precedence-count = sym (precedences-counted i v full);
+  precedences = sym (ap (λ (x : Sheet). x .precedences) (sheet-back (sheet-of i)));
+  yard-number = refl;
+}

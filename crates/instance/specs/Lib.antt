@@ -1,9 +1,8 @@
 pub mod Valid
 pub mod Values
 pub mod Meaning
-pub mod Decode
-pub mod Encode
-pub mod Record
-pub mod Faults
+pub mod Sheets
+pub mod Lists
+pub mod Drafts
+pub mod Answers
 pub mod Reads
-pub mod Refusing

@@ -3,9 +3,9 @@ use mathlib.Core.List.{map}
 use Prim.Native.Nat.{ℕ, zero, suc}
 use lib.ListN.{getD}
 use Rattle.model.specs.Problem as M
-use Rattle.records.specs.declared.Size.{Size}
-use Rattle.records.specs.declared.Precedence.{Precedence}
-use Rattle.records.specs.Sizes.{no-item}
+use Rattle.parts.specs.declared.Size.{Size}
+use Rattle.parts.specs.declared.Precedence.{Precedence}
+use Rattle.parts.specs.Sizes.{no-item}
 use Rattle.instance.specs.declared.Instance.{Instance}
 use Rattle.instance.specs.declared.Position.{Position}
 use Rattle.instance.specs.declared.Packing.{Packing}

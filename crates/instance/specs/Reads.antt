@@ -3,10 +3,11 @@ use mathlib.Core.List.{List, []}
 use mathlib.Core.Path.{_≡_}
 use Prim.Native.Nat.{ℕ}
 use lib.ListN.{length}
-use Rattle.records.specs.Reading.{got}
+use Rattle.formats.specs.Reading.{got}
+use Rattle.sheet.specs.Sheet.{max-items, max-precedences}
 use Rattle.instance.specs.declared.Instance.{Instance}
 use Rattle.instance.specs.Valid.{items-of, precedences-of}
-use Rattle.instance.specs.Decode.{decode}
+use Rattle.instance.specs.Sheets.{decode}
 
 -- "bytes that read as a sheet": the instance, read to the end of the bytes
 pub record Reads (sheet : List ℕ) : Type 0 where
@@ -15,8 +16,8 @@ pub record Reads (sheet : List ℕ) : Type 0 where
 
 -- "10 pieces, 90 orders": a value of the type has that many entries, whatever it counts
 pub record Full (i : Instance) : Type 0 where
-  pub items-room : length (i .items) ≡ 10
-  pub precedences-room : length (i .precedences) ≡ 90
+  pub items-room : length (i .items) ≡ max-items
+  pub precedences-room : length (i .precedences) ≡ max-precedences
 
 -- "the same sheet": "Entries of a sheet past its counts are no part of it"
 pub record SameInstance (i j : Instance) : Type 0 where

@@ -4,11 +4,12 @@ use mathlib.Core.List.{List}
 use Prim.Native.Nat.{ℕ}
 use lib.Dec.{leb}
 use lib.ListN.{take}
-use Rattle.records.specs.declared.Item.{Item}
-use Rattle.records.specs.declared.Precedence.{Precedence}
-use Rattle.records.specs.declared.Previous.the-variants.{Nothing}
-use Rattle.records.specs.Precedences.{all-stand}
-use Rattle.records.specs.Sizes.{positive, all-have-size}
+use Rattle.parts.specs.declared.Item.{Item}
+use Rattle.parts.specs.declared.Precedence.{Precedence}
+use Rattle.parts.specs.declared.Previous.the-variants.{Nothing}
+use Rattle.parts.specs.Precedences.{all-stand}
+use Rattle.parts.specs.Sizes.{positive, all-have-size}
+use Rattle.sheet.specs.Sheet.{max-items, max-precedences}
 use Rattle.instance.specs.declared.Instance.{Instance}
 
 -- "Entries of a sheet past its counts are no part of it"
@@ -21,8 +22,8 @@ precedences-of i = take (i .«precedence_count») (i .precedences)
 -- none of: "over 10 pieces, over 90 orders, a measure 0, or an order that would get 5 or 6"
 unfoldable pub valid : Instance → Bool
 valid i =
-    leb (i .«item_count») 10
-    && (leb (i .«precedence_count») 90
+    leb (i .«item_count») max-items
+    && (leb (i .«precedence_count») max-precedences
     && (positive (i .container)
     && (all-have-size (items-of i)
     && all-stand (i .«item_count») Nothing (precedences-of i))))

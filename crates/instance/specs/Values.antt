@@ -1,5 +1,6 @@
 -- Values that the contracts name.
 use lib.ListN.{replicate}
+use Rattle.sheet.specs.Sheet.{max-items, max-branches}
 use Rattle.instance.specs.declared.Position.{Position}
 use Rattle.instance.specs.declared.Packing.{Packing}
 use Rattle.instance.specs.declared.Checkpoint.{Checkpoint}
@@ -7,11 +8,11 @@ use Rattle.instance.specs.declared.Status.the-variants.{Open}
 
 -- "The opening note is open with an empty row"
 unfoldable pub opening-checkpoint : Checkpoint
-opening-checkpoint = record { status = Open; length = 0; branches = replicate 270 0 }
+opening-checkpoint = record { status = Open; length = 0; branches = replicate max-branches 0 }
 
 abbrev pub origin : Position
 origin = record { x = 0; y = 0; t = 0 }
 
 -- "all ten are 0"
 unfoldable pub origin-packing : Packing
-origin-packing = record { positions = replicate 10 origin }
+origin-packing = record { positions = replicate max-items origin }

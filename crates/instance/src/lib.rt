@@ -2,25 +2,23 @@
 ghost use mathlib.Core.Path.{_≡_};
 ghost use Rattle.instance.specs.Valid.{valid};
 ghost use Rattle.instance.specs.Values.{opening-checkpoint, origin-packing};
-ghost use lib.ListN.{length};
-ghost use Rattle.instance.specs.Decode.{decode, read-result};
-ghost use Rattle.instance.specs.Encode.{write-answer, written-room};
-ghost use Rattle.instance.specs.Reads.{Full};
-use records::Item;
-use records::Precedence;
-use records::Size;
+ghost use Rattle.instance.specs.Sheets.{decode};
+ghost use Rattle.instance.specs.Answers.{read-result};
+use parts::Item;
+use parts::Precedence;
+use parts::Size;
+use parts::SizeRead;
 use refusal::Refusal;
 
-pub mod label;
+mod lists;
 mod read;
-mod write;
 
 // A sheet. Entries past the counts are no part of it.
 pub struct Instance {
     pub container: Size,
-    pub items: [Item; 10],
+    pub items: [Item; Instance::MAX_ITEMS],
     pub item_count: usize,
-    pub precedences: [Precedence; 90],
+    pub precedences: [Precedence; Instance::MAX_PRECEDENCES],
     pub precedence_count: usize,
     pub yard_number: u16,
 }
@@ -34,7 +32,7 @@ pub struct Position {
 
 // A plan. Positions past an instance's count are no part of it.
 pub struct Packing {
-    pub positions: [Position; 10],
+    pub positions: [Position; Instance::MAX_ITEMS],
 }
 
 // Whether a search is still open, or how it ended.
@@ -48,7 +46,7 @@ pub enum Status {
 pub struct Checkpoint {
     pub status: Status,
     pub length: usize,
-    pub branches: [u8; 270],
+    pub branches: [u8; Instance::MAX_BRANCHES],
 }
 
 pub enum ReadAnswer {
@@ -62,24 +60,15 @@ pub struct ReadResult {
     pub instance: Instance,
 }
 
-// What writing gives: how many bytes were written.
-pub enum WriteAnswer {
-    Written(usize),
-    Refused(Refusal),
-}
-
-// A refusal in numbers; 0 and 0 where nothing is refused.
-pub struct RefusalCode {
-    pub number: u8,
-    pub place: usize,
-}
-
 impl Instance {
     pub const MAX_ITEMS: usize = 10;
 
     pub const MAX_PRECEDENCES: usize = 90;
 
     pub const MAX_BRANCHES: usize = 270;
+
+    // "The longest sheet has 261 bytes."
+    pub const MAX_BYTES: usize = 261;
 
     // The opening checkpoint: open with an empty path.
     pub fn opening() -> Checkpoint
@@ -93,26 +82,26 @@ impl Instance {
         }
     }
 
-    // Reads a sheet.
+    // Reads a sheet: the map byte and the container here, what follows them in `read`.
     pub fn read(bytes: &[u8]) -> ReadResult
         ensures { λ r. ⌜ r ≡ read-result (decode (now (bytes .entry))) ⌝ }
     {
-        read::read_sheet(bytes)
-    }
-
-    // Writes the sheet into the lent room, if it is an instance and the room is long enough.
-    pub fn write(self, out: &mut [u8]) -> WriteAnswer
-        ensures { λ r. ⌜ r ≡ write-answer self (length (now (out .entry))) ⌝ }
-        ensures { λ _. ⌜ now (out .exit) ≡ written-room self (now (out .entry)) ⌝ }
-        ensures { λ _. ⌜ Full self ⌝ }
-    {
-        if !self.is_valid() {
-            return WriteAnswer::Refused(Refusal::InvalidInstance);
+        if bytes.len() < 1 {
+            return read::refuse(Refusal::EndsEarly(0));
         }
-        if out.len() < write::sheet_len(self) {
-            return WriteAnswer::Refused(Refusal::BadArgument);
+        let map = bytes[0];
+        if 63 < map {
+            return read::refuse(Refusal::UnknownBit(0));
         }
-        WriteAnswer::Written(write::write_sheet(out, self))
+        match parts::read::read_size(&bytes[1..], 1, map) {
+            SizeRead::Refused(e) => read::refuse(e),
+            SizeRead::Value(container, used) => {
+                let at = 1 + used;
+                let mut draft = read::empty();
+                draft.container = container;
+                read::read_from_items(&bytes[at..], at, map, draft)
+            }
+        }
     }
 
     // Whether the value is an instance: none of number 9's conditions holds.
@@ -128,15 +117,15 @@ impl Instance {
             return false;
         }
         let container = self.container;
-        if !records::stand::is_positive(container) {
+        if !parts::valid::is_positive(container) {
             return false;
         }
         let items = self.items;
-        if !records::stand::all_positive(items, n) {
+        if !lists::all_positive(items, n) {
             return false;
         }
         let precedences = self.precedences;
-        records::stand::all_stand_in(precedences, m, n)
+        lists::all_in_order(precedences, m, n)
     }
 }
 

@@ -2,7 +2,7 @@
 use mathlib.Core.Path.{_≡_, refl}
 use mathlib.Core.Logic.{_≢_}
 use Prim.Native.Nat.{ℕ, zero, suc}
-use Rattle.records.specs.declared.Size.{Size}
+use Rattle.parts.specs.declared.Size.{Size}
 use Rattle.instance.specs.declared.Position.{Position}
 use Rattle.instance.specs.Meaning.{measure, start}
 

@@ -12,8 +12,8 @@ use Rattle.model.specs.Below.{some-below, all-below, all-in}
 use Rattle.model.specs.Problem.{Problem, Positions, ends-before, inside-test, apart-on-some-axis, apart-test, ordered-test, time}
 use Rattle.model.specs.Problem as M
 use Rattle.model.proofs.Below.{all-at, all-of, all-cons, some-at, some-of, or-case, or-left, or-right}
-use Rattle.records.specs.declared.Precedence.{Precedence}
-use Rattle.records.specs.declared.Item.{Item}
+use Rattle.parts.specs.declared.Precedence.{Precedence}
+use Rattle.parts.specs.declared.Item.{Item}
 use Rattle.instance.specs.declared.Instance.{Instance}
 use Rattle.instance.specs.declared.Packing.{Packing}
 use Rattle.instance.specs.declared.Position.{Position}

@@ -10,11 +10,11 @@ use lib.ListN.{length, getD, length-take, List·getD-eq-default}
 use lib.Seq.{getD-take}
 use borrow.Author.Tests.{leb-true, ltb-true, ltb-false}
 use Rattle.model.proofs.Below.{and-both}
-use Rattle.records.specs.declared.Precedence.{Precedence}
-use Rattle.records.specs.declared.Previous.{Previous}
-use Rattle.records.specs.declared.Previous.the-variants.{Nothing, Was}
-use Rattle.records.specs.Precedences.{names-items, rises, all-stand}
-use Rattle.records.specs.Sizes.{positive, all-have-size, no-precedence}
+use Rattle.parts.specs.declared.Precedence.{Precedence}
+use Rattle.parts.specs.declared.Previous.{Previous}
+use Rattle.parts.specs.declared.Previous.the-variants.{Nothing, Was}
+use Rattle.parts.specs.Precedences.{names-items, rises, all-stand}
+use Rattle.parts.specs.Sizes.{positive, all-have-size, no-precedence}
 use Rattle.instance.specs.declared.Instance.{Instance}
 use Rattle.instance.specs.Valid.{valid, items-of, precedences-of}
 use Rattle.packing.specs.Parts.{Named}

@@ -6,9 +6,9 @@ use lib.Dec.{leb}
 use lib.ListN.{getD}
 use Rattle.model.specs.Below.{all-below}
 use Rattle.model.specs.Problem.{Problem, Positions, apart-on-some-axis, time}
-use Rattle.records.specs.declared.Item.{Item}
-use Rattle.records.specs.declared.Precedence.{Precedence}
-use Rattle.records.specs.Sizes.{no-item, no-precedence}
+use Rattle.parts.specs.declared.Item.{Item}
+use Rattle.parts.specs.declared.Precedence.{Precedence}
+use Rattle.parts.specs.Sizes.{no-item, no-precedence}
 use Rattle.instance.specs.declared.Position.{Position}
 use Rattle.instance.specs.Values.{origin}
 use Rattle.instance.specs.Meaning.{measure, start}

@@ -1,12 +1,14 @@
 // Starts, measures and ends on one of the axes x 0, y 1, t 2.
+ghost use Rattle.sheet.specs.Sheet.{max-items};
 ghost use mathlib.Core.Path.{_≡_};
 ghost use Prim.Native.Nat.{_<_};
 ghost use lib.Dec.{leb};
 ghost use Rattle.instance.specs.Meaning.{measure, start};
 ghost use Rattle.packing.specs.Parts.{placed-at, end-of};
+use instance::Instance;
 use instance::Position;
-use records::Item;
-use records::Size;
+use parts::Item;
+use parts::Size;
 
 pub fn measure_on(size: Size, axis: u8) -> u16
     ensures { λ r. ⌜ r ≡ measure axis size ⌝ }
@@ -34,8 +36,12 @@ pub struct Placed {
     pub position: Position,
 }
 
-pub fn placed_item(items: [Item; 10], positions: [Position; 10], u: usize) -> Placed
-    requires { ⌜ u < 10 ⌝ }
+pub fn placed_item(
+    items: [Item; Instance::MAX_ITEMS],
+    positions: [Position; Instance::MAX_ITEMS],
+    u: usize,
+) -> Placed
+    requires { ⌜ u < max-items ⌝ }
     ensures { λ r. ⌜ r ≡ placed-at items positions u ⌝ }
 {
     let item = items[u];

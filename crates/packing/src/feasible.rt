@@ -1,4 +1,5 @@
 // The three conditions of a feasible packing.
+ghost use Rattle.sheet.specs.Sheet.{max-items, max-precedences};
 ghost use mathlib.Core.Bool.{true};
 ghost use mathlib.Core.Path.{_≡_};
 ghost use Prim.Native.Nat.{_≤_, _<_};
@@ -11,12 +12,12 @@ use crate::axes;
 use instance::Instance;
 use instance::Packing;
 use instance::Position;
-use records::Item;
-use records::Precedence;
+use parts::Item;
+use parts::Precedence;
 
 // On one axis every item ends within the container.
 fn inside_on_axis(instance: Instance, packing: Packing, axis: u8) -> bool
-    requires { ⌜ instance .«item_count» ≤ 10 ⌝ }
+    requires { ⌜ instance .«item_count» ≤ max-items ⌝ }
     ensures { λ r. ⌜ r ≡ inside-on (problem-of instance) (positions-of packing) axis ⌝ }
 {
     let container = instance.container;
@@ -37,7 +38,7 @@ fn inside_on_axis(instance: Instance, packing: Packing, axis: u8) -> bool
 
 // On every axis every item ends within the container.
 pub fn inside(instance: Instance, packing: Packing) -> bool
-    requires { ⌜ instance .«item_count» ≤ 10 ⌝ }
+    requires { ⌜ instance .«item_count» ≤ max-items ⌝ }
     ensures { λ r. ⌜ r ≡ inside-test (problem-of instance) (positions-of packing) ⌝ }
 {
     let mut axis: u8 = 0;
@@ -52,7 +53,7 @@ pub fn inside(instance: Instance, packing: Packing) -> bool
 
 // Two items are apart on some axis.
 fn apart_on_some_axis(instance: Instance, packing: Packing, u: usize, v: usize) -> bool
-    requires { ⌜ (u < 10) × (v < 10) ⌝ }
+    requires { ⌜ (u < max-items) × (v < max-items) ⌝ }
     ensures { λ r. ⌜ r ≡ apart-on-some-axis (problem-of instance) (positions-of packing) u v ⌝ }
 {
     let items = instance.items;
@@ -74,7 +75,7 @@ fn apart_on_some_axis(instance: Instance, packing: Packing, u: usize, v: usize) 
 
 // An item is apart from every item of a lower number.
 fn apart_from_lower_items(instance: Instance, packing: Packing, u: usize) -> bool
-    requires { ⌜ u < 10 ⌝ }
+    requires { ⌜ u < max-items ⌝ }
     ensures { λ r. ⌜ r ≡ apart-from-lower (problem-of instance) (positions-of packing) u ⌝ }
 {
     let mut v: usize = 0;
@@ -89,7 +90,7 @@ fn apart_from_lower_items(instance: Instance, packing: Packing, u: usize) -> boo
 
 // Each two items are apart on some axis.
 pub fn apart(instance: Instance, packing: Packing) -> bool
-    requires { ⌜ instance .«item_count» ≤ 10 ⌝ }
+    requires { ⌜ instance .«item_count» ≤ max-items ⌝ }
     ensures { λ r. ⌜ r ≡ apart-test (problem-of instance) (positions-of packing) ⌝ }
 {
     let n = instance.item_count;
@@ -105,12 +106,12 @@ pub fn apart(instance: Instance, packing: Packing) -> bool
 
 // The first m precedences are kept on t.
 fn all_are_kept(
-    items: [Item; 10],
-    positions: [Position; 10],
-    precedences: [Precedence; 90],
+    items: [Item; Instance::MAX_ITEMS],
+    positions: [Position; Instance::MAX_ITEMS],
+    precedences: [Precedence; Instance::MAX_PRECEDENCES],
     m: usize,
 ) -> bool
-    requires { ⌜ (m ≤ 90) × Named 10 m precedences ⌝ }
+    requires { ⌜ (m ≤ max-precedences) × Named max-items m precedences ⌝ }
     ensures { λ r. ⌜ r ≡ all-kept items positions (take m precedences) ⌝ }
 {
     let mut i: usize = 0;

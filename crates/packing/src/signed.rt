@@ -1,4 +1,5 @@
 // Signed differences of starts and ends.
+ghost use Rattle.sheet.specs.Sheet.{max-items};
 ghost use mathlib.Core.Path.{_≡_};
 ghost use Prim.Native.Nat.{_<_};
 ghost use lib.IntN.{pos, _-ℤ_};
@@ -26,7 +27,7 @@ fn from_end(item: Placed, other: Placed, axis: u8) -> i32
 }
 
 pub fn clearance_on(instance: Instance, packing: Packing, u: usize, v: usize, axis: u8) -> i32
-    requires { ⌜ (u < 10) × (v < 10) ⌝ }
+    requires { ⌜ (u < max-items) × (v < max-items) ⌝ }
     ensures { λ r. ⌜ r ≡ clearance-between (problem-of instance) (positions-of packing) axis u v ⌝ }
 {
     let items = instance.items;

@@ -3,14 +3,15 @@ use mathlib.Core.Path.{_≡_, refl, sym, ap, _∙_}
 use mathlib.Core.List.{List}
 use Prim.Native.Nat.{ℕ, _≤_}
 use Rattle.refusal.specs.declared.Refusal.{Refusal}
-use Rattle.records.specs.Bounds.{Bytes}
+use Rattle.formats.specs.Reading.{Bytes}
 use Rattle.instance.specs.declared.ReadResult.{ReadResult}
 use Rattle.instance.specs.declared.ReadAnswer.the-variants as A
-use Rattle.instance.specs.Decode.{decode, read-result}
+use Rattle.instance.specs.Sheets.{decode}
+use Rattle.instance.specs.Answers.{read-result}
 use Rattle.instance.specs.Values.{opening-checkpoint}
 use Rattle.instance.proofs.Sheets.{valid-says}
-use Rattle.instance.proofs.Inverse.{read-valid}
-use Rattle.instance.proofs.Lookup.{was-read, was-refused}
+use Rattle.instance.proofs.RoundTrips.{read-valid}
+use Rattle.instance.proofs.Readings.{was-read, was-refused}
 use Rattle.search.specs.Results.{search-result}
 use Rattle.search.specs.declared.Answer.the-variants as S
 use Rattle.search.specs.declared.SearchResult.{SearchResult}
@@ -31,7 +32,7 @@ module _ (s : List ℕ) (r : ReadResult) (e : r ≡ read-result (decode s)) wher
   pub few-items : Bytes s → r .answer ≡ A.Read → r .instance .«item_count» ≤ 10
   few-items b h =
       let w = was-read (decode s) r e h in
-      valid-says (r .instance) (read-valid s b (w .was)) .items-few
+      valid-says (r .instance) (read-valid s (w .was) b) .items-few
 
 -- the text of a result, by its answer
 module _ (n : ℕ) (r : SearchResult) where

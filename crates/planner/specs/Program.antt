@@ -1,10 +1,10 @@
 -- What the program prints for the bytes of a sheet (document 01, "The program").
 use mathlib.Core.List.{List}
 use Prim.Native.Nat.{ℕ}
-use Rattle.records.specs.Reading.{Read, got, refused}
+use Rattle.formats.specs.Reading.{Read, got, refused}
 use Rattle.instance.specs.declared.Instance.{Instance}
 use Rattle.instance.specs.declared.Packing.{Packing}
-use Rattle.instance.specs.Decode.{decode}
+use Rattle.instance.specs.Sheets.{decode}
 use Rattle.instance.specs.Values.{opening-checkpoint}
 use Rattle.search.specs.declared.Answer.{Answer}
 use Rattle.search.specs.declared.Answer.the-variants.{Packed, Infeasible, BudgetSpent, Refused}

@@ -1,4 +1,6 @@
 // The program's work between reading its input and writing its output: from a sheet to the text.
+ghost use Rattle.sheet.specs.Sheet.{max-items};
+ghost use Rattle.report.specs.Text.{max-text};
 ghost use mathlib.Core.Path.{_≡_};
 ghost use mathlib.Core.List.{_++_};
 ghost use Prim.Native.Nat.{_≤_};
@@ -14,8 +16,8 @@ pub const BUDGET: u32 = 1_000_000;
 
 // The text of a call's result, for an instance of n items.
 pub fn result_text(out: &mut [u8], n: usize, result: SearchResult) -> usize
-    requires { ⌜ (n ≤ 10) × (218 ≤ length (now out)) ⌝ }
-    ensures { λ r. ⌜ (r ≡ length (result-text n result)) × (r ≤ 218) ⌝ }
+    requires { ⌜ (n ≤ max-items) × (max-text ≤ length (now out)) ⌝ }
+    ensures { λ r. ⌜ (r ≡ length (result-text n result)) × (r ≤ max-text) ⌝ }
     ensures { λ _. ⌜ now (out .exit) ≡ result-text n result ++ drop (length (result-text n result)) (now (out .entry)) ⌝ }
 {
     let steps = result.steps;
@@ -31,8 +33,8 @@ pub fn result_text(out: &mut [u8], n: usize, result: SearchResult) -> usize
 
 // The text of a sheet.
 pub fn sheet_text(out: &mut [u8], sheet: &[u8]) -> usize
-    requires { ⌜ 218 ≤ length (now out) ⌝ }
-    ensures { λ r. ⌜ (r ≡ length (program-text (now (sheet .entry)))) × (r ≤ 218) ⌝ }
+    requires { ⌜ max-text ≤ length (now out) ⌝ }
+    ensures { λ r. ⌜ (r ≡ length (program-text (now (sheet .entry)))) × (r ≤ max-text) ⌝ }
     ensures { λ _. ⌜ now (out .exit) ≡ program-text (now (sheet .entry)) ++ drop (length (program-text (now (sheet .entry)))) (now (out .entry)) ⌝ }
 {
     let reading = Instance::read(sheet);

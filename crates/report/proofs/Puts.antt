@@ -6,7 +6,7 @@ use native.Mathlib.Omega.{arith}
 use native.Mathlib.Numerals.{add-one}
 use lib.ListN.{length, take, set, getD, length-append}
 use lib.Seq.{sets, take-suc, length-take-le}
-use Rattle.records.proofs.Writers.{sets-append}
+use Rattle.formats.proofs.Stores.{sets-append}
 use Rattle.instance.specs.declared.Packing.{Packing}
 use Rattle.instance.specs.declared.Position.{Position}
 use Rattle.instance.specs.Values.{origin}

@@ -9,6 +9,10 @@ use Rattle.instance.specs.declared.Position.{Position}
 use Rattle.instance.specs.Values.{origin}
 use Rattle.report.specs.Decimal.{decimal}
 
+-- no text is longer: an answer with its steps and ten lines of at most 20 characters
+abbrev pub max-text : ℕ
+max-text = 218
+
 -- a field after "one space"
 abbrev pub field : ℕ → List ℕ
 field n = 0x20 ∷ decimal n

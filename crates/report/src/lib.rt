@@ -1,4 +1,6 @@
 // The text that the program prints, made in a lent buffer.
+ghost use Rattle.sheet.specs.Sheet.{max-items};
+ghost use Rattle.report.specs.Text.{max-text};
 ghost use mathlib.Core.Path.{_≡_};
 ghost use mathlib.Core.List.{_++_};
 ghost use Prim.Native.Nat.{_≤_};
@@ -14,8 +16,8 @@ pub const MAX_TEXT: usize = 218;
 
 // A packing of n items, found after so many steps.
 pub fn packed(out: &mut [u8], steps: u32, packing: Packing, n: usize) -> usize
-    requires { ⌜ (n ≤ 10) × (218 ≤ length (now out)) ⌝ }
-    ensures { λ r. ⌜ (r ≡ length (packed-text steps packing n)) × (r ≤ 218) ⌝ }
+    requires { ⌜ (n ≤ max-items) × (max-text ≤ length (now out)) ⌝ }
+    ensures { λ r. ⌜ (r ≡ length (packed-text steps packing n)) × (r ≤ max-text) ⌝ }
     ensures { λ _. ⌜ now (out .exit) ≡ packed-text steps packing n ++ drop (length (packed-text steps packing n)) (now (out .entry)) ⌝ }
 {
     let a = put::put_answer(out, b"placed", steps);
@@ -24,8 +26,8 @@ pub fn packed(out: &mut [u8], steps: u32, packing: Packing, n: usize) -> usize
 
 // No packing exists, known after so many steps.
 pub fn infeasible(out: &mut [u8], steps: u32) -> usize
-    requires { ⌜ 218 ≤ length (now out) ⌝ }
-    ensures { λ r. ⌜ (r ≡ length (infeasible-text steps)) × (r ≤ 218) ⌝ }
+    requires { ⌜ max-text ≤ length (now out) ⌝ }
+    ensures { λ r. ⌜ (r ≡ length (infeasible-text steps)) × (r ≤ max-text) ⌝ }
     ensures { λ _. ⌜ now (out .exit) ≡ infeasible-text steps ++ drop (length (infeasible-text steps)) (now (out .entry)) ⌝ }
 {
     put::put_answer(out, b"none", steps)
@@ -33,8 +35,8 @@ pub fn infeasible(out: &mut [u8], steps: u32) -> usize
 
 // The budget was spent in so many steps.
 pub fn spent(out: &mut [u8], steps: u32) -> usize
-    requires { ⌜ 218 ≤ length (now out) ⌝ }
-    ensures { λ r. ⌜ (r ≡ length (spent-text steps)) × (r ≤ 218) ⌝ }
+    requires { ⌜ max-text ≤ length (now out) ⌝ }
+    ensures { λ r. ⌜ (r ≡ length (spent-text steps)) × (r ≤ max-text) ⌝ }
     ensures { λ _. ⌜ now (out .exit) ≡ spent-text steps ++ drop (length (spent-text steps)) (now (out .entry)) ⌝ }
 {
     put::put_answer(out, b"spent", steps)
@@ -42,8 +44,8 @@ pub fn spent(out: &mut [u8], steps: u32) -> usize
 
 // The input was refused.
 pub fn refused(out: &mut [u8], e: Refusal) -> usize
-    requires { ⌜ 218 ≤ length (now out) ⌝ }
-    ensures { λ r. ⌜ (r ≡ length (refused-text e)) × (r ≤ 218) ⌝ }
+    requires { ⌜ max-text ≤ length (now out) ⌝ }
+    ensures { λ r. ⌜ (r ≡ length (refused-text e)) × (r ≤ max-text) ⌝ }
     ensures { λ _. ⌜ now (out .exit) ≡ refused-text e ++ drop (length (refused-text e)) (now (out .entry)) ⌝ }
 {
     let a = put::put_bytes(out, 0, b"refused");

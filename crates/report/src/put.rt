@@ -1,4 +1,5 @@
 // Parts of a text. Each is put at its place in a buffer with room enough; the place after it is returned.
+ghost use Rattle.sheet.specs.Sheet.{max-items};
 ghost use mathlib.Core.Path.{_≡_};
 ghost use Prim.Native.Nat.{_+_, _*_, _≤_, _<_};
 ghost use lib.ListN.{length};
@@ -60,7 +61,7 @@ pub fn put_answer(out: &mut [u8], word: &[u8], steps: u32) -> usize
 
 // An item's line.
 fn put_item(out: &mut [u8], at: usize, u: usize, p: Position) -> usize
-    requires { ⌜ (u < 10) × (at + 20 ≤ length (now out)) ⌝ }
+    requires { ⌜ (u < max-items) × (at + 20 ≤ length (now out)) ⌝ }
     ensures { λ r. ⌜ (r ≡ at + length (item-line u p)) × (r ≤ at + 20) ⌝ }
     ensures { λ _. ⌜ now (out .exit) ≡ sets (now (out .entry)) at (item-line u p) ⌝ }
 {
@@ -74,7 +75,7 @@ fn put_item(out: &mut [u8], at: usize, u: usize, p: Position) -> usize
 
 // The lines of n items.
 pub fn put_items(out: &mut [u8], at: usize, packing: Packing, n: usize) -> usize
-    requires { ⌜ (n ≤ 10) × (at + 20 * n ≤ length (now out)) ⌝ }
+    requires { ⌜ (n ≤ max-items) × (at + 20 * n ≤ length (now out)) ⌝ }
     ensures { λ r. ⌜ (r ≡ at + length (item-lines packing n)) × (r ≤ at + 20 * n) ⌝ }
     ensures { λ _. ⌜ now (out .exit) ≡ sets (now (out .entry)) at (item-lines packing n) ⌝ }
 {

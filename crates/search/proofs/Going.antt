@@ -18,12 +18,12 @@ use Rattle.model.specs.Search as S
 use Rattle.rows.specs.Queue.{Good, Grown}
 use Rattle.domains.specs.Choice.{Branched}
 use Rattle.domains.specs.declared.Place.{Place}
-use Rattle.search.specs.Standing.{Looked, Standing, Holds, without-seconds}
-use Rattle.search.specs.declared.Outlook.the-variants.{Fork}
-use Rattle.search.specs.declared.Snapshot.{Snapshot}
+use Rattle.replay.specs.Standing.{Looked, Standing, Holds, without-seconds}
+use Rattle.replay.specs.declared.Outlook.the-variants.{Fork}
+use Rattle.replay.specs.declared.Snapshot.{Snapshot}
 use Rattle.search.proofs.Budget.{Rest, Comes, rest-start, rest-next, rest-finished}
-use Rattle.search.proofs.Checkpoints.{holds-next, turned}
-use Rattle.search.proofs.Standing.{kept-good, fork-rising, stand-next, stand-back, Turn, turn}
+use Rattle.replay.proofs.Checkpoints.{holds-next, turned}
+use Rattle.replay.proofs.Standing.{kept-good, fork-rising, stand-next, stand-back, Turn, turn}
 
 -- some steps on from the path `start`
 pub record Going (p : Problem) (budget : ℕ) (start : List Branch) (levels : List Snapshot) (k : Domains) (rows ends starts q : List ℕ) (top fresh : ℕ)

@@ -1,10 +1,6 @@
-pub mod Checkpoints
 pub mod Budget
-pub mod Sound
-pub mod Root
-pub mod Standing
 pub mod Packing
 pub mod Outcome
-pub mod Seeing
+pub mod Complete
 pub mod Going
 pub mod Claim

@@ -13,9 +13,9 @@ use Rattle.model.specs.Search as S
 use Rattle.refusal.specs.declared.Refusal.the-variants.{NotFollowing}
 use Rattle.instance.specs.declared.Checkpoint.{Checkpoint}
 use Rattle.instance.specs.declared.Packing.{Packing}
-use Rattle.search.specs.Checkpoints.{value-of}
+use Rattle.replay.specs.Checkpoints.{value-of}
 use Rattle.search.specs.Results.{packing-of, result-of, refused, followed, infeasible-after, spent-after, packed-after}
-use Rattle.search.specs.Standing.{Holds}
+use Rattle.replay.specs.Standing.{Holds}
 use Rattle.search.proofs.Budget.{Comes, rest-start, rest-finished}
 
 module _ (p : Problem) (budget : ℕ) (start : S.Checkpoint) where

@@ -19,7 +19,7 @@ use Rattle.instance.specs.declared.Instance.{Instance}
 use Rattle.instance.specs.declared.Packing.{Packing}
 use Rattle.instance.specs.declared.Position.{Position}
 use Rattle.instance.specs.declared.Status.the-variants as Status
-use Rattle.search.specs.Checkpoints.{checkpoint-of, following, Following, value-of}
+use Rattle.replay.specs.Checkpoints.{checkpoint-of, following, Following, value-of}
 use Rattle.search.specs.declared.Answer.{Answer}
 use Rattle.search.specs.declared.Answer.the-variants.{Packed, Infeasible, BudgetSpent, Refused}
 use Rattle.search.specs.declared.SearchResult.{SearchResult}

@@ -4,17 +4,18 @@ ghost use mathlib.Core.Bool.{true};
 ghost use Rattle.instance.specs.Reads.{Full};
 ghost use Rattle.instance.specs.Valid.{valid};
 ghost use Rattle.instance.specs.Meaning.{problem-of};
-ghost use Rattle.search.specs.Checkpoints.{Bits, path-of};
+ghost use Rattle.replay.specs.Checkpoints.{Bits, path-of};
 ghost use Rattle.search.specs.Results.{search-result, followed, answer-number};
 ghost use Rattle.model.specs.Search as S;
-use domains::Place;
 use instance::Checkpoint;
 use instance::Instance;
 use instance::Packing;
 use instance::Status;
 use refusal::Refusal;
+use replay::Outlook;
+use replay::path;
+use replay::walk;
 
-mod path;
 mod results;
 mod steps;
 
@@ -30,35 +31,6 @@ pub struct SearchResult {
     pub steps: u32,
     pub checkpoint: Checkpoint,
     pub packing: Packing,
-}
-
-// What the domains of a path show.
-enum Outlook {
-    Conflict,
-    Complete,
-    Fork(Place),
-}
-
-// A branching point on the path: its domains with their rows and tables, and where they branch.
-struct Snapshot {
-    pub domains: [u8; 135],
-    pub rows: [u16; 91],
-    pub ends: [u32; 30],
-    pub starts: [u32; 30],
-    pub place: Place,
-}
-
-// Whether each shorter beginning of a path is a branching point; then these with their snapshots, and the domains at the path's end.
-struct Replay {
-    pub follows: bool,
-    pub levels: [Snapshot; 270],
-    pub domains: [u8; 135],
-    pub rows: [u16; 91],
-    pub ends: [u32; 30],
-    pub starts: [u32; 30],
-    pub queue: [u16; 945],
-    pub top: usize,
-    pub fresh: u16,
 }
 
 impl Answer {
@@ -102,7 +74,7 @@ fn resume(instance: Instance, checkpoint: Checkpoint, budget: u32) -> SearchResu
 {
     let length = checkpoint.length;
     let given = checkpoint.branches;
-    let start = steps::replay(instance, given, length);
+    let start = walk::replay(instance, given, length);
     if !start.follows {
         return results::refused(Refusal::NotFollowing, checkpoint);
     }
@@ -118,7 +90,7 @@ fn repeat(instance: Instance, checkpoint: Checkpoint, budget: u32) -> SearchResu
 {
     let length = checkpoint.length;
     let given = checkpoint.branches;
-    let start = steps::replay(instance, given, length);
+    let start = walk::replay(instance, given, length);
     if !start.follows {
         return results::refused(Refusal::NotFollowing, checkpoint);
     }
@@ -131,8 +103,8 @@ fn repeat(instance: Instance, checkpoint: Checkpoint, budget: u32) -> SearchResu
     let mut ends = start.ends;
     let mut starts = start.starts;
     let mut queue = start.queue;
-    let large = domains::propagation::any_large(n, &sizes, &capacity);
-    match steps::look(
+    let large = propagation::any_large(n, &sizes, &capacity);
+    match walk::look(
         &mut k,
         &mut rows,
         &mut ends,

@@ -42,7 +42,7 @@ pub fn infeasible(steps: u32) -> SearchResult
 }
 
 // A budget spent on the way.
-pub fn spent(steps: u32, branches: [u8; 270], length: usize) -> SearchResult
+pub fn spent(steps: u32, branches: [u8; Instance::MAX_BRANCHES], length: usize) -> SearchResult
     ensures { λ r. ⌜ r ≡ R.spent-after steps branches length ⌝ }
 {
     let packing = Packing::origin();
@@ -60,7 +60,12 @@ pub fn spent(steps: u32, branches: [u8; 270], length: usize) -> SearchResult
 }
 
 // A packing found.
-pub fn packed(steps: u32, branches: [u8; 270], length: usize, packing: Packing) -> SearchResult
+pub fn packed(
+    steps: u32,
+    branches: [u8; Instance::MAX_BRANCHES],
+    length: usize,
+    packing: Packing,
+) -> SearchResult
     ensures { λ r. ⌜ r ≡ R.packed-after steps branches length packing ⌝ }
 {
     let checkpoint = Checkpoint {

@@ -1,15 +1,12 @@
 // Runs the cases on standard input and prints a line for each. tests/make_vectors.py says what a case is.
 ghost use mathlib.Core.Path.{_≡_};
-ghost use Prim.Native.Nat.{_≤_, _+_};
+ghost use Prim.Native.Nat.{_≤_};
 ghost use lib.ListN.{length};
 use instance::Instance;
 use instance::ReadAnswer;
-use instance::WriteAnswer;
 use packing::CheckAnswer;
 use packing::ClearanceAnswer;
-
-mod parts;
-mod print;
+use writer::WriteAnswer;
 
 const MOST_ROOM: usize = 300;
 
@@ -20,18 +17,18 @@ fn report_read(s: &[u8]) {
     let r = Instance::read(s);
     let answer = r.answer;
     match answer {
-        ReadAnswer::Read => print::read_instance(r.instance),
-        ReadAnswer::Refused(e) => print::refused(e),
+        ReadAnswer::Read => test_lines::read_instance(r.instance),
+        ReadAnswer::Refused(e) => test_lines::refused(e),
     }
 }
 
 fn print_written(answer: WriteAnswer) {
     match answer {
         WriteAnswer::Written(n) => {
-            print::word(b"written");
-            print::number(n);
+            test_lines::word(b"written");
+            test_lines::number(n);
         }
-        WriteAnswer::Refused(e) => print::refused(e),
+        WriteAnswer::Refused(e) => test_lines::refused(e),
     }
 }
 
@@ -39,75 +36,84 @@ fn print_written(answer: WriteAnswer) {
 fn write_part(instance: Instance, space: &mut [u8], room: usize) -> WriteAnswer
     requires { ⌜ room ≤ length (now space) ⌝ }
 {
-    instance.write(&mut space[..room])
+    writer::write(instance, &mut space[..room])
 }
 
 fn report_write(s: &[u8]) {
-    let instance = parts::instance_of(s);
-    let room = parts::two_at(s, parts::INSTANCE_BYTES) as usize;
-    let fill = parts::byte_at(s, parts::INSTANCE_BYTES + 2);
+    let instance = test_values::instance_in(s);
+    let room = test_values::word_at(s, test_values::INSTANCE_BYTES) as usize;
+    let fill = test_values::byte_at(s, test_values::INSTANCE_BYTES + 2);
     if MOST_ROOM < room {
-        print::word(b"no such room");
+        test_lines::word(b"no such room");
         return;
     }
     let mut space = [fill; MOST_ROOM + GUARD];
     let answer = write_part(instance, &mut space, room);
     print_written(answer);
-    print::bytes(&space, room + GUARD);
+    test_lines::bytes(&space, room + GUARD);
 }
 
 fn report_record(s: &[u8]) {
     if s.len() < 8 {
-        print::word(b"no such case");
+        test_lines::word(b"no such case");
         return;
     }
-    let k = parts::eight_at(s, 0);
+    let k = test_values::number_at(s, 0);
     let sheet = &s[8..];
-    let code = instance::label::item_record_refusal(sheet, k);
-    print::word(b"record");
-    print::number(code.number as usize);
-    print::number(code.place);
-    let record = instance::label::item_record(sheet, k);
+    let code = item_record::item_record_refusal(sheet, k);
+    test_lines::word(b"record");
+    test_lines::number(code.number as usize);
+    test_lines::number(code.place);
+    let record = item_record::item_record(sheet, k);
     if record.len() == 0 {
         return;
     }
-    print::bytes(record, record.len());
+    test_lines::bytes(record, record.len());
 }
 
 fn report_check(s: &[u8]) {
-    let answer = packing::check(parts::instance_of(s), parts::packing_of(s));
+    let answer = packing::check(
+        test_values::instance_in(s),
+        test_values::packing_at(s, test_values::INSTANCE_BYTES),
+    );
     match answer {
-        CheckAnswer::Feasible => print::word(b"feasible"),
-        CheckAnswer::NotFeasible => print::word(b"not feasible"),
-        CheckAnswer::Refused(e) => print::refused(e),
+        CheckAnswer::Feasible => test_lines::word(b"feasible"),
+        CheckAnswer::NotFeasible => test_lines::word(b"not feasible"),
+        CheckAnswer::Refused(e) => test_lines::refused(e),
     }
 }
 
 fn report_clearance(s: &[u8]) {
-    let rest = parts::INSTANCE_BYTES + parts::PACKING_BYTES;
-    let u = parts::eight_at(s, rest);
-    let v = parts::eight_at(s, rest + 8);
-    let axis = parts::byte_at(s, rest + 16);
-    let answer = packing::clearance(parts::instance_of(s), parts::packing_of(s), u, v, axis);
+    let rest = test_values::INSTANCE_BYTES + test_values::PACKING_BYTES;
+    let u = test_values::number_at(s, rest);
+    let v = test_values::number_at(s, rest + 8);
+    let axis = test_values::byte_at(s, rest + 16);
+    let answer = packing::clearance(
+        test_values::instance_in(s),
+        test_values::packing_at(s, test_values::INSTANCE_BYTES),
+        u,
+        v,
+        axis,
+    );
     match answer {
         ClearanceAnswer::Clearance(n) => {
-            print::word(b"clearance");
-            print::signed(n);
+            test_lines::word(b"clearance");
+            test_lines::signed(n);
         }
-        ClearanceAnswer::Refused(e) => print::refused(e),
+        ClearanceAnswer::Refused(e) => test_lines::refused(e),
     }
 }
 
 fn rewrite(instance: Instance) {
     let mut space = [0u8; 261];
-    let answer = instance.write(&mut space);
+    let answer = writer::write(instance, &mut space);
     match answer {
         WriteAnswer::Written(n) => {
-            print::word(b"rewritten");
-            print::number(n);
-            print::bytes(&space, n);
+            test_lines::word(b"rewritten");
+            test_lines::number(n);
+            test_lines::bytes(&space, n);
         }
-        WriteAnswer::Refused(e) => print::refused(e),
+        WriteAnswer::Refused(e) => test_lines::refused(e),
     }
 }
 
@@ -116,17 +122,17 @@ fn report_rewrite(s: &[u8]) {
     let answer = r.answer;
     match answer {
         ReadAnswer::Read => rewrite(r.instance),
-        ReadAnswer::Refused(e) => print::refused(e),
+        ReadAnswer::Refused(e) => test_lines::refused(e),
     }
 }
 
 fn report_valid(s: &[u8]) {
-    let instance = parts::instance_of(s);
+    let instance = test_values::instance_in(s);
     if instance.is_valid() {
-        print::word(b"valid");
+        test_lines::word(b"valid");
         return;
     }
-    print::word(b"not valid");
+    test_lines::word(b"not valid");
 }
 
 fn report(op: u8, s: &[u8]) {
@@ -138,25 +144,21 @@ fn report(op: u8, s: &[u8]) {
         5 => report_clearance(s),
         6 => report_rewrite(s),
         7 => report_valid(s),
-        _ => print::word(b"no such case"),
+        _ => test_lines::word(b"no such case"),
     }
-    print::line_end();
+    test_lines::line_end();
 }
 
 // One case after another, while whole ones are left.
 fn report_all(s: &[u8]) {
     let mut at: usize = 0;
-    while at < s.len() {
-        if s.len() - at < 3 {
-            return;
-        }
-        let op = s[at];
-        let n = parts::two_at(&s[at + 1..], 0) as usize;
+    while 3 <= s.len() - at {
         let start = at + 3;
+        let n = test_values::word_at(s, at + 1) as usize;
         if s.len() - start < n {
             return;
         }
-        report(op, &s[start..start + n]);
+        report(s[at], &s[start..start + n]);
         at = start + n;
     }
 }

@@ -109,15 +109,49 @@ pub fn item_record(sheet: &[u8], item: usize) -> Result<(Vec<u8>, u32, usize), &
     unless_changed(&[(&s, sheet)], (record, number, place))
 }
 
-/// The clearance, 0 where it is refused, and the refusal's number.
-pub fn clearance(sheet: &[u8], u: usize, at_u: [u16; 3], v: usize, at_v: [u16; 3], axis: u8) -> Result<(i64, u32), &'static str> {
-    let s = Lent::new(sheet);
-    let ([ux, uy, ut], [vx, vy, vt]) = (at_u, at_v);
-    let (clearance, number) = unsafe {
+/// The check of a value: as document 01 numbers it.
+pub fn check_value(value: &[u8], plan: &[u8]) -> Result<u32, &'static str> {
+    let (s, p) = (Lent::new(value), Lent::new(plan));
+    let returned = unsafe { linked::exports_check(s.start(), s.len, p.start(), p.len) };
+    unless_changed(&[(&s, value), (&p, plan)], returned)
+}
+
+/// What writing a value returned and left: the length, 0 where it is refused, number and place of the refusal, and the room.
+#[derive(PartialEq, Eq, Debug, Clone)]
+pub struct Written {
+    pub length: usize,
+    pub number: u32,
+    pub place: usize,
+    pub room: Vec<u8>,
+}
+
+pub fn write_value(value: &[u8], room: &[u8]) -> Result<Written, &'static str> {
+    let s = Lent::new(value);
+    let mut rooms = [Lent::new(room), Lent::new(room), Lent::new(room)];
+    let starts = [0, 1, 2].map(|i| rooms[i].start_mut());
+    let (length, number, place) = unsafe {
         (
-            linked::exports_clearance(s.start(), s.len, u, ux, uy, ut, v, vx, vy, vt, axis) as i64,
-            linked::exports_clearance_number(s.start(), s.len, u, v, axis),
+            linked::exports_write(s.start(), s.len, starts[0], room.len()),
+            linked::exports_write_number(s.start(), s.len, starts[1], room.len()),
+            linked::exports_write_place(s.start(), s.len, starts[2], room.len()),
         )
     };
-    unless_changed(&[(&s, sheet)], (clearance, number))
+    let left = rooms[0].content()?;
+    if rooms[1].content()? != left || rooms[2].content()? != left {
+        return Err("the same writing left two rooms");
+    }
+    unless_changed(&[(&s, value)], Written { length, number, place, room: left })
+}
+
+/// The clearance, 0 where it is refused, and the refusal's number and place.
+pub fn clearance(value: &[u8], plan: &[u8], u: usize, v: usize, axis: u8) -> Result<(i64, u32, usize), &'static str> {
+    let (s, p) = (Lent::new(value), Lent::new(plan));
+    let answer = unsafe {
+        (
+            linked::exports_clearance(s.start(), s.len, p.start(), p.len, u, v, axis) as i64,
+            linked::exports_clearance_number(s.start(), s.len, p.start(), p.len, u, v, axis),
+            linked::exports_clearance_place(s.start(), s.len, p.start(), p.len, u, v, axis),
+        )
+    };
+    unless_changed(&[(&s, value), (&p, plan)], answer)
 }

@@ -10,6 +10,8 @@
 
 #[macro_use]
 mod signatures;
+#[allow(dead_code)]
+mod layout;
 mod library;
 mod parts;
 mod random;
@@ -19,6 +21,7 @@ mod report;
 mod show;
 mod table;
 mod tiny;
+mod values;
 
 use random::Random;
 use report::Report;

@@ -7,6 +7,7 @@ use crate::reference::packing;
 use crate::reference::search::{opening, Branch, Look, Search, Status};
 use crate::reference::sheet::{self, Instance, Refusal};
 use crate::report::{hexadecimal, Report};
+use crate::values;
 
 fn code(refusal: &Refusal) -> (u32, usize) {
     (refusal.number, refusal.place)
@@ -86,29 +87,6 @@ pub fn records(report: &mut Report, sheet: &[u8]) {
         };
         report.same(kind, &Ok(expected), &library::item_record(sheet, item), || {
             format!("sheet {} item {item}", hexadecimal(sheet))
-        });
-    }
-}
-
-pub fn clearances(report: &mut Report, random: &mut Random, sheet: &[u8], instance: &Instance) {
-    for _ in 0..4 {
-        let n = instance.items.len();
-        let (u, v) = (random.below(n + 1), random.below(n + 1));
-        let axis = random.pick(&[0, 1, 2, 0, 1, 2, 3, 255]);
-        let most = random.pick(&[2, 8, 65536]);
-        let mut position = || [0; 3].map(|_: u16| random.below(most) as u16);
-        let (at_u, at_v) = (position(), position());
-        let mut positions = vec![[0; 3]; n + 1];
-        positions[u] = at_u.map(u32::from);
-        positions[v] = at_v.map(u32::from);
-        let (expected, kind) = match packing::clearance(instance, &positions, u, v, axis as usize) {
-            Ok(clearance) if clearance > 0 => ((clearance, 0), "clearances above 0"),
-            Ok(clearance) if clearance < 0 => ((clearance, 0), "clearances below 0"),
-            Ok(_) => ((0, 0), "clearances 0"),
-            Err(refusal) => ((0, refusal.number), "clearances refused"),
-        };
-        report.same(kind, &Ok(expected), &library::clearance(sheet, u, at_u, v, at_v, axis), || {
-            format!("sheet {} u {u} at {at_u:?} v {v} at {at_v:?} axis {axis}", hexadecimal(sheet))
         });
     }
 }
@@ -365,7 +343,6 @@ pub fn everything(report: &mut Report, random: &mut Random, instance: &Instance,
     damaged_sheets(report, random, &sheet, 6);
     rewriting(report, random, &sheet);
     records(report, &sheet);
-    clearances(report, random, &sheet, instance);
     let run = Run::new(instance, most_steps);
     report.add("steps of runs", run.steps());
     report.count(match &run.end {
@@ -381,4 +358,5 @@ pub fn everything(report: &mut Report, random: &mut Random, instance: &Instance,
     }
     checkpoints(report, random, &sheet, instance, &run);
     plans(report, random, &sheet, instance, &run);
+    values::values(report, random, instance, &run);
 }

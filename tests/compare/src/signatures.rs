@@ -14,11 +14,19 @@ macro_rules! signatures {
             exports_record_number(sheet: *const u8, sheet_len: usize, item: usize) -> u32;
             exports_record_place(sheet: *const u8, sheet_len: usize, item: usize) -> usize;
             exports_record_byte(sheet: *const u8, sheet_len: usize, item: usize, i: usize) -> u32;
+            exports_check(value: *const u8, value_len: usize, plan: *const u8, plan_len: usize) -> u32;
+            exports_write(value: *const u8, value_len: usize, room: *mut u8, room_len: usize) -> usize;
+            exports_write_number(value: *const u8, value_len: usize, room: *mut u8, room_len: usize) -> u32;
+            exports_write_place(value: *const u8, value_len: usize, room: *mut u8, room_len: usize) -> usize;
             exports_clearance(
-                sheet: *const u8, sheet_len: usize, u: usize, ux: u16, uy: u16, ut: u16,
-                v: usize, vx: u16, vy: u16, vt: u16, axis: u8
+                value: *const u8, value_len: usize, plan: *const u8, plan_len: usize, u: usize, v: usize, axis: u8
             ) -> i32;
-            exports_clearance_number(sheet: *const u8, sheet_len: usize, u: usize, v: usize, axis: u8) -> u32;
+            exports_clearance_number(
+                value: *const u8, value_len: usize, plan: *const u8, plan_len: usize, u: usize, v: usize, axis: u8
+            ) -> u32;
+            exports_clearance_place(
+                value: *const u8, value_len: usize, plan: *const u8, plan_len: usize, u: usize, v: usize, axis: u8
+            ) -> usize;
         }
     };
 }

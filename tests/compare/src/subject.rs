@@ -1,11 +1,13 @@
 //! The independent implementation behind the functions that are compared: a planner to put errors into (tests/mutants).
 
-#[macro_use]
-mod signatures;
+#[allow(dead_code)]
+mod layout;
 #[allow(dead_code)]
 mod reference;
+#[macro_use]
+mod signatures;
 
-use reference::{bytes, packing, sheet};
+use reference::{bytes, sheet, value};
 use std::slice::{from_raw_parts, from_raw_parts_mut};
 
 unsafe fn lent<'a>(start: *const u8, len: usize) -> &'a [u8] {
@@ -28,15 +30,12 @@ fn rewrite(bytes: &[u8], room: &mut [u8]) -> usize {
     sheet::read(bytes).and_then(|instance| sheet::write(&instance, room)).unwrap_or(0)
 }
 
-fn clearance(bytes: &[u8], u: usize, at_u: [u16; 3], v: usize, at_v: [u16; 3], axis: u8) -> Result<i64, sheet::Refusal> {
-    let instance = sheet::read(bytes)?;
-    let mut positions = vec![[0; 3]; sheet::MOST_ITEMS];
-    for (item, at) in [(u, at_u), (v, at_v)] {
-        if item < sheet::MOST_ITEMS {
-            positions[item] = at.map(u32::from);
-        }
-    }
-    packing::clearance(&instance, &positions, u, v, axis as usize)
+fn write(value: &[u8], room: &mut [u8]) -> Result<usize, sheet::Refusal> {
+    value::write(&layout::value_of(value), room)
+}
+
+fn clearance(value: &[u8], plan: &[u8], u: usize, v: usize, axis: u8) -> Result<i64, sheet::Refusal> {
+    value::clearance(&layout::value_of(value), &bytes::positions_of(plan), u, v, axis as usize)
 }
 
 /// What each function returns, of its arguments; a pointer and a length stand side by side.
@@ -53,11 +52,20 @@ macro_rules! body {
     (exports_record_byte $s:ident $sl:ident $item:ident $i:ident) => {
         sheet::item_record(lent($s, $sl), $item).unwrap_or(&[]).get($i).map_or(256, |&byte| byte as u32)
     };
-    (exports_clearance $s:ident $sl:ident $u:ident $ux:ident $uy:ident $ut:ident $v:ident $vx:ident $vy:ident $vt:ident $axis:ident) => {
-        clearance(lent($s, $sl), $u, [$ux, $uy, $ut], $v, [$vx, $vy, $vt], $axis).unwrap_or(0) as i32
+    (exports_check $s:ident $sl:ident $p:ident $pl:ident) => {
+        value::check(&layout::value_of(lent($s, $sl)), &bytes::positions_of(lent($p, $pl)))
     };
-    (exports_clearance_number $s:ident $sl:ident $u:ident $v:ident $axis:ident) => {
-        number(clearance(lent($s, $sl), $u, [0; 3], $v, [0; 3], $axis))
+    (exports_write $s:ident $sl:ident $r:ident $rl:ident) => { write(lent($s, $sl), lent_mut($r, $rl)).unwrap_or(0) };
+    (exports_write_number $s:ident $sl:ident $r:ident $rl:ident) => { number(write(lent($s, $sl), lent_mut($r, $rl))) };
+    (exports_write_place $s:ident $sl:ident $r:ident $rl:ident) => { place(write(lent($s, $sl), lent_mut($r, $rl))) };
+    (exports_clearance $s:ident $sl:ident $p:ident $pl:ident $u:ident $v:ident $axis:ident) => {
+        clearance(lent($s, $sl), lent($p, $pl), $u, $v, $axis).unwrap_or(0) as i32
+    };
+    (exports_clearance_number $s:ident $sl:ident $p:ident $pl:ident $u:ident $v:ident $axis:ident) => {
+        number(clearance(lent($s, $sl), lent($p, $pl), $u, $v, $axis))
+    };
+    (exports_clearance_place $s:ident $sl:ident $p:ident $pl:ident $u:ident $v:ident $axis:ident) => {
+        place(clearance(lent($s, $sl), lent($p, $pl), $u, $v, $axis))
     };
 }
 

@@ -1,8 +1,8 @@
 -- `c_api::hallplan_check` meets its contract.
 use native.Mathlib.Omega.{arith}
-use Rattle.instance.specs.Decode.{decode}
-use Rattle.instance.proofs.Inverse.{read-valid}
-use Rattle.instance.proofs.Lookup.{was-read, was-refused}
+use Rattle.instance.specs.Sheets.{decode}
+use Rattle.instance.proofs.RoundTrips.{read-valid}
+use Rattle.instance.proofs.Readings.{was-read, was-refused}
 use Rattle.c_api.specs.Calls.{check-code}
 use borrow.Author.Needs.{needs}
 use Rattle.c_api.proofs.hallplan_check.Statement.{statement}
@@ -12,7 +12,7 @@ check-instance-requires : tie.Need-check-instance-requires
 check-instance-requires c κs =
     let s = c .before .before .before .before .before .before .args .sheet .now in
     let w = was-read (decode s) (c .before .before .before .read .result) (c .before .before .before .read .ensures) (c .enum-told .given .1) in
-    read-valid s (λ k. omega (arith, c .before .before .before .before .before .shared-slice-known .given k)) (w .was)
+    read-valid s (w .was) (λ k. omega (arith, c .before .before .before .before .before .shared-slice-known .given k))
 
 returns : tie.Need-returns
 unfolding check-code

@@ -1,10 +1,10 @@
 -- `c_api::hallplan_search` meets its contract.
 use native.Mathlib.Omega.{arith}
 use mathlib.Core.Path.{refl}
-use Rattle.records.specs.Bounds.{Bytes}
-use Rattle.instance.specs.Decode.{decode}
-use Rattle.instance.proofs.Inverse.{read-valid}
-use Rattle.instance.proofs.Lookup.{was-read, was-refused}
+use Rattle.formats.specs.Reading.{Bytes}
+use Rattle.instance.specs.Sheets.{decode}
+use Rattle.instance.proofs.RoundTrips.{read-valid}
+use Rattle.instance.proofs.Readings.{was-read, was-refused}
 use Rattle.search.specs.Results.{refused}
 use Rattle.c_api.specs.Calls.{search-call}
 use borrow.Author.Needs.{needs}
@@ -19,7 +19,7 @@ search-instance-requires : tie.Need-search-instance-requires
 search-instance-requires c κs =
     let s = c .before .before .before .before .before .before .before .before .before .before .before .args .sheet .now in
     let w = was-read (decode s) (c .before .before .before .before .before .before .read .result) (c .before .before .before .before .before .before .read .ensures) (c .before .before .before .enum-told .given .1) in
-    read-valid s (λ k. omega (arith, c .before .before .before .before .before .before .before .before .before .before .shared-slice-known .given k)) (w .was)
+    read-valid s (w .was) (λ k. omega (arith, c .before .before .before .before .before .before .before .before .before .before .shared-slice-known .given k))
 
 returns : tie.Need-returns
 unfolding search-call refused

@@ -24,7 +24,7 @@ returns c = let i = c .before .before .before .args .i in past _ i (c .if1 .take
 returns-2 : tie.Need-returns-2
 returns-2 c =
     let i = c .before .before .before .before .before .args .i in
-    c .wide .ensures ∙ within _ i (c .before .before .if1 .left) ∙ ap (λ s. byte-at s i) (c .before .before .before .item-record .ensures)
+    c .wide .ensures .0 ∙ within _ i (c .before .before .if1 .left) ∙ ap (λ s. byte-at s i) (c .before .before .before .item-record .ensures)
 
 pub exports-record-byte-spec : {M : Type 1} → statement M
 exports-record-byte-spec =

@@ -5,7 +5,7 @@ use Rattle.exports.proofs.exports_record_number.Statement.{statement}
 use Rattle.exports.proofs.exports_record_number.Tie as tie
 
 returns : tie.Need-returns
-returns c = c .wide .ensures ∙ ap (λ r. r .number) (c .before .item-record-refusal .ensures)
+returns c = c .wide .ensures .0 ∙ ap (λ r. r .number) (c .before .item-record-refusal .ensures)
 
 pub exports-record-number-spec : {M : Type 1} → statement M
 exports-record-number-spec =

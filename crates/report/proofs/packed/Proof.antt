@@ -1,10 +1,11 @@
 -- `report::packed` meets its contract.
+use Rattle.report.specs.Text.{max-text}
 use borrow.Author.Needs.{needs}
 use native.Mathlib.Omega.{arith}
 use mathlib.Core.Path.{_≡_, _∙_}
 use Prim.Native.Nat.{_+_, _≤_}
 use lib.ListN.{length, length-append}
-use Rattle.records.proofs.Writers.{sets-front}
+use Rattle.formats.proofs.Stores.{sets-front}
 use Rattle.report.specs.Text.{placed, answer-line, item-lines, packed-text}
 use Rattle.report.proofs.Puts.{joined}
 use Rattle.report.proofs.packed.Statement.{statement}
@@ -25,7 +26,7 @@ returns c =
     let w = c .before .before .before .before .before .before .put-answer .ensures in
     let x = c .before .before .put-items .ensures in
     let n : length (packed-text (a .steps) (a .packing) (a .n)) ≡ length (answer-line placed (a .steps)) + length (item-lines (a .packing) (a .n)) = simp length-append in
-    let room : length (packed-text (a .steps) (a .packing) (a .n)) ≤ 218 = omega (arith, w .0, x .0, c .before .before .before .before .before .before .before .before .before .before .pre) in
+    let room : length (packed-text (a .steps) (a .packing) (a .n)) ≤ max-text = omega (arith, w .0, x .0, c .before .before .before .before .before .before .before .before .before .before .pre) in
     let start : c .before .before .before .before .before .before .put-answer .result ≡ 0 + length (answer-line placed (a .steps)) = omega (arith, w .0) in
     ((omega (arith, w .0, x .0), omega (arith, w .0, x .0, c .before .before .before .before .before .before .before .before .before .before .pre)), rw (x .1, w .1) (joined (a .out .now) (answer-line placed (a .steps)) (item-lines (a .packing) (a .n)) 0 (c .before .before .before .before .before .before .put-answer .result) start ∙ sets-front (packed-text (a .steps) (a .packing) (a .n)) (a .out .now) (omega (arith, c .before .before .before .before .before .before .before .before .before .before .pre))))
 

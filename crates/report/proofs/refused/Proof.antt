@@ -1,11 +1,12 @@
 -- `report::refused` meets its contract.
 use Prim.Native.Nat.{_≤_}
 use lib.ListN.{length}
+use Rattle.report.specs.Text.{max-text}
 use borrow.Author.Needs.{needs}
 use native.Mathlib.Omega.{arith}
 use mathlib.Core.Path.{_∙_}
 use lib.ListN.{length-set}
-use Rattle.records.proofs.Writers.{sets-front}
+use Rattle.formats.proofs.Stores.{sets-front}
 use Rattle.report.specs.Text.{refused, refused-text}
 use Rattle.report.proofs.Decimals.{decimal-short}
 use Rattle.report.proofs.Puts.{refused-length, refused-run}
@@ -37,7 +38,7 @@ returns c =
     let y = c .before .before .put-field2 .ensures in
     let dn = decimal-short 2 (n .result) (omega (arith, c .before .before .before .before .before .before .before .before)) in
     let dm = decimal-short 19 (m .result) (omega (arith, c .before .before .before)) in
-    let room : length (refused-text (a .e)) ≤ 218 = rw (← (n .ensures), ← (m .ensures)) (omega (arith, refused-length refused (n .result) (m .result))) in
+    let room : length (refused-text (a .e)) ≤ max-text = rw (← (n .ensures), ← (m .ensures)) (omega (arith, refused-length refused (n .result) (m .result))) in
     ((rw (← (n .ensures), ← (m .ensures)) (omega (arith, refused-length refused (n .result) (m .result), w .0, x .0, y .0)), omega (arith, w .0, x .0, y .0)), rw (y .1, x .1, w .1) (refused-run (a .out .now) refused (n .result) (m .result) _ _ _ (w .0) (x .0) (y .0) ∙ rw (n .ensures, m .ensures) (sets-front (refused-text (a .e)) (a .out .now) (omega (arith, c .before .before .before .before .before .before .before .before .before .before .before .before .before .before .before .before .pre)))))
 
 pub refused-spec : {M : Type 1} → statement M

@@ -3,7 +3,7 @@ use Rattle.report.specs.Text.{spent-text}
 use borrow.Author.Needs.{needs}
 use native.Mathlib.Omega.{arith}
 use mathlib.Core.Path.{_∙_}
-use Rattle.records.proofs.Writers.{sets-front}
+use Rattle.formats.proofs.Stores.{sets-front}
 use Rattle.report.proofs.spent.Statement.{statement}
 use Rattle.report.proofs.spent.Tie as tie
 

@@ -17,16 +17,16 @@ use Rattle.model.specs.Run.{look}
 use Rattle.model.specs.Search as S
 use Rattle.instance.specs.Meaning.{precedence-of}
 use Rattle.instance.specs.Valid.{precedences-of}
-use Rattle.domains.specs.Propagated.{Arrays}
-use Rattle.domains.specs.Shape.{shape-problem}
-use Rattle.search.specs.Checkpoints.{path-of}
-use Rattle.search.specs.Standing.{Standing, Looked}
-use Rattle.search.specs.declared.Replay.{Replay}
-use Rattle.search.proofs.Checkpoints.{path-length}
+use Rattle.propagation.specs.Propagated.{Arrays}
+use Rattle.propagation.specs.Shape.{shape-problem}
+use Rattle.replay.specs.Checkpoints.{path-of}
+use Rattle.replay.specs.Standing.{Standing, Looked}
+use Rattle.replay.specs.declared.Replay.{Replay}
+use Rattle.replay.proofs.Checkpoints.{path-length}
 use Rattle.search.proofs.Outcome.{comes-packed, comes-again, follows-result, refused-result, complete-follows, incomplete}
-use Rattle.search.proofs.Seeing.{startable, started-plan}
+use Rattle.search.proofs.Complete.{startable, started-plan}
 use Rattle.instance.proofs.Arrays.{length-mapped}
-use Rattle.search.proofs.Sound.{laid-sound}
+use Rattle.replay.proofs.Sound.{laid-sound}
 use Rattle.search.proofs.repeat.Statement.{statement}
 use Rattle.search.proofs.repeat.Tie as tie
 

@@ -5,9 +5,9 @@ use borrow.Author.Tests.{not-true, not-false}
 use Rattle.model.specs.Search as S
 use Rattle.instance.specs.Meaning.{problem-of}
 use Rattle.instance.specs.Reads.{Full}
-use Rattle.search.specs.Checkpoints.{following}
+use Rattle.replay.specs.Checkpoints.{following}
 use Rattle.search.specs.Results.{search-result}
-use Rattle.search.proofs.Checkpoints.{checkpoint-as, well-formed-bits}
+use Rattle.replay.proofs.Checkpoints.{checkpoint-as, well-formed-bits}
 use Rattle.search.proofs.Outcome.{comes-infeasible, comes-again}
 use Rattle.instance.proofs.Arrays.{length-mapped}
 use Rattle.search.proofs.search.Statement.{statement}

@@ -6,3 +6,4 @@ pub mod packing;
 pub mod relations;
 pub mod search;
 pub mod sheet;
+pub mod value;

@@ -127,7 +127,7 @@ pub fn read_with_records(sheet: &[u8]) -> Result<(Instance, Vec<Range<usize>>), 
 }
 
 /// Not 5: "a piece not on the sheet, or u = v in an order".
-fn names_items(items: usize, (u, v): (usize, usize)) -> bool {
+pub fn names_items(items: usize, (u, v): (usize, usize)) -> bool {
     u < items && v < items && u != v
 }
 

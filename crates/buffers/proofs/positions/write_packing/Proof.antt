@@ -5,8 +5,8 @@ use native.Mathlib.Omega.{arith}
 use lib.ListN.{length, take}
 use lib.Seq.{sets}
 use borrow.Author.Needs.{needs}
-use Rattle.records.specs.Bytes.{row-bytes}
-use Rattle.records.proofs.Writers.{row-none}
+use Rattle.formats.specs.Formats.{row-bytes}
+use Rattle.formats.proofs.Stores.{row-none}
 use Rattle.buffers.specs.Bytes.{position-bytes}
 use Rattle.instance.proofs.Arrays.{length-mapped}
 use Rattle.buffers.proofs.Bytes.{positions-next, packing-fills}

@@ -1,6 +1,6 @@
 -- `domains::layout::size_of` meets its contract.
 use mathlib.Core.Path.{sym}
-use Rattle.domains.proofs.Shapes.{size-at-is}
+use Rattle.propagation.proofs.Shapes.{size-at-is}
 use borrow.Author.Needs.{needs}
 use Rattle.domains.proofs.layout.size_of.Statement.{statement}
 use Rattle.domains.proofs.layout.size_of.Tie as tie

@@ -3,7 +3,7 @@ use mathlib.Core.Logic.{⊎-elim}
 use mathlib.Core.Path.{sym, _∙_}
 use native.Mathlib.Omega.{arith}
 use Rattle.events.proofs.Works.{worked-then}
-use Rattle.events.proofs.Pairs.{along-idle, paths-worked, paths-idle}
+use Rattle.events.proofs.Along.{along-idle, paths-worked, paths-idle}
 use borrow.Author.Needs.{needs}
 use Rattle.events.proofs.paths.follow_both.Statement.{statement}
 use Rattle.events.proofs.paths.follow_both.Tie as tie

@@ -23,7 +23,7 @@ returns-4 c = simp (le-leb _ _ (c .before .before .before .before .before .befor
 
 returns-5 : tie.Need-returns-5
 unfolding valid
-returns-5 c = simp (le-leb _ _ (c .before .before .before .before .before .before .before .before .before .if1 .left), le-leb _ _ (c .before .before .before .before .before .before .before .before .if2 .left), ← (c .before .before .before .before .before .before .is-positive .ensures), not-false (c .before .before .before .before .before .before .is-positive .result) (c .before .before .before .before .before .if3 .left), ← (c .before .before .before .all-positive .ensures), not-false (c .before .before .before .all-positive .result) (c .before .before .if4 .left)) (c .all-stand-in .ensures)
+returns-5 c = simp (le-leb _ _ (c .before .before .before .before .before .before .before .before .before .if1 .left), le-leb _ _ (c .before .before .before .before .before .before .before .before .if2 .left), ← (c .before .before .before .before .before .before .is-positive .ensures), not-false (c .before .before .before .before .before .before .is-positive .result) (c .before .before .before .before .before .if3 .left), ← (c .before .before .before .all-positive .ensures), not-false (c .before .before .before .all-positive .result) (c .before .before .if4 .left)) (c .all-in-order .ensures)
 
 pub is-valid-spec : {M : Type 1} → statement M
 is-valid-spec =

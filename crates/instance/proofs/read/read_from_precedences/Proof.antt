@@ -1,56 +1,50 @@
 -- `instance::read::read_from_precedences` meets its contract.
+use Prim.Native.Nat.{_≤_}
 use native.Mathlib.Omega.{arith}
 use mathlib.Core.Path.{_∙_}
-use lib.ListN.{length-drop}
-use Rattle.records.specs.Sizes.{no-precedence}
-use Rattle.records.proofs.Readers.{rest-of}
-use Rattle.instance.specs.Decode.{from-precedences}
-use Rattle.instance.proofs.Drafts.{items-many, blank-filled}
+use lib.ListN.{length, length-drop}
+use Rattle.formats.proofs.Entries.{rest-of}
+use Rattle.formats.proofs.Run.{run-took}
+use Rattle.instance.proofs.Readers.{precedences-run, items-many}
 use borrow.Author.Needs.{needs}
 use Rattle.instance.proofs.read.read_from_precedences.Statement.{statement}
 use Rattle.instance.proofs.read.read_from_precedences.Tie as tie
 
-sub-read-from-yard : tie.Need-sub-read-from-yard
-sub-read-from-yard c = let w = rw (c .before .before .stop2 .given .1) at (c .before .before .before .before .read-precedence-list .ensures .1 .0 .0) in omega arith
+-- the bytes that the list took are there
+took : (c : tie.After-known-told2) → c .before .stop2 .given .0 .0 ≤ length (c .before .before .before .before .before .before .args .rest .now)
+took c = run-took _ _ _ (rw (c .before .stop2 .given .1) at (c .before .before .before .read-precedences .ensures .0))
 
-part-read-from-yard-start : tie.Need-part-read-from-yard-start
-part-read-from-yard-start c = let w = rw (c .before .before .stop2 .given .1) at (c .before .before .before .before .read-precedence-list .ensures .1 .0 .0) in omega arith
+sub-read-from-yard-number : tie.Need-sub-read-from-yard-number
+sub-read-from-yard-number c = omega (arith, took (c .before))
 
-add-read-from-yard : tie.Need-add-read-from-yard
-add-read-from-yard c = let w = rw (c .before .before .before .stop2 .given .1) at (c .before .before .before .before .before .read-precedence-list .ensures .1 .0 .0) in omega arith
+part-read-from-yard-number-start : tie.Need-part-read-from-yard-number-start
+part-read-from-yard-number-start c = omega (arith, took (c .before))
 
-read-from-yard-requires : tie.Need-read-from-yard-requires
-read-from-yard-requires c κs =
-    let w = rw (c .before .before .before .stop2 .given .1) at (c .before .before .before .before .before .read-precedence-list .ensures .1 .0 .0) in
-    let b = rw (c .before .before .before .stop2 .given .1) at (c .before .before .before .before .before .read-precedence-list .ensures .1 .1) in
-    let δ = c .before .before .before .before .before .before .before .before .pre .1 in (
-      simp (rest-of, length-drop) (omega arith),
-      record {
-        items-few = δ .items-few;
-        precedences-few = c .before .before .before .before .before .read-precedence-list .ensures .1 .0 .1;
-        items-blank = δ .items-blank;
-        precedences-blank = blank-filled 90 _ no-precedence _ b;
-      },
-    )
+add-read-from-yard-number : tie.Need-add-read-from-yard-number
+add-read-from-yard-number c = omega (arith, took (c .before .before))
+
+read-from-yard-number-requires : tie.Need-read-from-yard-number-requires
+read-from-yard-number-requires c κs =
+    let w = took (c .before .before) in
+    let δ = c .before .before .before .before .before .before .before .before .pre .1 in
+    (simp (rest-of, length-drop) (omega arith), record { items = δ .items; precedences = c .before .before .before .before .before .read-precedences .ensures .1 })
 
 returns : tie.Need-returns
-unfolding from-precedences
 returns c =
     let a = c .before .before .before .before .before .before .before .args in
-    let e = rw (c .before .before .stop .given .1) at (c .before .before .before .before .read-precedence-list .ensures .0) in
-    c .refuse .ensures ∙ simp (items-many (a .draft) (c .before .before .before .before .before .before .before .pre .1), ← (c .before .before .before .before .before .bit-stands .ensures), e)
+    let e = rw (c .before .before .stop .given .1) at (c .before .before .before .before .read-precedences .ensures .0) in
+    c .refuse .ensures ∙ simp (precedences-run, items-many (a .draft) (c .before .before .before .before .before .before .before .pre .1), ← (c .before .before .before .before .before .bit-is-set .ensures), e)
 
 returns-2 : tie.Need-returns-2
-unfolding from-precedences
 returns-2 c =
     let a = c .before .before .before .before .before .before .before .before .before .args in
-    let e = rw (c .before .before .before .before .stop2 .given .1) at (c .before .before .before .before .before .before .read-precedence-list .ensures .0) in
-    let f = rw rest-of at (c .read-from-yard .ensures) in
-    f ∙ simp (items-many (a .draft) (c .before .before .before .before .before .before .before .before .before .pre .1), ← (c .before .before .before .before .before .before .before .bit-stands .ensures), e)
+    let e = rw (c .before .before .before .before .stop2 .given .1) at (c .before .before .before .before .before .before .read-precedences .ensures .0) in
+    let f = rw rest-of at (c .read-from-yard-number .ensures) in
+    f ∙ simp (precedences-run, items-many (a .draft) (c .before .before .before .before .before .before .before .before .before .pre .1), ← (c .before .before .before .before .before .before .before .bit-is-set .ensures), e)
 
 pub read-from-precedences-spec : {M : Type 1} → statement M
 read-from-precedences-spec =
     tie.close
     (tie.spec (λ c κs. search needs) (λ c κs. search needs) (λ c. search needs) (λ c κs. search needs) (λ c. search needs)
-    sub-read-from-yard part-read-from-yard-start (λ c. search needs) add-read-from-yard read-from-yard-requires returns
-    returns-2)
+    sub-read-from-yard-number part-read-from-yard-number-start (λ c. search needs) add-read-from-yard-number
+    read-from-yard-number-requires returns returns-2)

@@ -5,8 +5,8 @@ use native.Mathlib.Omega.{arith}
 use Prim.Native.Nat.{_-_, _≤_}
 use mathlib.Core.Path.{_≡_, refl, sym}
 use lib.ListN.{length, take, drop}
-use Rattle.records.specs.Sizes.{no-precedence}
-use Rattle.records.proofs.Tests.{part-next, part-done}
+use Rattle.parts.specs.Sizes.{no-precedence}
+use Rattle.formats.proofs.Entries.{part-next, part-done}
 use Rattle.packing.specs.Parts.{all-kept}
 use Rattle.packing.proofs.Loops.{all-kept-next, all-kept-done, kept-is}
 use Rattle.packing.proofs.feasible.all_are_kept.Statement.{statement}

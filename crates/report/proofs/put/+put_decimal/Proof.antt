@@ -5,7 +5,7 @@ use native.Mathlib.Nat.{div-lt-self}
 use mathlib.Core.List.{[], _∷_}
 use Prim.Native.Nat.{_+_, _/_, _%_}
 use lib.ListN.{length-set, length-append}
-use Rattle.records.proofs.Writers.{sets-append}
+use Rattle.formats.proofs.Stores.{sets-append}
 use Rattle.report.specs.Decimal.{decimal}
 use Rattle.report.proofs.Decimals.{decimal-one, decimal-more}
 use Prim.Native.Nat.{ℕ, _<_}

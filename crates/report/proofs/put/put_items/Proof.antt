@@ -6,7 +6,7 @@ use mathlib.Core.Path.{_≡_, refl, sym}
 use Prim.Native.Nat.{_+_, _-_, _*_, _≤_}
 use lib.ListN.{length, length-append}
 use lib.Seq.{sets}
-use Rattle.records.proofs.Writers.{sets-append}
+use Rattle.formats.proofs.Stores.{sets-append}
 use Rattle.report.specs.Text.{item-lines}
 use Rattle.report.proofs.Puts.{items-none, items-next}
 use Rattle.report.proofs.put.put_items.Statement.{statement}

@@ -15,21 +15,21 @@ use Rattle.model.specs.Run as R
 use Rattle.model.specs.Search as S
 use Rattle.instance.specs.Meaning.{precedence-of}
 use Rattle.instance.specs.Valid.{precedences-of}
-use Rattle.domains.specs.Propagated.{Arrays}
-use Rattle.domains.specs.Shape.{shape-problem}
-use Rattle.search.specs.Checkpoints.{path-of}
+use Rattle.propagation.specs.Propagated.{Arrays}
+use Rattle.propagation.specs.Shape.{shape-problem}
+use Rattle.replay.specs.Checkpoints.{path-of}
 use Rattle.search.specs.Results.{result-of}
 use Rattle.search.specs.declared.SearchResult.{SearchResult}
-use Rattle.search.specs.Standing.{without-seconds, Standing, Holds, Looked}
-use Rattle.search.specs.declared.Snapshot.{Snapshot}
+use Rattle.replay.specs.Standing.{without-seconds, Standing, Holds, Looked}
+use Rattle.replay.specs.declared.Snapshot.{Snapshot}
 use Rattle.search.proofs.Budget.{rest-spent}
-use Rattle.search.proofs.Checkpoints.{branches-length}
+use Rattle.replay.proofs.Checkpoints.{branches-length}
 use Rattle.search.proofs.Going.{going-start, going-depth, complete-comes, fork-depth, fork-goes, conflict-comes, there, turn-depth, turn-rising, turn-good, turn-goes, Going}
 use Rattle.search.proofs.Outcome.{comes-infeasible, comes-spent, comes-packed}
-use Rattle.search.proofs.Seeing.{startable, started-plan}
+use Rattle.search.proofs.Complete.{startable, started-plan}
 use Rattle.instance.proofs.Arrays.{length-mapped}
-use Rattle.search.proofs.Sound.{laid-sound}
-use Rattle.search.proofs.Standing.{Turn, kept-good, fork-rising}
+use Rattle.replay.proofs.Sound.{laid-sound}
+use Rattle.replay.proofs.Standing.{Turn, kept-good, fork-rising}
 use Rattle.search.proofs.steps.run.Statement.{statement}
 use Rattle.search.proofs.steps.run.Tie as tie
 

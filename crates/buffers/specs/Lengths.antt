@@ -1,0 +1,14 @@
+-- How long the buffers of a C program are.
+use Prim.Native.Nat.{ℕ}
+
+-- "A note is 273 bytes"
+abbrev pub note-length : ℕ
+note-length = 273
+
+-- "4 bytes of steps"
+abbrev pub steps-length : ℕ
+steps-length = 4
+
+-- "x, y, t for each piece, 2 bytes each"
+abbrev pub position-length : ℕ
+position-length = 6

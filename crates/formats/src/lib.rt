@@ -1,0 +1,1 @@
+// Formats: no code, definitions and laws alone.

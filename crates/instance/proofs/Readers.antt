@@ -1,0 +1,119 @@
+-- What the sheet's readings give, field by field: the equations that the readers' proofs cite; and the draft that the fields go into.
+use mathlib.Core.Path.{_≡_, refl, sym, ap, _∙_}
+use mathlib.Core.Bool.{Bool, true, false, cond, _||_, true≢false}
+use mathlib.Core.List.{List, [], _∷_, _++_}
+use Prim.Native.Nat.{ℕ, _+_, _-_, _≤_, _<_}
+use native.Mathlib.Omega.{arith}
+use lib.Dec.{eqb, leb, ltb}
+use lib.ListN.{length, getD, take, drop, length-append, length-take, length-replicate}
+use borrow.Author.Tests.{ltb-false}
+use Rattle.refusal.specs.declared.Refusal.the-variants.{EndsEarly, UnknownBit, TrailingBytes}
+use Rattle.formats.specs.Reading.{Reading, done, end, Read, got, refused, run, _>>=_, read-as}
+use Rattle.formats.specs.Formats.{Format, Test, byte, testing, tested, keyed, row-reading, row, count, counted, whole}
+use Rattle.formats.specs.Fields.{optional-reading, is-set, fields-reading, fields, map-byte, with-map}
+use Rattle.formats.proofs.Run.{after, after-after, cond-after, cond-got, never-both, run-then, read-as-after, read-as-cond}
+use Rattle.parts.specs.Parts.{count-field, measures, size-fields}
+use Rattle.sheet.specs.Sheet.{Sheet, list-of, sheet-fields, sheet, item-list, precedence-list, yard-number}
+use Rattle.instance.specs.declared.Instance.{Instance}
+use Rattle.instance.specs.Valid.{items-of, precedences-of}
+use Rattle.instance.specs.Sheets.{filled, instance-of, sheet-of, decode}
+use Rattle.instance.specs.Lists.{Filled}
+use Rattle.instance.specs.Drafts.{Draft, from-items, from-precedences, from-yard-number}
+
+-- a counted row is a count, left out for 0, and the row
+pub list-run : {P A : Type 0} (part : Format A) (tests : P → A → List Test) (next : P → A → P) (p : P) (limit : ℕ) (present : Bool) (at : ℕ) (rest : List ℕ)
+    → run (optional-reading (list-of part tests next p limit) present) at rest
+    ≡ after (run (optional-reading (count-field limit) present) at rest) λ n at₁ rest₁. run (row-reading part tests next p n) at₁ rest₁
+unfolding list-of counted keyed row count-field row-reading run
+list-run part tests next p limit false at rest = refl
+list-run part tests next p limit true at rest = simp run-then
+
+-- a count that was read is within its limit
+pub count-within : (limit : ℕ) (present : Bool) (at : ℕ) (rest : List ℕ) {n at′ : ℕ} {rest′ : List ℕ} → run (optional-reading (count-field limit) present) at rest ≡ got n at′ rest′ → n ≤ limit
+unfolding count-field count tested testing byte run _>>=_
+count-within limit false at rest {n} h = let e : _≡_ {A = ℕ} 0 n = cc in omega arith
+count-within limit true at [] h = absurd (never-both h)
+count-within limit true at (x ∷ rest) {n} h =
+    let (c, g) = cond-got (eqb x 0 || ltb limit x) _ _ h in
+    let e : x ≡ n = cc in
+    rw (← e) (ltb-false limit x (second (eqb x 0) (ltb limit x) c))
+  where
+    second : (a b : Bool) → (a || b) ≡ false → b ≡ false
+    second false b c = c
+    second true b c = absurd (true≢false c)
+
+-- 7: "bytes after the last field"
+abbrev pub ended : Instance → ℕ → List ℕ → Read Instance
+ended i at [] = got i at []
+ended i at (b ∷ rest) = refused (TrailingBytes at)
+
+pub ended-more : (i : Instance) (at : ℕ) (rest : List ℕ) → 0 < length rest → ended i at rest ≡ refused (TrailingBytes at)
+ended-more i at [] h = absurd (omega arith)
+ended-more i at (b ∷ rest) h = refl
+
+pub ended-here : (i : Instance) (at : ℕ) (rest : List ℕ) → length rest ≡ 0 → ended i at rest ≡ got i at []
+ended-here i at [] h = refl
+ended-here i at (b ∷ rest) h = absurd (omega arith)
+
+ended-is : (s : Sheet) (at : ℕ) (rest : List ℕ) → read-as instance-of (run (end (done s)) at rest) ≡ ended (instance-of s) at rest
+unfolding run
+ended-is s at [] = refl
+ended-is s at (b ∷ rest) = refl
+
+module _ (map : ℕ) (d : Sheet) (at : ℕ) (rest : List ℕ) where
+  pub yard-number-run : from-yard-number map d at rest
+      ≡ after (run (optional-reading yard-number (is-set map 32)) at rest) λ yard at₁ rest₁.
+      ended (instance-of (record { container = d .container; items = d .items; precedences = d .precedences; yard-number = yard })) at₁ rest₁
+  unfolding from-yard-number sheet-fields measures fields-reading run
+  yard-number-run = simp (run-then, after-after, read-as-after, ended-is)
+
+  pub precedences-run : from-precedences map d at rest
+      ≡ after (run (optional-reading (precedence-list (length (d .items))) (is-set map 16)) at rest) λ os at₁ rest₁.
+      from-yard-number map (record { container = d .container; items = d .items; precedences = os; yard-number = d .yard-number }) at₁ rest₁
+  unfolding from-precedences from-yard-number sheet-fields measures fields-reading run
+  precedences-run = simp (run-then, after-after, read-as-after)
+
+  pub items-run : from-items map d at rest
+      ≡ after (run (optional-reading item-list (is-set map 8)) at rest) λ is at₁ rest₁.
+      from-precedences map (record { container = d .container; items = is; precedences = d .precedences; yard-number = d .yard-number }) at₁ rest₁
+  unfolding from-items from-precedences sheet-fields measures fields-reading run
+  items-run = simp (run-then, after-after, read-as-after)
+
+pub sheet-short : (s : List ℕ) → length s < 1 → decode s ≡ refused (EndsEarly 0)
+unfolding decode whole sheet with-map map-byte keyed tested byte run _>>=_
+sheet-short [] h = refl
+sheet-short (x ∷ rest) h = absurd (omega arith)
+
+pub sheet-there : (s : List ℕ) → 1 ≤ length s → (is : Sheet) → decode s
+    ≡ cond (leb 64 (getD s 0 0)) (refused (UnknownBit 0))
+    (after (run (fields-reading size-fields (getD s 0 0) 1) 1 (drop 1 s)) λ c at₁ rest₁.
+    from-items (getD s 0 0) (record { container = c; items = is .items; precedences = is .precedences; yard-number = is .yard-number }) at₁ rest₁)
+unfolding decode whole sheet with-map map-byte keyed tested testing byte fields fields-reading sheet-fields size-fields measures from-items run _>>=_
+sheet-there [] h d = absurd (omega arith)
+sheet-there (x ∷ rest) h d = simp (cond-after, read-as-cond, run-then, after-after, read-as-after)
+
+-- The draft.
+module _ {A : Type 0} (room n : ℕ) (blank : A) (xs : List A) (φ : Filled room blank n xs) where
+  pub filled-many : length (take n xs) ≡ n
+  filled-many =
+      let few = φ .few in
+      let l : length xs ≡ length (take n xs) + (room - length (take n xs)) = ap length (φ .same) ∙ simp (length-append, length-replicate) in
+      let t = length-take n xs in
+      omega arith
+
+module _ (i : Instance) (δ : Draft i) where
+  pub items-many : length (items-of i) ≡ i .«item_count»
+  items-many = filled-many _ _ _ _ (δ .items)
+
+  -- with a yard number it is the instance of its parts
+  pub draft-is : (yard : ℕ) → instance-of (record { container = i .container; items = items-of i; precedences = precedences-of i; yard-number = yard })
+      ≡ record {
+        container = i .container;
+        items = i .items;
+        «item_count» = i .«item_count»;
+        precedences = i .precedences;
+        «precedence_count» = i .«precedence_count»;
+        «yard_number» = yard;
+      }
+  unfolding instance-of
+  draft-is yard = rw (← (δ .items .same), ← (δ .precedences .same), items-many, filled-many _ _ _ _ (δ .precedences))

@@ -1,0 +1,33 @@
+-- The rows of a sheet and the arrays that hold them.
+use mathlib.Core.List.{List, []}
+use mathlib.Core.Path.{_≡_}
+use Prim.Native.Nat.{ℕ, _+_, _≤_}
+use lib.ListN.{take, drop}
+use Rattle.formats.specs.Reading.{Reading, Read, got, refused}
+use Rattle.formats.specs.Formats.{row-reading}
+use Rattle.parts.specs.declared.Item.{Item}
+use Rattle.parts.specs.declared.Precedence.{Precedence}
+use Rattle.parts.specs.declared.Previous.{Previous}
+use Rattle.parts.specs.declared.Previous.the-variants.{Was}
+use Rattle.parts.specs.Parts.{item, precedence, precedence-tests}
+use Rattle.instance.specs.declared.lists.Stop.{Stop}
+use Rattle.instance.specs.declared.lists.Stop.the-variants as S
+use Rattle.instance.specs.Sheets.{filled}
+
+-- the next n items
+abbrev pub item-row : ℕ → Reading (List Item)
+item-row = row-reading item (λ (_ : Unit {0}) _. []) (λ p _. p) tt
+
+-- the next m precedences of a sheet with n items, after `last`
+abbrev pub precedence-row : ℕ → Previous → ℕ → Reading (List Precedence)
+precedence-row n = row-reading precedence (precedence-tests n) (λ _ o. Was o)
+
+-- a row that was read from these bytes
+abbrev pub row-read : {A : Type 0} → ℕ → List ℕ → Stop → List A → Read (List A)
+row-read at rest (S.After used) xs = got xs (at + used) (drop used rest)
+row-read at rest (S.Refused e) xs = refused e
+
+-- of `room` entries the first n count, and those past them are blank
+pub record Filled {A : Type 0} (room : ℕ) (blank : A) (n : ℕ) (xs : List A) : Type 0 where
+  pub few : n ≤ room
+  pub same : xs ≡ filled room blank (take n xs)

@@ -1,0 +1,40 @@
+-- An instance and what its sheet says; reading and writing it (document 01, "Sheet bytes").
+use mathlib.Core.List.{List, _++_}
+use Prim.Native.Nat.{ℕ, _-_}
+use lib.ListN.{length, replicate}
+use Rattle.formats.specs.Reading.{Read, run, read-as}
+use Rattle.formats.specs.Formats.{Format, whole}
+use Rattle.parts.specs.Sizes.{no-item, no-precedence}
+use Rattle.sheet.specs.Sheet.{Sheet, sheet, max-items, max-precedences}
+use Rattle.instance.specs.declared.Instance.{Instance}
+use Rattle.instance.specs.Valid.{items-of, precedences-of}
+
+-- "Entries of a sheet past its counts are no part of it; reading leaves them 0"
+abbrev pub filled : {A : Type 0} → ℕ → A → List A → List A
+filled room blank xs = xs ++ replicate (room - length xs) blank
+
+unfoldable pub instance-of : Sheet → Instance
+instance-of s = record {
+  container = s .container;
+  items = filled max-items no-item (s .items);
+  «item_count» = length (s .items);
+  precedences = filled max-precedences no-precedence (s .precedences);
+  «precedence_count» = length (s .precedences);
+  «yard_number» = s .yard-number;
+}
+
+abbrev pub sheet-of : Instance → Sheet
+sheet-of i = record {
+  container = i .container;
+  items = items-of i;
+  precedences = precedences-of i;
+  yard-number = i .«yard_number»;
+}
+
+-- the instance that bytes read as, or the first fault from left to right
+unfoldable pub decode : List ℕ → Read Instance
+decode s = read-as instance-of (run (whole sheet) 0 s)
+
+-- the bytes of an instance
+unfoldable pub encode : Instance → List ℕ
+encode i = sheet .bytes (sheet-of i)

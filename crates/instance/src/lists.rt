@@ -1,0 +1,213 @@
+// The items and the precedences of an instance: arrays of which the first entries count.
+ghost use mathlib.Core.Path.{_≡_};
+ghost use Prim.Native.Nat.{_+_, _≤_};
+ghost use lib.ListN.{length, take, drop, replicate};
+ghost use Rattle.formats.specs.Reading.{run};
+ghost use Rattle.formats.specs.Fields.{optional-reading};
+ghost use Rattle.parts.specs.Answers.{PlacesFit};
+ghost use Rattle.parts.specs.Precedences.{all-stand};
+ghost use Rattle.parts.specs.Sizes.{no-item, no-precedence, all-have-size};
+ghost use Rattle.sheet.specs.Sheet.{max-items, max-precedences, item-list, precedence-list};
+ghost use Rattle.instance.specs.Lists.{item-row, precedence-row, row-read, Filled};
+use crate::Instance;
+use parts::FieldRead;
+use parts::Item;
+use parts::ItemRead;
+use parts::Precedence;
+use parts::PrecedenceRead;
+use parts::Previous;
+use parts::Size;
+use refusal::Refusal;
+
+// How reading a row ends: after so many bytes, or refused.
+pub enum Stop {
+    After(usize),
+    Refused(Refusal),
+}
+
+// The items, or the precedences, that were read.
+pub struct ItemsRead {
+    pub stop: Stop,
+    pub count: usize,
+    pub items: [Item; Instance::MAX_ITEMS],
+}
+
+pub struct PrecedencesRead {
+    pub stop: Stop,
+    pub count: usize,
+    pub precedences: [Precedence; Instance::MAX_PRECEDENCES],
+}
+
+fn widened(x: u16) -> usize
+    ensures { λ r. ⌜ r ≡ x ⌝ }
+{
+    x as usize
+}
+
+pub fn no_items() -> [Item; Instance::MAX_ITEMS]
+    ensures { λ r. ⌜ r ≡ replicate max-items no-item ⌝ }
+{
+    let size = Size {
+        width: 0,
+        depth: 0,
+        shifts: 0,
+    };
+    let item = Item { size };
+    [item; Instance::MAX_ITEMS]
+}
+
+pub fn no_precedences() -> [Precedence; Instance::MAX_PRECEDENCES]
+    ensures { λ r. ⌜ r ≡ replicate max-precedences no-precedence ⌝ }
+{
+    let none = Precedence {
+        predecessor: 0,
+        successor: 0,
+    };
+    [none; Instance::MAX_PRECEDENCES]
+}
+
+// n items from byte `from` on: each is read from the rest of the sheet after the item before.
+fn read_item_row(rest: &[u8], at: usize, from: usize, n: usize) -> ItemsRead
+    requires { ⌜ PlacesFit at (now rest) × (from ≤ length (now rest)) × (n ≤ max-items) ⌝ }
+    ensures { λ r. ⌜ run (item-row n) (at + from) (drop from (now (rest .entry))) ≡ row-read at (now (rest .entry)) (r .stop) (take (r .count) (r .items)) ⌝ }
+    ensures { λ r. ⌜ Filled max-items no-item (r .count) (r .items) ⌝ }
+{
+    let mut items = no_items();
+    let mut used = from;
+    let mut i: usize = 0;
+    while i < n {
+        match parts::read::read_item(&rest[used..], at + used) {
+            ItemRead::Value(item, more) => {
+                items[i] = item;
+                used = used + more;
+                i = i + 1;
+            }
+            ItemRead::Refused(e) => {
+                return ItemsRead {
+                    stop: Stop::Refused(e),
+                    count: i,
+                    items,
+                };
+            }
+        }
+    }
+    ItemsRead {
+        stop: Stop::After(used),
+        count: i,
+        items,
+    }
+}
+
+// m precedences from byte `from` on, of a sheet with n items.
+fn read_precedence_row(rest: &[u8], at: usize, from: usize, n: usize, m: usize) -> PrecedencesRead
+    requires { ⌜ PlacesFit at (now rest) × (from ≤ length (now rest)) × (m ≤ max-precedences) ⌝ }
+    ensures { λ r. ⌜ run (precedence-row n Previous.Nothing m) (at + from) (drop from (now (rest .entry))) ≡ row-read at (now (rest .entry)) (r .stop) (take (r .count) (r .precedences)) ⌝ }
+    ensures { λ r. ⌜ Filled max-precedences no-precedence (r .count) (r .precedences) ⌝ }
+{
+    let mut precedences = no_precedences();
+    let mut last = Previous::Nothing;
+    let mut used = from;
+    let mut i: usize = 0;
+    while i < m {
+        match parts::read::read_precedence(&rest[used..], at + used, n, last) {
+            PrecedenceRead::Value(o, more) => {
+                precedences[i] = o;
+                last = Previous::Was(o);
+                used = used + more;
+                i = i + 1;
+            }
+            PrecedenceRead::Refused(e) => {
+                return PrecedencesRead {
+                    stop: Stop::Refused(e),
+                    count: i,
+                    precedences,
+                };
+            }
+        }
+    }
+    PrecedencesRead {
+        stop: Stop::After(used),
+        count: i,
+        precedences,
+    }
+}
+
+// The count of items and the items; left out there are none.
+pub fn read_items(rest: &[u8], at: usize, present: bool) -> ItemsRead
+    requires { ⌜ PlacesFit at (now rest) ⌝ }
+    ensures { λ r. ⌜ run (optional-reading item-list present) at (now (rest .entry)) ≡ row-read at (now (rest .entry)) (r .stop) (take (r .count) (r .items)) ⌝ }
+    ensures { λ r. ⌜ Filled max-items no-item (r .count) (r .items) ⌝ }
+{
+    match parts::read::read_count(rest, at, present, Instance::MAX_ITEMS) {
+        FieldRead::Value(n, used) => read_item_row(rest, at, used, widened(n)),
+        FieldRead::Refused(e) => {
+            let items = no_items();
+            ItemsRead {
+                stop: Stop::Refused(e),
+                count: 0,
+                items,
+            }
+        }
+    }
+}
+
+// The count of precedences and the precedences of a sheet with n items; left out there are none.
+pub fn read_precedences(rest: &[u8], at: usize, n: usize, present: bool) -> PrecedencesRead
+    requires { ⌜ PlacesFit at (now rest) ⌝ }
+    ensures { λ r. ⌜ run (optional-reading (precedence-list n) present) at (now (rest .entry)) ≡ row-read at (now (rest .entry)) (r .stop) (take (r .count) (r .precedences)) ⌝ }
+    ensures { λ r. ⌜ Filled max-precedences no-precedence (r .count) (r .precedences) ⌝ }
+{
+    match parts::read::read_count(rest, at, present, Instance::MAX_PRECEDENCES) {
+        FieldRead::Value(m, used) => read_precedence_row(rest, at, used, n, widened(m)),
+        FieldRead::Refused(e) => {
+            let precedences = no_precedences();
+            PrecedencesRead {
+                stop: Stop::Refused(e),
+                count: 0,
+                precedences,
+            }
+        }
+    }
+}
+
+// The first n items have no measure 0.
+pub fn all_positive(items: [Item; Instance::MAX_ITEMS], n: usize) -> bool
+    requires { ⌜ n ≤ max-items ⌝ }
+    ensures { λ r. ⌜ r ≡ all-have-size (take n items) ⌝ }
+{
+    let mut i: usize = 0;
+    while i < n {
+        let item = items[i];
+        let size = item.size;
+        if !parts::valid::is_positive(size) {
+            return false;
+        }
+        i = i + 1;
+    }
+    true
+}
+
+// The first m precedences name two of n items each and rise.
+pub fn all_in_order(
+    precedences: [Precedence; Instance::MAX_PRECEDENCES],
+    m: usize,
+    n: usize,
+) -> bool
+    requires { ⌜ m ≤ max-precedences ⌝ }
+    ensures { λ r. ⌜ r ≡ all-stand n Previous.Nothing (take m precedences) ⌝ }
+{
+    let mut last = Previous::Nothing;
+    let mut i: usize = 0;
+    while i < m {
+        let o = precedences[i];
+        if !parts::valid::both_items(o, n) {
+            return false;
+        }
+        if !parts::valid::is_rising(last, o) {
+            return false;
+        }
+        last = Previous::Was(o);
+        i = i + 1;
+    }
+    true
+}

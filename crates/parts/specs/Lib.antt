@@ -1,0 +1,4 @@
+pub mod Sizes
+pub mod Precedences
+pub mod Parts
+pub mod Answers

@@ -1,0 +1,6 @@
+pub mod Cuts
+pub mod Directions
+pub mod Shapes
+pub mod Rest
+pub mod Rounds
+pub mod Updates

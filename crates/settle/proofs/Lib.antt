@@ -1,0 +1,5 @@
+pub mod Circle
+pub mod Pending
+pub mod Instances
+pub mod Pairs
+pub mod Settling

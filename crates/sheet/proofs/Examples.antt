@@ -1,0 +1,79 @@
+-- Document 01's byte examples, and more for the limits and the order of the fields.
+use mathlib.Core.Path.{_≡_}
+use mathlib.Core.List.{List, [], _∷_}
+use Prim.Native.Nat.{ℕ}
+use lib.ListN.{length}
+use Rattle.refusal.specs.declared.Refusal.the-variants.{EndsEarly, UnknownBit, WrittenDefault, BadCount, BadItem, NotRising, TrailingBytes}
+use Rattle.formats.specs.Reading.{Read, got, refused, run}
+use Rattle.formats.specs.Formats.{whole}
+use Rattle.parts.specs.declared.Size.{Size}
+use Rattle.parts.specs.declared.Item.{Item}
+use Rattle.parts.specs.declared.Precedence.{Precedence}
+use Rattle.sheet.specs.Sheet.{Sheet, sheet}
+use Rattle.sheet.specs.Computing.{computing}
+
+abbrev read : List ℕ → Read Sheet
+read s = run (whole sheet) 0 s
+
+-- the bytes are read as the sheet, and it is written as them
+abbrev Means : List ℕ → Sheet → Type 0
+Means s x = (read s ≡ got x (length s) []) × (sheet .bytes x ≡ s)
+
+abbrev size-of : ℕ → ℕ → ℕ → Size
+size-of width depth shifts = record { width = width; depth = depth; shifts = shifts }
+
+abbrev item-of : ℕ → ℕ → ℕ → Item
+item-of width depth shifts = record { size = size-of width depth shifts }
+
+abbrev before : ℕ → ℕ → Precedence
+before u v = record { predecessor = u; successor = v }
+
+abbrev sheet-of : Size → List Item → List Precedence → ℕ → Sheet
+sheet-of container items precedences yard-number =
+    record { container = container; items = items; precedences = precedences; yard-number = yard-number }
+
+readings :
+    -- the hall 2×1×2 with the pieces 2×1×1 and 1×1×1 and the order 1,0
+    Means (0x1D ∷ 2 ∷ 0 ∷ 2 ∷ 0 ∷ 2 ∷ 1 ∷ 2 ∷ 0 ∷ 0 ∷ 1 ∷ 1 ∷ 0 ∷ [])
+    (sheet-of (size-of 2 1 2) (item-of 2 1 1 ∷ item-of 1 1 1 ∷ []) (before 1 0 ∷ []) 0)
+    -- all left out
+    × Means (0 ∷ []) (sheet-of (size-of 1 1 1) [] [] 0)
+    -- the hall's measures alone; the yard number alone
+    × Means (0x07 ∷ 2 ∷ 0 ∷ 3 ∷ 0 ∷ 4 ∷ 0 ∷ []) (sheet-of (size-of 2 3 4) [] [] 0)
+    × Means (0x20 ∷ 1 ∷ 0 ∷ []) (sheet-of (size-of 1 1 1) [] [] 1)
+    -- all written, and no two alike
+    × Means
+    (0x3F ∷ 2 ∷ 1 ∷ 3 ∷ 0 ∷ 4 ∷ 0 ∷ 2 ∷ 0x07 ∷ 5 ∷ 0 ∷ 6 ∷ 0 ∷ 7 ∷ 0 ∷ 0x07 ∷ 8 ∷ 0 ∷ 9 ∷ 0 ∷ 11 ∷ 10
+    ∷ 2 ∷ 0 ∷ 1 ∷ 1 ∷ 0 ∷ 12 ∷ 13 ∷ [])
+    (sheet-of (size-of 0x0102 3 4) (item-of 5 6 7 ∷ item-of 8 9 0x0A0B ∷ []) (before 0 1 ∷ before 1 0 ∷ []) 0x0D0C)
+unfolding computing
+readings = search
+
+refusals :
+    -- 1: the bytes end before a map byte, within a field, within an order that would get 5
+    (read [] ≡ refused (EndsEarly 0))
+    × (read (0x01 ∷ 2 ∷ []) ≡ refused (EndsEarly 2))
+    × (read (0x18 ∷ 2 ∷ 0 ∷ 0 ∷ 1 ∷ 2 ∷ []) ≡ refused (EndsEarly 6))
+    -- 2: bit 6 of the sheet, bit 3 of a piece
+    × (read (0x40 ∷ []) ≡ refused (UnknownBit 0))
+    × (read (0x08 ∷ 1 ∷ 0x08 ∷ []) ≡ refused (UnknownBit 2))
+    -- 3: a measure of 1, yard number 0
+    × (read (0x01 ∷ 1 ∷ 0 ∷ []) ≡ refused (WrittenDefault 1))
+    × (read (0x20 ∷ 0 ∷ 0 ∷ []) ≡ refused (WrittenDefault 1))
+    -- 4: 0 pieces; 11 pieces, while 10 may follow; 91 orders, while 90 may follow
+    × (read (0x08 ∷ 0 ∷ []) ≡ refused (BadCount 1))
+    × (read (0x08 ∷ 11 ∷ []) ≡ refused (BadCount 1))
+    × (read (0x08 ∷ 10 ∷ []) ≡ refused (EndsEarly 2))
+    × (read (0x10 ∷ 91 ∷ []) ≡ refused (BadCount 1))
+    × (read (0x10 ∷ 90 ∷ []) ≡ refused (EndsEarly 2))
+    -- 5, with two pieces: the order 0,0; the order 0,2; the order 0,0 after 1,0, which would get 6 too
+    × (read (0x18 ∷ 2 ∷ 0 ∷ 0 ∷ 1 ∷ 0 ∷ 0 ∷ []) ≡ refused (BadItem 5))
+    × (read (0x18 ∷ 2 ∷ 0 ∷ 0 ∷ 1 ∷ 0 ∷ 2 ∷ []) ≡ refused (BadItem 5))
+    × (read (0x18 ∷ 2 ∷ 0 ∷ 0 ∷ 2 ∷ 1 ∷ 0 ∷ 0 ∷ 0 ∷ []) ≡ refused (BadItem 7))
+    -- 6: the same order twice; 0,1 after 1,0
+    × (read (0x18 ∷ 2 ∷ 0 ∷ 0 ∷ 2 ∷ 1 ∷ 0 ∷ 1 ∷ 0 ∷ []) ≡ refused (NotRising 7))
+    × (read (0x18 ∷ 2 ∷ 0 ∷ 0 ∷ 2 ∷ 1 ∷ 0 ∷ 0 ∷ 1 ∷ []) ≡ refused (NotRising 7))
+    -- 7: a byte after the last field
+    × (read (0 ∷ 0 ∷ []) ≡ refused (TrailingBytes 1))
+unfolding computing
+refusals = search

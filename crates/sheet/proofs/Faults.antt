@@ -1,0 +1,290 @@
+-- "Reading goes left to right and gives the first fault; at one place the lower number": what reading a sheet gives, by the faults of its bytes.
+use mathlib.Core.Path.{_≡_, refl, sym, _∙_}
+use mathlib.Core.Bool.{Bool, true, false, not, cond, _&&_, _||_, false≢true, and-false}
+use mathlib.Core.List.{List, []}
+use mathlib.Core.Logic.{_⊎_, inl, inr, _↔_, Iff·rfl}
+use Prim.Native.Nat.{ℕ, zero, suc, _+_, _*_, _≤_, _<_}
+use native.Mathlib.Omega.{arith}
+use native.Mathlib.Nat.{add-zero, eq-or-lt-of-le}
+use lib.Dec.{eqb, ltb, leb}
+use lib.ListN.{length, getD, drop}
+use lib.Seq.{drop-length}
+use borrow.Author.Tests.{eqb-true, eqb-false, eq-eqb, ne-eqb, ltb-false, le-ltb, leb-true, le-leb}
+use Rattle.refusal.specs.declared.Refusal.{Refusal}
+use Rattle.refusal.specs.declared.Refusal.the-variants.{WrittenDefault, BadItem, NotRising}
+use Rattle.formats.specs.Reading.{got, refused, run, _>>=_}
+use Rattle.formats.specs.Formats.{values, Format, Test, byte, word, pair, converted, testing, tested, keyed, row, count, counted, whole}
+use Rattle.formats.specs.Fields.{Fields, optional-reading, is-set, fields-reading, fields, map-byte, with-map}
+use Rattle.formats.proofs.Spans.{length-values, getD-values, Gives, reads, gives-as, first-given, none-given, given-none, gives-test}
+use Rattle.formats.proofs.Spans.{Spans, spans-as, spans-done, spans-two-bytes, spans-then, spans-tested, spans-one-test, spans-untested}
+use Rattle.formats.proofs.Spans.{Unknown, spans-map, Miscounted, spans-count, Parts, spans-row, OrTrailing, gives-whole}
+use Rattle.parts.specs.declared.Size.{Size}
+use Rattle.parts.specs.declared.Item.{Item}
+use Rattle.parts.specs.declared.Precedence.{Precedence}
+use Rattle.parts.specs.declared.Previous.{Previous}
+use Rattle.parts.specs.declared.Previous.the-variants.{Nothing, Was}
+use Rattle.parts.specs.Parts.{number, measure, measures, item-fields, item, precedence, precedence-tests}
+use Rattle.parts.specs.Precedences.{names-items, above, rises}
+use Rattle.parts.specs.Sizes.{no-item}
+use Rattle.sheet.specs.Sheet as S
+use Rattle.sheet.specs.Sheet.{Sheet, max-items, max-precedences, list-of, item-list, precedence-list, sheet-fields, sheet}
+use Rattle.sheet.specs.Places.{two-if, measures-length, byte-at, word-at, precedence-at, has, hall-end, items-on, after-item, item-place}
+use Rattle.sheet.specs.Places.{items-end, precedences-on, precedence-place, precedences-end, sheet-end}
+use Rattle.sheet.specs.Faults.{MeasureAt, width, depth, shifts, Misnames, Fault, FirstFault, ends-early, unknown-bit, item-unknown-bit}
+use Rattle.sheet.specs.Faults.{hall-measure, item-measure, yard-number, item-count, precedence-count, bad-item, not-rising, trailing-bytes}
+use Rattle.sheet.specs.Told.{size-at, item-at, items-at, sheet-at}
+
+-- the tests of a precedence, and what they test
+misnames : (n u v : ℕ) → (not (names-items n (record { predecessor = u; successor = v })) ≡ true) ↔ ((n ≤ u) ⊎ ((n ≤ v) ⊎ (u ≡ v)))
+unfolding names-items
+misnames n u v = (
+  go (ltb u n) refl (ltb v n) refl (eqb u v) refl,
+  elim [ inl l ↦ rw (le-ltb u n l) | inr (inl l) ↦ simp (le-ltb v n l, and-false) | inr (inr q) ↦ simp (eq-eqb u v q, and-false) ],
+)
+  where
+    go : (x : Bool) → ltb u n ≡ x → (y : Bool) → ltb v n ≡ y → (z : Bool) → eqb u v ≡ z → not (x && (y && not z)) ≡ true → (n ≤ u) ⊎ ((n ≤ v) ⊎ (u ≡ v))
+    go false l y _ z _ h = inl (ltb-false u n l)
+    go true _ false l z _ h = inr (inl (ltb-false v n l))
+    go true _ true _ true q h = inr (inr (eqb-true u v q))
+    go true _ true _ false _ h = absurd (false≢true h)
+
+not-above : (a b c d : ℕ) → (not (above (record { predecessor = a; successor = b }) (record { predecessor = c; successor = d })) ≡ true)
+    ↔ ((c < a) ⊎ ((c ≡ a) × (d ≤ b)))
+unfolding above
+not-above a b c d = (
+  go (ltb a c) refl (eqb a c) refl (ltb b d) refl,
+  elim [
+    | inl l ↦ rw (le-ltb a c (omega arith), ne-eqb a c (omega arith))
+    | inr (q, l) ↦ rw (le-ltb a c (omega arith), eq-eqb a c (sym q), le-ltb b d l)
+  ],
+)
+  where
+    go : (x : Bool) → ltb a c ≡ x → (y : Bool) → eqb a c ≡ y → (z : Bool) → ltb b d ≡ z → not (x || (y && z)) ≡ true → (c < a) ⊎ ((c ≡ a) × (d ≤ b))
+    go true _ y _ z _ h = absurd (false≢true h)
+    go false _ true _ true _ h = absurd (false≢true h)
+    go false _ true q false l h = inr (sym (eqb-true a c q), ltb-false b d l)
+    go false l false q z _ h = inl (omega (arith, ltb-false a c l, eqb-false a c q))
+
+module _ (s : List ℕ) where
+  -- 3 at a two-byte field
+  abbrev Low : ℕ → ℕ → Refusal → Type 0
+  Low default at e = (at + 2 ≤ length s) × (word-at s at ≤ default) × (e ≡ WrittenDefault at)
+
+  spans-number : (default : ℕ) (bit : Bool) (at : ℕ)
+      → Spans s (optional-reading (number default) bit) at (cond bit (word-at s at) default) (at + two-if bit) (λ e. (bit ≡ true) × Low default at e)
+  unfolding number word
+  spans-number default true at =
+      let σ = spans-two-bytes s (λ low high. low + 256 * high) at in
+      spans-as s (spans-one-test s word (λ v. leb v default) WrittenDefault (omega arith) refl (leb-true _ _, le-leb _ _) σ) (λ e. (λ w. (refl, w), λ (_, w). w))
+  spans-number default false at =
+      rw add-zero (spans-as s (spans-done s default at) (λ e. (λ w. absurd w, λ (q, _). absurd (false≢true q))))
+
+  -- 3 at a measure of the container or item whose map byte is at m
+  abbrev LowMeasure : ℕ → Refusal → Type 0
+  LowMeasure m e = (p : ℕ) × MeasureAt s m p × Low 1 p e
+
+  spans-measures : {S : Type 0} {n : ℕ} (size : S → Size) (rest : Size → Fields S n) (m : ℕ) {x : S} {stop : ℕ} {W : Refusal → Type 0}
+      → Spans s (fields-reading (rest (size-at s m)) (byte-at s m) 8) (m + 1 + measures-length (byte-at s m)) x stop W
+      → Spans s (fields-reading (measures size rest) (byte-at s m) 1) (m + 1) x stop (λ e. LowMeasure m e ⊎ W e)
+  unfolding measures measure fields-reading measures-length
+  spans-measures size rest m σ =
+      let a = two-if (is-set (byte-at s m) 1) in
+      let b = two-if (is-set (byte-at s m) 2) in
+      let c = two-if (is-set (byte-at s m) 4) in
+      let p : m + 1 + (a + b + c) ≡ m + 1 + a + b + c = omega arith in
+      spans-as s
+      (spans-then s _ _ (spans-number 1 (is-set (byte-at s m) 1) (m + 1))
+      (spans-then s _ _ (spans-number 1 (is-set (byte-at s m) 2) (m + 1 + a))
+      (spans-then s _ _ (spans-number 1 (is-set (byte-at s m) 4) (m + 1 + a + b)) (rw p at σ))))
+      (λ e. (
+        elim [
+          | inl (t, w) ↦ inl (_, width t, w)
+          | inr (inl (t, w)) ↦ inl (_, depth t, w)
+          | inr (inr (inl (t, w))) ↦ inl (_, shifts t, w)
+          | inr (inr (inr w)) ↦ inr w
+        ],
+        elim [
+          | inl (p, i, w) ↦ (elim i as (λ p i. Low 1 p e → _)
+              [ width t ↦ λ w. inl (t, w) | depth t ↦ λ w. inr (inl (t, w)) | shifts t ↦ λ w. inr (inr (inl (t, w))) ]) w
+          | inr w ↦ inr (inr (inr w))
+        ],
+      ))
+
+  -- the faults of the item at m
+  abbrev ItemFault : ℕ → Refusal → Type 0
+  ItemFault m e = Unknown s 3 m e ⊎ (LowMeasure m e ⊎ ⊥)
+
+  spans-item : (m : ℕ) → Spans s (item .reading) m (item-at s m) (after-item s m) (ItemFault m)
+  unfolding item item-fields with-map keyed fields fields-reading after-item
+  spans-item m =
+      spans-then s (map-byte 3 .reading) _ (spans-map s 3 m) (spans-measures (λ i. i .size) _ m (spans-done s (item-at s m) (after-item s m)))
+
+  -- precedence k and the one before it, and its faults
+  abbrev nth : ℕ → Precedence
+  nth k = precedence-at s (precedence-place s k)
+
+  abbrev previous : ℕ → Previous
+  previous zero = Nothing
+  previous (suc k) = Was (nth k)
+
+  abbrev PrecedenceFault : ℕ → Refusal → Type 0
+  PrecedenceFault k e =
+      let p = precedence-place s k in
+      (precedence-place s (suc k) ≤ length s)
+      × ((Misnames s p × (e ≡ BadItem p)) ⊎ (((not (rises (previous k) (nth k)) ≡ true) × (e ≡ NotRising p)) ⊎ ⊥))
+
+  spans-precedence : (k : ℕ) → Spans s (tested precedence (precedence-tests (items-on s) (previous k)) .reading)
+      (precedence-place s k) (nth k) (precedence-place s (suc k)) (PrecedenceFault k)
+  unfolding precedence converted pair byte _>>=_ testing run precedence-place
+  spans-precedence k =
+      let p : precedence-place s k + 2 ≡ precedence-place s (suc k) = omega arith in
+      spans-tested s precedence (precedence-tests (items-on s) (previous k)) (omega arith)
+      (λ e. elim [ inl (_, q) ↦ rw q | inr (inl (_, q)) ↦ rw q | inr (inr w) ↦ absurd w ])
+      (λ l. gives-test s (not (names-items (items-on s) (nth k))) (misnames _ _ _)
+      (λ f. elim [ inl (_, q) ↦ rw q (inr (refl, omega arith)) | inr w ↦ absurd w ])
+      (gives-test s (not (rises (previous k) (nth k))) Iff·rfl (λ f w. absurd w) (reads l (λ e w. w))))
+      (rw p at (spans-two-bytes s {A = Precedence} (λ u v. record { predecessor = u; successor = v }) (precedence-place s k)))
+
+  -- a counted row where its bit stands
+  spans-list : {P A : Type 0} {part : Format A} {tests : P → A → List Test} {next : P → A → P} {state : ℕ → P} {place : ℕ → ℕ} {x : ℕ → A}
+      {W : ℕ → Refusal → Type 0} (limit : ℕ) (bit : Bool) (at : ℕ) → at + 1 ≡ place 0 → Parts s part tests next state place x W
+      → Spans s (optional-reading (list-of part tests next (state 0) limit) bit) at (values (cond bit (byte-at s at) 0) x)
+      (cond bit (place (cond bit (byte-at s at) 0)) at)
+      (λ e. ((bit ≡ true) × Miscounted s limit at e) ⊎ ((k : ℕ) × (k < cond bit (byte-at s at) 0) × W k e))
+  unfolding list-of counted keyed row
+  spans-list limit true at q π =
+      spans-as s (spans-then s (count limit .reading) _ (spans-count s limit at) (rw (← q) at (spans-row s (byte-at s at) π)))
+      (λ e. (elim [ inl w ↦ inl (refl, w) | inr w ↦ inr w ], elim [ inl (_, w) ↦ inl w | inr w ↦ inr w ]))
+  spans-list limit false at q π =
+      spans-as s (spans-done s [] at) (λ e. (λ w. absurd w, elim [ inl (f, _) ↦ absurd (false≢true f) | inr (k, l, w) ↦ omega arith ]))
+
+  abbrev ItemsFault : Refusal → Type 0
+  ItemsFault e = ((has s 8 ≡ true) × Miscounted s max-items (hall-end s) e) ⊎ ((k : ℕ) × (k < items-on s) × ItemFault (item-place s k) e)
+
+  spans-items : Spans s (optional-reading item-list (has s 8)) (hall-end s) (items-at s) (items-end s) ItemsFault
+  unfolding item-list items-on items-end item-place
+  spans-items =
+      spans-list max-items (has s 8) (hall-end s) refl (record { known = λ k. refl; each = λ k. spans-untested s item (spans-item (item-place s k)) })
+
+  abbrev PrecedencesFault : Refusal → Type 0
+  PrecedencesFault e = ((has s 16 ≡ true) × Miscounted s max-precedences (items-end s) e) ⊎ ((k : ℕ) × (k < precedences-on s) × PrecedenceFault k e)
+
+  spans-precedences : (n : ℕ) → n ≡ items-on s
+      → Spans s (optional-reading (precedence-list n) (has s 16)) (items-end s) (values (precedences-on s) nth) (precedences-end s) PrecedencesFault
+  unfolding precedence-list precedences-on precedences-end precedence-place
+  spans-precedences n q =
+      rw q (spans-list {state = previous} max-precedences (has s 16) (items-end s) (omega arith) (record { known = λ k. refl; each = spans-precedence }))
+
+  spans-sheet : Spans s (sheet .reading) 0 (sheet-at s) (sheet-end s)
+      (λ e. Unknown s 6 0 e ⊎ (LowMeasure 0 e ⊎ (ItemsFault e ⊎ (PrecedencesFault e ⊎ (((has s 32 ≡ true) × Low 0 (precedences-end s) e) ⊎ ⊥)))))
+  unfolding sheet sheet-fields with-map keyed fields fields-reading hall-end sheet-end S.yard-number
+  spans-sheet =
+      spans-then s (map-byte 6 .reading) _ (spans-map s 6 0)
+      (spans-measures (λ (x : Sheet). x .container) _ 0
+      (spans-then s _ _ spans-items
+      (spans-then s _ _ (spans-precedences (length (items-at s)) (length-values (items-on s) _))
+      (spans-then s _ _ (spans-number 0 (has s 32) (precedences-end s)) (spans-done s (sheet-at s) (sheet-end s))))))
+
+  -- what is met in reading are the faults
+  item-told : (k : ℕ) → k < items-on s → {e : Refusal} → ItemFault (item-place s k) e → Fault s e
+  item-told k l (inl (a, c, q)) = rw q (item-unknown-bit k l (omega arith) c)
+  item-told k l (inr (inl (p, m, (a, c, q)))) = rw q (item-measure k l p m a c)
+  item-told k l (inr (inr w)) = absurd w
+
+  precedence-told : (k : ℕ) → k < precedences-on s → {e : Refusal} → PrecedenceFault k e → Fault s e
+  unfolding precedence-place
+  precedence-told k l (a, inl (c, q)) = rw q (bad-item k l (omega arith) c)
+  precedence-told zero l (a, inr (inl (c, q))) = absurd (false≢true c)
+  precedence-told (suc k) l (a, inr (inl (c, q))) = rw q (not-rising k l (omega arith) (not-above _ _ _ _ .0 c))
+  precedence-told k l (a, inr (inr w)) = absurd w
+
+  told : {e : Refusal} → OrTrailing s sheet spans-sheet e → Fault s e
+  told (inr (l, q)) = rw q (trailing-bytes l)
+  told (inl (inr (l, q))) = rw q (ends-early l)
+  told (inl (inl (inl (l, c, q)))) = rw q (unknown-bit (omega arith) c)
+  told (inl (inl (inr (inl (p, m, (l, c, q)))))) = rw q (hall-measure p m l c)
+  told (inl (inl (inr (inr (inl (inl (t, (l, c, q)))))))) = rw q (item-count t (omega arith) c)
+  told (inl (inl (inr (inr (inl (inr (k, l, w))))))) = item-told k l w
+  told (inl (inl (inr (inr (inr (inl (inl (t, (l, c, q))))))))) = rw q (precedence-count t (omega arith) c)
+  told (inl (inl (inr (inr (inr (inl (inr (k, l, w)))))))) = precedence-told k l w
+  told (inl (inl (inr (inr (inr (inr (inl (t, (l, c, q))))))))) = rw q (yard-number t l (omega arith))
+  told (inl (inl (inr (inr (inr (inr (inr w))))))) = absurd w
+
+  met : {e : Refusal} → Fault s e → OrTrailing s sheet spans-sheet e
+  unfolding precedence-place
+  met (ends-early l) = inl (inr (l, refl))
+  met (unknown-bit l c) = inl (inl (inl (omega arith, c, refl)))
+  met (item-unknown-bit k l a c) = inl (inl (inr (inr (inl (inr (k, l, inl (omega arith, c, refl)))))))
+  met (hall-measure p m l c) = inl (inl (inr (inl (p, m, (l, c, refl)))))
+  met (item-measure k l p m a c) = inl (inl (inr (inr (inl (inr (k, l, inr (inl (p, m, (a, c, refl)))))))))
+  met (yard-number t l q) = inl (inl (inr (inr (inr (inr (inl (t, (l, omega arith, refl))))))))
+  met (item-count t l c) = inl (inl (inr (inr (inl (inl (t, (omega arith, c, refl)))))))
+  met (precedence-count t l c) = inl (inl (inr (inr (inr (inl (inl (t, (omega arith, c, refl))))))))
+  met (bad-item i l a c) = inl (inl (inr (inr (inr (inl (inr (i, l, (omega arith, inl (c, refl)))))))))
+  met (not-rising i l a c) = inl (inl (inr (inr (inr (inl (inr (suc i, l, (omega arith, inr (inl (not-above _ _ _ _ .1 c, refl))))))))))
+  met (trailing-bytes l) = inr (l, refl)
+
+  sheet-gives : Gives s (sheet-at s) (sheet-end s) (Fault s) (run (whole sheet) 0 s)
+  sheet-gives = gives-as s (gives-whole s sheet spans-sheet) (λ e. (told, met))
+
+  -- "Reading goes left to right and gives the first fault; at one place the lower number"
+  pub refused-first : (e : Refusal) → (run (whole sheet) 0 s ≡ refused e) ↔ FirstFault s e
+  refused-first e =
+      let (to, from) = first-given s sheet-gives e in
+      (λ h. let (fault, first) = to h in record { fault = fault; first = first }, λ φ. from (φ .fault, φ .first))
+
+  -- a sheet with no fault ends after its last field
+  ends : ((e : Refusal) → Fault s e → ⊥) → sheet-end s ≡ length s
+  ends none =
+      let a : ¬ (length s < sheet-end s) = λ l. none _ (ends-early l) in
+      let b : ¬ (sheet-end s < length s) = λ l. none _ (trailing-bytes l) in
+      omega arith
+
+  -- and reads as its bytes tell
+  pub faultless-got : ((e : Refusal) → Fault s e → ⊥) → run (whole sheet) 0 s ≡ got (sheet-at s) (length s) []
+  faultless-got none = let q = ends none in none-given s sheet-gives none ∙ rw (q, drop-length)
+
+  -- what has no fault is read
+  pub faultless-reads : ((x : Sheet) × (run (whole sheet) 0 s ≡ got x (length s) [])) ↔ ((e : Refusal) → Fault s e → ⊥)
+  faultless-reads = (λ (x, h). given-none s sheet-gives h, λ none. ((sheet-at s), faultless-got none))
+
+  -- where the items are
+  pub item-before : (n k : ℕ) → k < n → item-place s (suc k) ≤ item-place s n
+  unfolding item-place
+  item-before zero k l = absurd (omega arith)
+  item-before (suc n) k l =
+      let next = spans-item (item-place s n) .onward in
+      elim (eq-or-lt-of-le l) [ inl q ↦ let p : k ≡ n = omega arith in rw p (omega arith) | inr m ↦ omega (arith, item-before n k (omega arith)) ]
+
+  item-inside : (k : ℕ) → k < items-on s → item-place s (suc k) ≤ items-end s
+  unfolding items-on items-end
+  item-inside k l = go (has s 8) (byte-at s (hall-end s)) l
+    where
+      go : (bit : Bool) (n : ℕ) → k < cond bit n 0 → item-place s (suc k) ≤ cond bit (item-place s (cond bit n 0)) (hall-end s)
+      go true n l = item-before n k l
+      go false n l = absurd (omega arith)
+
+  module _ {x : Sheet} {at : ℕ} {rest : List ℕ} (h : run (whole sheet) 0 s ≡ got x at rest) where
+    none : (e : Refusal) → Fault s e → ⊥
+    none = given-none s sheet-gives h
+
+    -- a sheet is read to its end
+    pub read-to-the-end : (at ≡ length s) × (rest ≡ [])
+    read-to-the-end = let q = faultless-got none in (cc, cc)
+
+    -- every item was read at its place
+    pub item-read-there : (length (x .items) ≡ items-on s) × ((k : ℕ) → k < items-on s → (item-place s (suc k) ≤ length s)
+        × (run (item .reading) (item-place s k) (drop (item-place s k) s)
+        ≡ got (getD (x .items) k no-item) (item-place s (suc k)) (drop (item-place s (suc k)) s)))
+    unfolding item-place sheet-end
+    item-read-there = let q : x ≡ (sheet-at s) = cc (faultless-got none) in rw q (length-values (items-on s) _, λ k l. (inside k l, there k l))
+      where
+        inside : (k : ℕ) → k < items-on s → item-place s (suc k) ≤ length s
+        inside k l = omega (arith, item-inside k l, spans-precedences (items-on s) refl .onward, ends none)
+
+        there : (k : ℕ) → k < items-on s → run (item .reading) (item-place s k) (drop (item-place s k) s)
+            ≡ got (getD (items-at s) k no-item) (item-place s (suc k)) (drop (item-place s (suc k)) s)
+        there k l =
+            let σ = spans-item (item-place s k) in
+            let i = inside k l in
+            rw getD-values (none-given s (σ .gives (omega arith)) (λ e. elim [ inl w ↦ none e (item-told k l w) | inr (m, _) ↦ omega arith ]))

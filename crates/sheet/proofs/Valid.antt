@@ -1,0 +1,61 @@
+-- What may stand on a sheet, part by part.
+use mathlib.Core.Path.{_≡_, refl, _∙_}
+use mathlib.Core.Bool.{Bool, true, false, not, _&&_, and-true, and-assoc}
+use mathlib.Core.List.{List, [], _∷_}
+use Prim.Native.Nat.{ℕ}
+use lib.Dec.{leb, ltb, leb·zero, eqb·suc-zero}
+use lib.ListN.{length}
+use borrow.Author.Tests.{leb-true, leb-false, lt-ltb, le-ltb}
+use Rattle.formats.specs.Formats.{Format, Test, byte, tested, passes, keyed, row-valid, row, count, counted}
+use Rattle.formats.specs.Fields.{optional-valid, fields-valid}
+use Rattle.formats.proofs.Maps.{with-map-valid}
+use Rattle.parts.specs.declared.Item.{Item}
+use Rattle.parts.specs.declared.Precedence.{Precedence}
+use Rattle.parts.specs.declared.Previous.{Previous}
+use Rattle.parts.specs.declared.Previous.the-variants.{Nothing, Was}
+use Rattle.parts.specs.Sizes.{positive, all-have-size}
+use Rattle.parts.specs.Precedences.{all-stand}
+use Rattle.parts.specs.Parts.{measure, measures, item, precedence, precedence-tests}
+use Rattle.parts.proofs.Laws.{number-valid, item-valid, precedence-valid}
+use Rattle.sheet.specs.Sheet.{Sheet, max-items, max-precedences, list-of, item-list, precedence-list, yard-number, sheet-fields, sheet}
+use Rattle.sheet.proofs.Laws.{sheet-fields-laws}
+
+-- not above a is at most a
+not-above : (a b : ℕ) → not (ltb a b) ≡ leb b a
+not-above a b = go (leb b a) refl
+  where
+    go : (t : Bool) → leb b a ≡ t → not (ltb a b) ≡ t
+    go true e = rw (le-ltb a b (leb-true b a e))
+    go false e = rw (lt-ltb a b (leb-false b a e))
+
+-- a list has at most so many parts, each as its row asks
+pub list-valid : {P A : Type 0} (part : Format A) (tests : P → A → List Test) (next : P → A → P) (p : P) (limit : ℕ) (xs : List A)
+    → optional-valid (list-of part tests next p limit) xs ≡ (leb (length xs) limit && row-valid part tests next p (length xs) xs)
+unfolding optional-valid list-of counted count keyed tested passes byte row row-valid
+list-valid part tests next p limit [] = rw leb·zero
+list-valid part tests next p limit (x ∷ xs) = simp (eqb·suc-zero, not-above, and-true)
+
+items-valid : (is : List Item) → row-valid item (λ (_ : Unit {0}) _. []) (λ p _. p) tt (length is) is ≡ all-have-size is
+unfolding row-valid all-have-size tested passes
+items-valid [] = refl
+items-valid (i ∷ is) = rw (item-valid i, items-valid is, and-true)
+
+precedences-valid : (n : ℕ) (os : List Precedence) (last : Previous)
+    → row-valid precedence (precedence-tests n) (λ _ o. Was o) last (length os) os ≡ all-stand n last os
+unfolding row-valid all-stand
+precedences-valid n [] last = refl
+precedences-valid n (o ∷ os) last = rw (precedence-valid n last o, precedences-valid n os (Was o))
+
+and-left-comm : (a b c : Bool) → (a && (b && c)) ≡ (b && (a && c))
+and-left-comm true b c = refl
+and-left-comm false true c = refl
+and-left-comm false false c = refl
+
+-- not "over 10 pieces, over 90 orders, a measure 0, or an order that would get 5 or 6"
+pub sheet-valid : (x : Sheet) → sheet .valid x
+    ≡ (leb (length (x .items)) max-items && (leb (length (x .precedences)) max-precedences
+    && (positive (x .container) && (all-have-size (x .items) && all-stand (length (x .items)) Nothing (x .precedences)))))
+unfolding sheet sheet-fields measures measure item-list precedence-list yard-number fields-valid positive
+sheet-valid x =
+    with-map-valid sheet-fields sheet-fields-laws x
+    ∙ simp (number-valid, list-valid, items-valid, precedences-valid, leb·zero, and-true, and-assoc, and-left-comm)

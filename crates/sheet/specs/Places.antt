@@ -1,0 +1,68 @@
+-- Where the parts of a sheet are, told from its bytes alone (document 01, "Sheet bytes"). Bytes past the end count as 0.
+use Prim.Native.Nat.{ℕ, zero, suc, _+_, _*_}
+use mathlib.Core.Bool.{Bool, cond}
+use mathlib.Core.List.{List}
+use lib.ListN.{getD}
+use Rattle.formats.specs.Fields.{is-set}
+use Rattle.parts.specs.declared.Precedence.{Precedence}
+
+-- how many bytes a two-byte field has, by its bit
+abbrev pub two-if : Bool → ℕ
+two-if bit = cond bit 2 0
+
+-- how many bytes the measures have whose bits 0, 1, 2 stand
+unfoldable pub measures-length : ℕ → ℕ
+measures-length map = two-if (is-set map 1) + two-if (is-set map 2) + two-if (is-set map 4)
+
+module _ (s : List ℕ) where
+  abbrev pub byte-at : ℕ → ℕ
+  byte-at p = getD s p 0
+
+  -- "low byte first"
+  abbrev pub word-at : ℕ → ℕ
+  word-at p = byte-at p + 256 * byte-at (p + 1)
+
+  -- "2 bytes each: u, v"
+  abbrev pub precedence-at : ℕ → Precedence
+  precedence-at p = record { predecessor = byte-at p; successor = byte-at (p + 1) }
+
+  -- whether a bit of the first map byte stands, by its weight
+  abbrev pub has : ℕ → Bool
+  has weight = is-set (byte-at 0) weight
+
+  -- the place after the hall's measures: of the count of pieces, where they stand
+  unfoldable pub hall-end : ℕ
+  hall-end = 1 + measures-length (byte-at 0)
+
+  -- how many pieces are on the sheet
+  unfoldable pub items-on : ℕ
+  items-on = cond (has 8) (byte-at hall-end) 0
+
+  -- the place after the piece at p: "a map byte and its standing fields"
+  unfoldable pub after-item : ℕ → ℕ
+  after-item p = p + 1 + measures-length (byte-at p)
+
+  -- the place of piece k: "after the piece before"
+  unfoldable pub item-place : ℕ → ℕ
+  item-place zero = hall-end + 1
+  item-place (suc k) = after-item (item-place k)
+
+  -- the place after the pieces: of the count of orders, where they stand
+  unfoldable pub items-end : ℕ
+  items-end = cond (has 8) (item-place items-on) hall-end
+
+  -- how many orders are on the sheet
+  unfoldable pub precedences-on : ℕ
+  precedences-on = cond (has 16) (byte-at items-end) 0
+
+  -- the place of order i
+  unfoldable pub precedence-place : ℕ → ℕ
+  precedence-place i = items-end + 1 + 2 * i
+
+  -- the place after the orders: of the yard number, where it stands
+  unfoldable pub precedences-end : ℕ
+  precedences-end = cond (has 16) (precedence-place precedences-on) items-end
+
+  -- the place after the last field
+  unfoldable pub sheet-end : ℕ
+  sheet-end = precedences-end + two-if (has 32)

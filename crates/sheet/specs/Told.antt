@@ -1,0 +1,35 @@
+-- What a sheet says, told from its bytes and the places of its parts alone. This is a second account of the format, beside `Sheet`: that
+-- a sheet without a fault reads as it is a theorem (proofs/Faults).
+use Prim.Native.Nat.{ℕ, _+_}
+use mathlib.Core.Bool.{cond}
+use mathlib.Core.List.{List}
+use Rattle.formats.specs.Fields.{is-set}
+use Rattle.formats.specs.Formats.{values}
+use Rattle.parts.specs.declared.Size.{Size}
+use Rattle.parts.specs.declared.Item.{Item}
+use Rattle.sheet.specs.Places.{two-if, byte-at, word-at, precedence-at, has, items-on, item-place, precedences-on, precedence-place, precedences-end}
+use Rattle.sheet.specs.Sheet.{Sheet}
+
+module _ (s : List ℕ) where
+  -- the measures of the hall or piece whose map byte is at m; "left out means 1"
+  abbrev pub size-at : ℕ → Size
+  size-at m = record {
+    width = cond (is-set (byte-at s m) 1) (word-at s (m + 1)) 1;
+    depth = cond (is-set (byte-at s m) 2) (word-at s (m + 1 + two-if (is-set (byte-at s m) 1))) 1;
+    shifts = cond (is-set (byte-at s m) 4) (word-at s (m + 1 + two-if (is-set (byte-at s m) 1) + two-if (is-set (byte-at s m) 2))) 1;
+  }
+
+  abbrev pub item-at : ℕ → Item
+  item-at m = record { size = size-at m }
+
+  abbrev pub items-at : List Item
+  items-at = values (items-on s) (λ k. item-at (item-place s k))
+
+  -- the yard number: "left out means 0"
+  abbrev pub sheet-at : Sheet
+  sheet-at = record {
+    container = size-at 0;
+    items = items-at;
+    precedences = values (precedences-on s) (λ i. precedence-at s (precedence-place s i));
+    yard-number = cond (has s 32) (word-at s (precedences-end s)) 0;
+  }

@@ -1,0 +1,1 @@
+// The sheet's bytes: no code, definitions and theorems alone.

@@ -1,0 +1,154 @@
+// Printing: words, numbers and bytes, each after a space.
+use instance::Instance;
+use parts::Item;
+use parts::Precedence;
+use parts::Size;
+use refusal::Refusal;
+
+pub fn word(text: &[u8]) {
+    io::write_all(1, text);
+}
+
+pub fn line_end() {
+    io::write_all(1, b"\n");
+}
+
+pub fn number(n: usize) {
+    io::write_all(1, b" ");
+    io::print_decimal(1, n as u64);
+}
+
+// A signed number.
+pub fn signed(n: i32) {
+    if n < 0 {
+        io::write_all(1, b" -");
+        io::print_decimal(1, (0 - (n as i64)) as u64);
+        return;
+    }
+    io::write_all(1, b" ");
+    io::print_decimal(1, n as u64);
+}
+
+fn wide(x: u8) -> u64 {
+    x as u64
+}
+
+// The first n bytes, as two hexadecimal digits each.
+pub fn bytes(s: &[u8], n: usize) {
+    io::write_all(1, b" ");
+    let mut i: usize = 0;
+    while i < n {
+        if s.len() <= i {
+            return;
+        }
+        io::print_hex(1, wide(s[i]), 2);
+        i += 1;
+    }
+}
+
+// A refusal without a line end.
+pub fn refused(refusal: Refusal) {
+    word(b"refused");
+    number(refusal.number() as usize);
+    number(refusal.place());
+}
+
+fn measures(size: Size) {
+    number(size.width as usize);
+    number(size.depth as usize);
+    number(size.shifts as usize);
+}
+
+fn items_below(items: [Item; 10], n: usize) {
+    let mut i: usize = 0;
+    while i < n {
+        if 10 <= i {
+            return;
+        }
+        let item = items[i];
+        measures(item.size);
+        i += 1;
+    }
+}
+
+fn precedences_below(precedences: [Precedence; 90], m: usize) {
+    let mut i: usize = 0;
+    while i < m {
+        if 90 <= i {
+            return;
+        }
+        let precedence = precedences[i];
+        number(precedence.predecessor as usize);
+        number(precedence.successor as usize);
+        i += 1;
+    }
+}
+
+fn is_zero(size: Size) -> bool {
+    if size.width != 0 {
+        return false;
+    }
+    if size.depth != 0 {
+        return false;
+    }
+    size.shifts == 0
+}
+
+fn items_zero_from(items: [Item; 10], n: usize) -> bool {
+    let mut i = n;
+    while i < 10 {
+        let item = items[i];
+        if !is_zero(item.size) {
+            return false;
+        }
+        i += 1;
+    }
+    true
+}
+
+fn precedences_zero_from(precedences: [Precedence; 90], m: usize) -> bool {
+    let mut i = m;
+    while i < 90 {
+        let precedence = precedences[i];
+        if precedence.predecessor != 0 {
+            return false;
+        }
+        if precedence.successor != 0 {
+            return false;
+        }
+        i += 1;
+    }
+    true
+}
+
+// Whether the entries past the counts are 0.
+fn is_rest_zero(instance: Instance) -> bool {
+    let items = instance.items;
+    if !items_zero_from(items, instance.item_count) {
+        return false;
+    }
+    let precedences = instance.precedences;
+    precedences_zero_from(precedences, instance.precedence_count)
+}
+
+// An instance, with a word on what stands past its counts.
+pub fn read_instance(instance: Instance) {
+    word(b"read");
+    let container = instance.container;
+    measures(container);
+    word(b" items");
+    number(instance.item_count);
+    let items = instance.items;
+    items_below(items, instance.item_count);
+    word(b" precedences");
+    number(instance.precedence_count);
+    let precedences = instance.precedences;
+    precedences_below(precedences, instance.precedence_count);
+    word(b" yard");
+    number(instance.yard_number as usize);
+    if is_rest_zero(instance) {
+        word(b" rest zero");
+        return;
+    }
+    word(b" rest not zero");
+}

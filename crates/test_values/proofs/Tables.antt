@@ -1,0 +1,34 @@
+-- Laws of an array that is filled entry by entry.
+use mathlib.Core.Path.{_≡_, refl, sym, _∙_}
+use mathlib.Core.List.{List}
+use Prim.Native.Nat.{ℕ, _+_, _≤_, _<_}
+use native.Mathlib.Nat.{le-of-eq}
+use native.Mathlib.Numerals.{add-one}
+use native.Mathlib.Omega.{arith}
+use lib.ListN.{length, take, set, length-set}
+use lib.Seq.{take-all, take-suc-set}
+use Rattle.test_values.specs.Values.{table}
+
+-- of n entries the first i are those of a table
+pub record Filled {A : Type 0} (n : ℕ) (f : ℕ → A) (xs : List A) (i : ℕ) : Type 0 where
+  pub room : length xs ≡ n
+  pub within : i ≤ n
+  pub there : take i xs ≡ table i f
+
+module _ {A : Type 0} {n : ℕ} {f : ℕ → A} {xs : List A} where
+  pub fill-none : length xs ≡ n → Filled n f xs 0
+  unfolding table
+  fill-none l = record { room = l; within = omega arith; there = refl }
+
+  pub fill-next : {i : ℕ} {x : A} → Filled n f xs i → i < n → x ≡ f i → Filled n f (set xs i x) (i + 1)
+  unfolding table
+  fill-next {i} {x} φ l e = record {
+    room = length-set xs i x ∙ φ .room;
+    within = omega arith;
+    there = rw (add-one, take-suc-set xs i x (omega (arith, φ .room)), φ .there, e);
+  }
+
+  pub fill-all : {i : ℕ} → Filled n f xs i → n ≤ i → xs ≡ table n f
+  fill-all {i} φ l =
+      let e : i ≡ n = omega (arith, φ .within) in
+      sym (take-all n xs (le-of-eq (φ .room))) ∙ rw e at (φ .there)

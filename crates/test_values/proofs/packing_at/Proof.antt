@@ -1,0 +1,28 @@
+-- `test_values::packing_at` meets its contract.
+use mathlib.Core.Path.{refl}
+use Prim.Native.Nat.{_+_, _*_, _-_}
+use native.Mathlib.Omega.{arith}
+use Rattle.test_values.specs.Values.{position-at, packing-at}
+use Rattle.test_values.proofs.Tables.{Filled, fill-none, fill-next, fill-all}
+use borrow.Author.Needs.{needs}
+use Rattle.test_values.proofs.packing_at.Statement.{statement}
+use Rattle.test_values.proofs.packing_at.Tie as tie
+
+abbrev Inv-loop : tie.InvT-loop
+Inv-loop s at positions₀ u₀ positions u = Filled 10 (λ k. position-at s (at + 6 * k)) positions u
+
+abbrev μ-loop : tie.MeasureT-loop
+μ-loop s at positions₀ u₀ positions u = 10 - u
+
+loop-again : tie.Need-loop-again Inv-loop μ-loop
+loop-again c = fill-next (c .before .before .loop .inv) (omega arith) (c .position-at .ensures)
+
+returns : tie.Need-returns Inv-loop μ-loop
+unfolding packing-at
+returns c = rw (fill-all (c .before .loop .inv) (omega arith))
+
+pub packing-at-spec : {M : Type 1} → statement M
+packing-at-spec =
+    tie.close
+    (tie.spec Inv-loop μ-loop (λ c. fill-none refl) (λ c. omega arith) (λ c. omega arith) (λ c κs. omega arith) (λ c. omega arith)
+    (λ c. search needs) (λ c. omega arith) (λ c. omega arith) loop-again returns)

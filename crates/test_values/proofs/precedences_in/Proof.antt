@@ -1,0 +1,27 @@
+-- `test_values::precedences_in` meets its contract.
+use mathlib.Core.Path.{refl}
+use Prim.Native.Nat.{_+_, _*_, _-_}
+use native.Mathlib.Omega.{arith}
+use Rattle.test_values.specs.Values.{precedence-at}
+use Rattle.test_values.proofs.Tables.{Filled, fill-none, fill-next, fill-all}
+use borrow.Author.Needs.{needs}
+use Rattle.test_values.proofs.precedences_in.Statement.{statement}
+use Rattle.test_values.proofs.precedences_in.Tie as tie
+
+abbrev Inv-loop : tie.InvT-loop
+Inv-loop s precedences₀ i₀ precedences i = Filled 90 (λ k. precedence-at s (82 + 2 * k)) precedences i
+
+abbrev μ-loop : tie.MeasureT-loop
+μ-loop s precedences₀ i₀ precedences i = 90 - i
+
+loop-again : tie.Need-loop-again Inv-loop μ-loop
+loop-again c = fill-next (c .before .before .loop .inv) (omega arith) (c .precedence-at .ensures)
+
+returns : tie.Need-returns Inv-loop μ-loop
+returns c = fill-all (c .before .loop .inv) (omega arith)
+
+pub precedences-in-spec : {M : Type 1} → statement M
+precedences-in-spec =
+    tie.close
+    (tie.spec Inv-loop μ-loop (λ c. fill-none refl) (λ c. omega arith) (λ c. omega arith) (λ c κs. omega arith) (λ c. omega arith)
+    (λ c. search needs) (λ c. omega arith) (λ c. omega arith) loop-again returns)

@@ -1,0 +1,97 @@
+-- Writing a sheet is refused exactly for the table's conditions; what it leaves in the room, and that reading undoes it.
+use mathlib.Core.Bool.{Bool, true, false, not, cond}
+use mathlib.Core.List.{List, _++_}
+use mathlib.Core.Logic.{_↔_, _⊎_, inl, inr}
+use mathlib.Core.Path.{_≡_, refl, subst}
+use Prim.Native.Nat.{ℕ, _≤_, _<_}
+use lib.Dec.{ltb}
+use lib.ListN.{length, take, drop}
+use lib.Seq.{take-append-seam}
+use borrow.Author.Tests.{ltb-true, ltb-false, lt-ltb, le-ltb, lt-leb, le-leb, not-true, not-false}
+use Rattle.formats.specs.Reading.{Bytes}
+use Rattle.instance.specs.declared.Instance.{Instance}
+use Rattle.writer.specs.declared.WriteAnswer.{WriteAnswer}
+use Rattle.instance.specs.Valid.{valid}
+use Rattle.instance.specs.Sheets.{decode, encode}
+use Rattle.instance.specs.Answers.{read-result, read-values}
+use Rattle.writer.specs.Answers.{write-answer, write-values, written-room}
+use Rattle.instance.specs.Reads.{Full, SameInstance}
+use Rattle.writer.specs.Refusing.{WriteFault}
+use Rattle.instance.proofs.RoundTrips.{read-valid, decode-encodes, blanked, encode-decodes, same-blanked}
+use Rattle.instance.proofs.Readings.{read-reads}
+
+by-cond : {A : Type 0} (P : A → Type 0) (b : Bool) (x y : A) → (b ≡ true → P x) → (b ≡ false → P y)
+    → P (cond b x y)
+by-cond P true x y f g = f refl
+by-cond P false x y f g = g refl
+
+module _ (i : Instance) (room : ℕ) where
+  -- what holds where these values are given
+  abbrev Grounds : ℕ ⊎ (ℕ × ℕ) → Type 0
+  Grounds (inl n) = (valid i ≡ true) × (length (encode i) ≤ room) × (n ≡ length (encode i))
+  Grounds (inr (n, place)) = WriteFault i room n × (place ≡ 0)
+
+  grounds : Grounds (write-values (write-answer i room))
+  unfolding write-answer
+  grounds =
+      by-cond (λ (a : WriteAnswer). Grounds (write-values a)) (not (valid i)) _ _ (λ v. (WriteFault.nine (not-true _ v) refl, refl)) λ v.
+      by-cond (λ (a : WriteAnswer). Grounds (write-values a)) (ltb room (length (encode i))) _ _
+      (λ l. (WriteFault.eight (not-false _ v) (ltb-true _ _ l) refl, refl))
+      (λ l. (not-false _ v, ltb-false _ _ l, refl))
+
+  refuses : {n place : ℕ} → WriteFault i room n → place ≡ 0 → write-values (write-answer i room) ≡ inr (n, place)
+  unfolding write-answer
+  refuses (WriteFault.nine v k) z = rw (v, k, z)
+  refuses (WriteFault.eight v l k) z = rw (v, lt-ltb room (length (encode i)) l, k, z)
+
+  -- 9, then 8, each with place 0
+  pub write-refuses : (n place : ℕ) → (write-values (write-answer i room) ≡ inr (n, place)) ↔ (WriteFault i room n × (place ≡ 0))
+  write-refuses n place = ((λ k. subst Grounds k grounds), (λ (f, z). refuses f z))
+
+  -- "Writing returns the sheet's length"
+  pub write-writes : (n : ℕ) → (write-values (write-answer i room) ≡ inl n)
+      ↔ ((valid i ≡ true) × (length (encode i) ≤ room) × (n ≡ length (encode i)))
+  unfolding write-answer
+  write-writes n = (
+    (λ k. subst Grounds k grounds),
+    (λ (v, l, k). rw (v, le-ltb room (length (encode i)) l, k)),
+  )
+
+-- "Every refusal leaves lent buffers untouched"
+pub room-untouched : (i : Instance) (room : List ℕ) (n place : ℕ)
+    → write-values (write-answer i (length room)) ≡ inr (n, place) → written-room i room ≡ room
+unfolding written-room
+room-untouched i room n place k = go (write-refuses i (length room) n place .0 k .0)
+  where
+    go : WriteFault i (length room) n → written-room i room ≡ room
+    go (WriteFault.nine v k) = rw v
+    go (WriteFault.eight v l k) = rw (v, lt-leb (length (encode i)) (length room) l)
+
+fills : (i : Instance) (room : List ℕ) → valid i ≡ true → length (encode i) ≤ length room
+    → written-room i room ≡ encode i ++ drop (length (encode i)) room
+unfolding written-room
+fills i room v l = rw (v, le-leb (length (encode i)) (length room) l)
+
+-- "A written sheet reads back as the same sheet"
+pub written-read-back : (i : Instance) → Full i → (room : List ℕ) (n : ℕ)
+    → write-values (write-answer i (length room)) ≡ inl n
+    → (j : Instance)
+    × (read-values (read-result (decode (take n (written-room i room)))) ≡ inl j)
+    × SameInstance i j
+written-read-back i full room n e =
+    let (v, l, m) = write-writes i (length room) n .0 e in
+    let back = encode-decodes i v full in
+    (blanked i, rw (m, fills i room v l, take-append-seam, back), same-blanked i v full)
+
+-- "bytes that read as a sheet are written again as those bytes"; the room past them stays
+pub read-written-again : (s : List ℕ) → Bytes s → (i : Instance)
+    → read-values (read-result (decode s)) ≡ inl i
+    → (room : List ℕ) → length s ≤ length room
+    → (write-values (write-answer i (length room)) ≡ inl (length s))
+    × (written-room i room ≡ s ++ drop (length s) room)
+read-written-again s bytes i e room l =
+    let h = read-reads s i e in
+    let v = read-valid s h bytes in
+    let same = decode-encodes s h bytes in
+    let k : length (encode i) ≤ length room = rw same l in
+    rw (← same) (write-writes i (length room) _ .1 (v, k, refl), fills i room v k)

@@ -1,0 +1,53 @@
+//! Sheets as values: number 9, and check, writing and clearance by whoever takes a value.
+
+use super::packing::{self, Position};
+use super::sheet::{self, names_items, refuse, Instance, Refusal, MOST_ITEMS, MOST_PRECEDENCES};
+
+/// "Entries of a sheet past its counts are no part of it". The counts may be any number.
+#[derive(Clone, Debug)]
+pub struct Value {
+    /// Width, depth, shifts.
+    pub container: [u32; 3],
+    pub item_count: u64,
+    pub items: [[u32; 3]; MOST_ITEMS],
+    pub precedence_count: u64,
+    pub precedences: [(usize, usize); MOST_PRECEDENCES],
+    pub yard_number: u32,
+}
+
+/// 9: "a sheet value with over 10 pieces, over 90 orders, a measure 0, or an order that would get 5 or 6"
+pub fn instance_of(value: &Value) -> Result<Instance, Refusal> {
+    if value.item_count > MOST_ITEMS as u64 || value.precedence_count > MOST_PRECEDENCES as u64 {
+        return refuse(9, 0);
+    }
+    let items = value.items[..value.item_count as usize].to_vec();
+    let precedences = value.precedences[..value.precedence_count as usize].to_vec();
+    if value.container.contains(&0) || items.iter().any(|size| size.contains(&0)) {
+        return refuse(9, 0);
+    }
+    for (at, &order) in precedences.iter().enumerate() {
+        if !names_items(items.len(), order) || at > 0 && order <= precedences[at - 1] {
+            return refuse(9, 0);
+        }
+    }
+    Ok(Instance { container: value.container, items, precedences, yard_number: value.yard_number })
+}
+
+/// "Check returns 0 no, 1 yes, 100 plus the number for a refusal"; "Ten positions are held; those past the sheet's count are ignored".
+pub fn check(value: &Value, positions: &[Position]) -> u32 {
+    match instance_of(value) {
+        Ok(instance) => packing::is_feasible(&instance, positions) as u32,
+        Err(refusal) => 100 + refusal.number,
+    }
+}
+
+/// "9 is tested before 5, 8 and 10 by whoever takes a sheet value"
+pub fn write(value: &Value, room: &mut [u8]) -> Result<usize, Refusal> {
+    let instance = instance_of(value)?;
+    sheet::write(&instance, room)
+}
+
+pub fn clearance(value: &Value, positions: &[Position], u: usize, v: usize, axis: usize) -> Result<i64, Refusal> {
+    let instance = instance_of(value)?;
+    packing::clearance(&instance, positions, u, v, axis)
+}

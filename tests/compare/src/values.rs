@@ -1,0 +1,214 @@
+//! Check, writing and clearance on values: of an instance with anything past its counts, and of that value changed, so that number 9's
+//! conditions hold in turn.
+
+use crate::layout::value_bytes;
+use crate::library::{self, Written};
+use crate::parts::Run;
+use crate::random::Random;
+use crate::reference::bytes::{plan_bytes, positions_of};
+use crate::reference::packing::Position;
+use crate::reference::sheet::{self, Instance, MOST_ITEMS, MOST_PRECEDENCES};
+use crate::reference::value::{self, Value};
+use crate::report::{hexadecimal, Report};
+
+type Order = (usize, usize);
+
+/// Any measures, 0 among them.
+fn any_size(random: &mut Random) -> [u32; 3] {
+    let most = random.pick(&[1, 3, 65536]);
+    [0; 3].map(|_: u32| random.below(most) as u32)
+}
+
+/// Any order, also of pieces that no sheet has.
+fn any_order(random: &mut Random) -> Order {
+    let most = random.pick(&[2, MOST_ITEMS, 256]);
+    (random.below(most), random.below(most))
+}
+
+/// The value of an instance; past its counts 0, as reading leaves them, or anything.
+fn value_of(random: &mut Random, instance: &Instance) -> Value {
+    let blank = random.one_in(3);
+    let mut value = Value {
+        container: instance.container,
+        item_count: instance.items.len() as u64,
+        items: [0; MOST_ITEMS].map(|_| if blank { [0; 3] } else { any_size(random) }),
+        precedence_count: instance.precedences.len() as u64,
+        precedences: [0; MOST_PRECEDENCES].map(|_| if blank { (0, 0) } else { any_order(random) }),
+        yard_number: instance.yard_number,
+    };
+    value.items[..instance.items.len()].copy_from_slice(&instance.items);
+    value.precedences[..instance.precedences.len()].copy_from_slice(&instance.precedences);
+    value
+}
+
+/// A count over a limit; the low bytes of most are a count that stands.
+fn count_over(random: &mut Random, most: usize, count: u64) -> u64 {
+    let most = most as u64;
+    let part = random.pick(&[1 << 8, 1 << 16, 1 << 32, 1 << 63]);
+    let any = random.next();
+    random.pick(&[most + 1, most + 2, 255, 65535, u64::MAX, part, part + count, part + most, any.max(most + 1)])
+}
+
+/// A measure 0, in the container, in an item or past the count.
+fn with_measure_0(random: &mut Random, value: &mut Value) -> &'static str {
+    let axis = random.below(3);
+    let counted = value.item_count as usize;
+    match random.below(3) {
+        0 => value.container[axis] = 0,
+        1 if counted > 0 => value.items[random.below(counted)][axis] = 0,
+        _ if counted < MOST_ITEMS => {
+            value.items[random.between(counted, MOST_ITEMS - 1)][axis] = 0;
+            return "values with a measure 0 past the count";
+        }
+        _ => value.items[MOST_ITEMS - 1][axis] = 0,
+    }
+    "values with a measure 0"
+}
+
+/// An order that is not above the one before, or names what is no piece, or one piece twice.
+fn with_order_changed(random: &mut Random, value: &mut Value) -> &'static str {
+    let items = value.item_count as usize;
+    if value.precedence_count == 0 {
+        value.precedence_count = random.between(1, 3) as u64;
+    }
+    let at = random.below(value.precedence_count as usize);
+    let (u, v) = value.precedences[at];
+    let strange = random.pick(&[items, items + 1, MOST_ITEMS, 255]);
+    match random.below(7) {
+        0 if at > 0 => value.precedences[at] = value.precedences[at - 1],
+        1 if at > 0 => value.precedences.swap(at, at - 1),
+        2 => value.precedences[at] = (v, u),
+        3 => value.precedences[at] = (u, u),
+        4 => value.precedences[at] = (strange, v),
+        5 => value.precedences[at] = (u, strange),
+        _ => value.precedences[at] = any_order(random),
+    }
+    "values with an order changed"
+}
+
+/// The value changed in one way, and what the change is.
+fn changed(random: &mut Random, value: &Value, way: usize) -> (&'static str, Value) {
+    let mut value = value.clone();
+    let kind = match way {
+        0 => {
+            value.item_count = count_over(random, MOST_ITEMS, value.item_count);
+            "values with too many items"
+        }
+        1 => {
+            value.precedence_count = count_over(random, MOST_PRECEDENCES, value.precedence_count);
+            "values with too many orders"
+        }
+        2 => with_measure_0(random, &mut value),
+        3 => with_order_changed(random, &mut value),
+        _ if random.one_in(2) => {
+            value.item_count = random.below(MOST_ITEMS + 1) as u64;
+            "values with another count of items"
+        }
+        _ => {
+            let near = value.precedence_count as usize + 2;
+            value.precedence_count = random.below(near.min(MOST_PRECEDENCES + 1)) as u64;
+            "values with another count of orders"
+        }
+    };
+    (kind, value)
+}
+
+fn shown(value: &Value) -> String {
+    hexadecimal(&value_bytes(value))
+}
+
+fn check(report: &mut Report, value: &Value, plan: &[u8]) {
+    let expected = value::check(value, &positions_of(plan));
+    let kind = match expected {
+        0 => "checks of values: no",
+        1 => "checks of values: yes",
+        _ => "checks of values: refused",
+    };
+    report.same(kind, &Ok(expected), &library::check_value(&value_bytes(value), plan), || {
+        format!("value {} plan {}", shown(value), hexadecimal(plan))
+    });
+}
+
+fn write(report: &mut Report, random: &mut Random, value: &Value, room: usize) {
+    let before: Vec<u8> = (0..room).map(|_| random.byte()).collect();
+    let mut after = before.clone();
+    let answer = value::write(value, &mut after);
+    let kind = match answer {
+        Ok(_) => "values written",
+        Err(refusal) if refusal.number == 8 => "values not written for the room",
+        Err(_) => "values not written by 9",
+    };
+    let (length, (number, place)) = match answer {
+        Ok(length) => (length, (0, 0)),
+        Err(refusal) => (0, (refusal.number, refusal.place)),
+    };
+    let expected = Written { length, number, place, room: after };
+    report.same(kind, &Ok(expected), &library::write_value(&value_bytes(value), &before), || {
+        format!("value {} room {room}", shown(value))
+    });
+}
+
+fn clearance(report: &mut Report, random: &mut Random, value: &Value, items: usize) {
+    let any = random.pick(&[items, MOST_ITEMS, 256, usize::MAX]);
+    let mut item = || if random.one_in(8) { any } else { random.below(items.max(1)) };
+    let (u, v) = (item(), item());
+    let axis = random.pick(&[0, 1, 2, 0, 1, 2, 3, 255]);
+    let most = random.pick(&[2, 8, 65536]);
+    let positions: Vec<Position> = (0..MOST_ITEMS).map(|_| [0; 3].map(|_: u32| random.below(most) as u32)).collect();
+    let plan = plan_bytes(&positions);
+    let (expected, kind) = match value::clearance(value, &positions, u, v, axis as usize) {
+        Ok(clearance) if clearance > 0 => ((clearance, 0, 0), "clearances above 0"),
+        Ok(clearance) if clearance < 0 => ((clearance, 0, 0), "clearances below 0"),
+        Ok(_) => ((0, 0, 0), "clearances 0"),
+        Err(refusal) => ((0, refusal.number, refusal.place), "clearances refused"),
+    };
+    report.same(kind, &Ok(expected), &library::clearance(&value_bytes(value), &plan, u, v, axis), || {
+        format!("value {} plan {} u {u} v {v} axis {axis}", shown(value), hexadecimal(&plan))
+    });
+}
+
+/// Ten positions: those of the run where it is placed, else by chance; one moved; anything past the count.
+fn ten_positions(random: &mut Random, instance: &Instance, run: &Run) -> Vec<u8> {
+    let mut plan = run.end.as_ref().map_or(Vec::new(), |(_, packed)| packed.clone());
+    if plan.is_empty() {
+        let [width, depth, shifts] = instance.container;
+        let mut position = || [width, depth, shifts].map(|measure| random.below(measure as usize) as u32);
+        plan = plan_bytes(&instance.items.iter().map(|_| position()).collect::<Vec<Position>>());
+    }
+    if !plan.is_empty() && random.one_in(2) {
+        let place = 2 * random.below(plan.len() / 2);
+        let start = u16::from_le_bytes([plan[place], plan[place + 1]]);
+        let start = if random.one_in(2) { start.wrapping_add(1) } else { start.wrapping_sub(1) };
+        plan[place..place + 2].copy_from_slice(&start.to_le_bytes());
+    }
+    while plan.len() < 6 * MOST_ITEMS {
+        plan.push(random.byte());
+    }
+    plan
+}
+
+/// Everything about the value of one instance.
+pub fn values(report: &mut Report, random: &mut Random, instance: &Instance, run: &Run) {
+    let (items, len) = (instance.items.len(), sheet::encode(instance).len());
+    let own = value_of(random, instance);
+    for _ in 0..2 {
+        check(report, &own, &ten_positions(random, instance, run));
+        clearance(report, random, &own, items);
+        clearance(report, random, &own, items);
+    }
+    let near = if random.one_in(20) { 0 } else { len - 1 };
+    for room in (near..len + 3).chain([0, len + random.below(40)]) {
+        write(report, random, &own, room);
+    }
+    for way in 0..5 {
+        let (kind, other) = changed(random, &own, way);
+        report.count(kind);
+        report.count(if value::instance_of(&other).is_ok() { "changed values that stand" } else { "changed values refused by 9" });
+        check(report, &other, &ten_positions(random, instance, run));
+        clearance(report, random, &other, items);
+        // "9 is tested before 5, 8 and 10": in a room long enough and in one too short
+        for room in [random.pick(&[0, 1, len - 1]), random.pick(&[len, len + 1, 261, 300])] {
+            write(report, random, &other, room);
+        }
+    }
+}
