@@ -1,4 +1,5 @@
 // The opening domains of an instance.
+ghost use Rattle.sheet.specs.Sheet.{max-precedences};
 ghost use mathlib.Core.Path.{_≡_};
 ghost use mathlib.Core.Bool.{true};
 ghost use mathlib.Core.List.{map};
@@ -23,7 +24,7 @@ pub fn fix_precedences(
     precedences: [Precedence; Instance::MAX_PRECEDENCES],
     m: usize,
 ) -> usize
-    requires { ⌜ Good n (now k) (now rows) (now queue) 0 × (m ≤ 90) × (all-stand n Previous.Nothing (take m precedences) ≡ true) ⌝ }
+    requires { ⌜ Good n (now k) (now rows) (now queue) 0 × (m ≤ max-precedences) × (all-stand n Previous.Nothing (take m precedences) ≡ true) ⌝ }
     ensures { λ _. ⌜ now (k .exit) ≡ B.fix-precedences (map precedence-of (take m precedences)) (now (k .entry)) ⌝ }
     ensures { λ r. ⌜ Grown n (now (k .entry)) (now (queue .entry)) 0 (now (k .exit)) (now (rows .exit)) (now (queue .exit)) r ⌝ }
 {

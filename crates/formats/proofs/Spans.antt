@@ -16,7 +16,7 @@ use Rattle.refusal.specs.declared.Refusal.{Refusal}
 use Rattle.refusal.specs.declared.Refusal.the-variants.{EndsEarly, UnknownBit, BadCount, TrailingBytes}
 use Rattle.refusal.specs.Numbers.{place-of}
 use Rattle.formats.specs.Reading.{Reading, done, due, end, _>>=_, Read, got, refused, run, Before}
-use Rattle.formats.specs.Formats.{values, Format, byte, Test, testing, tested, row-reading, count, whole}
+use Rattle.formats.specs.Formats.{up-to, Format, byte, Test, testing, tested, row-reading, count, whole}
 use Rattle.formats.specs.Fields.{maps, map-byte}
 use Rattle.formats.proofs.Run.{run-then, after, never-both}
 
@@ -28,14 +28,14 @@ after-same : {A : Type 0} (z : Read A) → after z got ≡ z
 after-same (got x at rest) = refl
 after-same (refused e) = refl
 
-pub length-values : {A : Type 0} (n : ℕ) (x : ℕ → A) → length (values n x) ≡ n
-length-values zero x = refl
-length-values (suc n) x = ap suc (length-values n (λ k. x (suc k)))
+pub length-up-to : {A : Type 0} (n : ℕ) (x : ℕ → A) → length (up-to n x) ≡ n
+length-up-to zero x = refl
+length-up-to (suc n) x = ap suc (length-up-to n (λ k. x (suc k)))
 
-pub getD-values : {A : Type 0} (n : ℕ) (x : ℕ → A) (k : ℕ) (d : A) → k < n → getD (values n x) k d ≡ x k
-getD-values zero x k d l = absurd (omega arith)
-getD-values (suc n) x zero d l = refl
-getD-values (suc n) x (suc k) d l = getD-values n (λ j. x (suc j)) k d (omega arith)
+pub getD-up-to : {A : Type 0} (n : ℕ) (x : ℕ → A) (k : ℕ) (d : A) → k < n → getD (up-to n x) k d ≡ x k
+getD-up-to zero x k d l = absurd (omega arith)
+getD-up-to (suc n) x zero d l = refl
+getD-up-to (suc n) x (suc k) d l = getD-up-to n (λ j. x (suc j)) k d (omega arith)
 
 -- f is e, or is met after it
 abbrev From : Refusal → Refusal → Type 0
@@ -212,12 +212,12 @@ module _ (s : List ℕ) where
 
   module _ {P A : Type 0} {part : Format A} {tests : P → A → List Test} {next : P → A → P} where
     pub spans-row : {state : ℕ → P} {place : ℕ → ℕ} {x : ℕ → A} {W : ℕ → Refusal → Type 0} (n : ℕ) → Parts part tests next state place x W
-        → Spans (row-reading part tests next (state 0) n) (place 0) (values n x) (place n) (λ e. (k : ℕ) × (k < n) × W k e)
+        → Spans (row-reading part tests next (state 0) n) (place 0) (up-to n x) (place n) (λ e. (k : ℕ) × (k < n) × W k e)
     unfolding row-reading
     spans-row {place = place} zero π = spans-as (spans-done [] (place 0)) (λ e. (λ w. absurd w, λ (k, l, w). omega arith))
     spans-row {place = place} {x = x} {W = W} (suc n) π =
         let τ = spans-row n (record { known = λ k. π .known (suc k); each = λ k. π .each (suc k) }) in
-        spans-as (spans-then _ _ (π .each 0) (spans-then _ _ (rw (← (π .known 0)) at τ) (spans-done (values (suc n) x) (place (suc n))))) (λ e. (
+        spans-as (spans-then _ _ (π .each 0) (spans-then _ _ (rw (← (π .known 0)) at τ) (spans-done (up-to (suc n) x) (place (suc n))))) (λ e. (
           elim [ inl w ↦ (0, omega arith, w) | inr (inl (k, l, w)) ↦ (suc k, omega arith, w) | inr (inr w) ↦ absurd w ],
           λ (k, l, w). (elim k as (λ k. k < suc n → W k e → _) [ zero ↦ λ l w. inl w | suc k ↦ λ l w. inr (inl (k, omega arith, w)) ]) l w,
         ))

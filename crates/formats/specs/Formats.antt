@@ -69,10 +69,10 @@ keyed f key rest = record {
   valid = λ x. f .valid (key x) && rest (key x) .valid x;
 }
 
--- the values at 0, 1, .. of n
-abbrev pub values : {A : Type 0} → ℕ → (ℕ → A) → List A
-values zero x = []
-values (suc n) x = x 0 ∷ values n (λ k. x (suc k))
+-- x 0, x 1, .. up to n of them
+abbrev pub up-to : {A : Type 0} → ℕ → (ℕ → A) → List A
+up-to zero x = []
+up-to (suc n) x = x 0 ∷ up-to n (λ k. x (suc k))
 
 -- the bytes of parts, one after the other
 unfoldable pub row-bytes : {A : Type 0} → (A → List ℕ) → List A → List ℕ

@@ -13,9 +13,9 @@ use borrow.Author.Tests.{eqb-true, eqb-false, eq-eqb, ne-eqb, ltb-false, le-ltb,
 use Rattle.refusal.specs.declared.Refusal.{Refusal}
 use Rattle.refusal.specs.declared.Refusal.the-variants.{WrittenDefault, BadItem, NotRising}
 use Rattle.formats.specs.Reading.{got, refused, run, _>>=_}
-use Rattle.formats.specs.Formats.{values, Format, Test, byte, word, pair, converted, testing, tested, keyed, row, count, counted, whole}
+use Rattle.formats.specs.Formats.{up-to, Format, Test, byte, word, pair, converted, testing, tested, keyed, row, count, counted, whole}
 use Rattle.formats.specs.Fields.{Fields, optional-reading, is-set, fields-reading, fields, map-byte, with-map}
-use Rattle.formats.proofs.Spans.{length-values, getD-values, Gives, reads, gives-as, first-given, none-given, given-none, gives-test}
+use Rattle.formats.proofs.Spans.{length-up-to, getD-up-to, Gives, reads, gives-as, first-given, none-given, given-none, gives-test}
 use Rattle.formats.proofs.Spans.{Spans, spans-as, spans-done, spans-two-bytes, spans-then, spans-tested, spans-one-test, spans-untested}
 use Rattle.formats.proofs.Spans.{Unknown, spans-map, Miscounted, spans-count, Parts, spans-row, OrTrailing, gives-whole}
 use Rattle.parts.specs.declared.Size.{Size}
@@ -148,7 +148,7 @@ module _ (s : List ℕ) where
   -- a counted row where its bit stands
   spans-list : {P A : Type 0} {part : Format A} {tests : P → A → List Test} {next : P → A → P} {state : ℕ → P} {place : ℕ → ℕ} {x : ℕ → A}
       {W : ℕ → Refusal → Type 0} (limit : ℕ) (bit : Bool) (at : ℕ) → at + 1 ≡ place 0 → Parts s part tests next state place x W
-      → Spans s (optional-reading (list-of part tests next (state 0) limit) bit) at (values (cond bit (byte-at s at) 0) x)
+      → Spans s (optional-reading (list-of part tests next (state 0) limit) bit) at (up-to (cond bit (byte-at s at) 0) x)
       (cond bit (place (cond bit (byte-at s at) 0)) at)
       (λ e. ((bit ≡ true) × Miscounted s limit at e) ⊎ ((k : ℕ) × (k < cond bit (byte-at s at) 0) × W k e))
   unfolding list-of counted keyed row
@@ -170,7 +170,7 @@ module _ (s : List ℕ) where
   PrecedencesFault e = ((has s 16 ≡ true) × Miscounted s max-precedences (items-end s) e) ⊎ ((k : ℕ) × (k < precedences-on s) × PrecedenceFault k e)
 
   spans-precedences : (n : ℕ) → n ≡ items-on s
-      → Spans s (optional-reading (precedence-list n) (has s 16)) (items-end s) (values (precedences-on s) nth) (precedences-end s) PrecedencesFault
+      → Spans s (optional-reading (precedence-list n) (has s 16)) (items-end s) (up-to (precedences-on s) nth) (precedences-end s) PrecedencesFault
   unfolding precedence-list precedences-on precedences-end precedence-place
   spans-precedences n q =
       rw q (spans-list {state = previous} max-precedences (has s 16) (items-end s) (omega arith) (record { known = λ k. refl; each = spans-precedence }))
@@ -182,7 +182,7 @@ module _ (s : List ℕ) where
       spans-then s (map-byte 6 .reading) _ (spans-map s 6 0)
       (spans-measures (λ (x : Sheet). x .container) _ 0
       (spans-then s _ _ spans-items
-      (spans-then s _ _ (spans-precedences (length (items-at s)) (length-values (items-on s) _))
+      (spans-then s _ _ (spans-precedences (length (items-at s)) (length-up-to (items-on s) _))
       (spans-then s _ _ (spans-number 0 (has s 32) (precedences-end s)) (spans-done s (sheet-at s) (sheet-end s))))))
 
   -- what is met in reading are the faults
@@ -277,7 +277,7 @@ module _ (s : List ℕ) where
         × (run (item .reading) (item-place s k) (drop (item-place s k) s)
         ≡ got (getD (x .items) k no-item) (item-place s (suc k)) (drop (item-place s (suc k)) s)))
     unfolding item-place sheet-end
-    item-read-there = let q : x ≡ (sheet-at s) = cc (faultless-got none) in rw q (length-values (items-on s) _, λ k l. (inside k l, there k l))
+    item-read-there = let q : x ≡ (sheet-at s) = cc (faultless-got none) in rw q (length-up-to (items-on s) _, λ k l. (inside k l, there k l))
       where
         inside : (k : ℕ) → k < items-on s → item-place s (suc k) ≤ length s
         inside k l = omega (arith, item-inside k l, spans-precedences (items-on s) refl .onward, ends none)
@@ -287,4 +287,4 @@ module _ (s : List ℕ) where
         there k l =
             let σ = spans-item (item-place s k) in
             let i = inside k l in
-            rw getD-values (none-given s (σ .gives (omega arith)) (λ e. elim [ inl w ↦ none e (item-told k l w) | inr (m, _) ↦ omega arith ]))
+            rw getD-up-to (none-given s (σ .gives (omega arith)) (λ e. elim [ inl w ↦ none e (item-told k l w) | inr (m, _) ↦ omega arith ]))

@@ -4,7 +4,7 @@ use Prim.Native.Nat.{ℕ, _+_}
 use mathlib.Core.Bool.{cond}
 use mathlib.Core.List.{List}
 use Rattle.formats.specs.Fields.{is-set}
-use Rattle.formats.specs.Formats.{values}
+use Rattle.formats.specs.Formats.{up-to}
 use Rattle.parts.specs.declared.Size.{Size}
 use Rattle.parts.specs.declared.Item.{Item}
 use Rattle.sheet.specs.Places.{two-if, byte-at, word-at, precedence-at, has, items-on, item-place, precedences-on, precedence-place, precedences-end}
@@ -23,13 +23,13 @@ module _ (s : List ℕ) where
   item-at m = record { size = size-at m }
 
   abbrev pub items-at : List Item
-  items-at = values (items-on s) (λ k. item-at (item-place s k))
+  items-at = up-to (items-on s) (λ k. item-at (item-place s k))
 
   -- the yard number: "left out means 0"
   abbrev pub sheet-at : Sheet
   sheet-at = record {
     container = size-at 0;
     items = items-at;
-    precedences = values (precedences-on s) (λ i. precedence-at s (precedence-place s i));
+    precedences = up-to (precedences-on s) (λ i. precedence-at s (precedence-place s i));
     yard-number = cond (has s 32) (word-at s (precedences-end s)) 0;
   }

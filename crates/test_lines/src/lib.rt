@@ -59,10 +59,10 @@ fn measures(size: Size) {
     number(size.shifts as usize);
 }
 
-fn items_below(items: [Item; 10], n: usize) {
+fn items_below(items: [Item; Instance::MAX_ITEMS], n: usize) {
     let mut i: usize = 0;
     while i < n {
-        if 10 <= i {
+        if Instance::MAX_ITEMS <= i {
             return;
         }
         let item = items[i];
@@ -71,10 +71,10 @@ fn items_below(items: [Item; 10], n: usize) {
     }
 }
 
-fn precedences_below(precedences: [Precedence; 90], m: usize) {
+fn precedences_below(precedences: [Precedence; Instance::MAX_PRECEDENCES], m: usize) {
     let mut i: usize = 0;
     while i < m {
-        if 90 <= i {
+        if Instance::MAX_PRECEDENCES <= i {
             return;
         }
         let precedence = precedences[i];
@@ -94,9 +94,9 @@ fn is_zero(size: Size) -> bool {
     size.shifts == 0
 }
 
-fn items_zero_from(items: [Item; 10], n: usize) -> bool {
+fn items_zero_from(items: [Item; Instance::MAX_ITEMS], n: usize) -> bool {
     let mut i = n;
-    while i < 10 {
+    while i < Instance::MAX_ITEMS {
         let item = items[i];
         if !is_zero(item.size) {
             return false;
@@ -106,9 +106,9 @@ fn items_zero_from(items: [Item; 10], n: usize) -> bool {
     true
 }
 
-fn precedences_zero_from(precedences: [Precedence; 90], m: usize) -> bool {
+fn precedences_zero_from(precedences: [Precedence; Instance::MAX_PRECEDENCES], m: usize) -> bool {
     let mut i = m;
-    while i < 90 {
+    while i < Instance::MAX_PRECEDENCES {
         let precedence = precedences[i];
         if precedence.predecessor != 0 {
             return false;

@@ -105,7 +105,7 @@ fn report_clearance(s: &[u8]) {
 }
 
 fn rewrite(instance: Instance) {
-    let mut space = [0u8; 261];
+    let mut space = [0u8; Instance::MAX_BYTES];
     let answer = writer::write(instance, &mut space);
     match answer {
         WriteAnswer::Written(n) => {
