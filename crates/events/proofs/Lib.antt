@@ -4,6 +4,4 @@ pub mod Reading
 pub mod Masks
 pub mod Triangles
 pub mod OnAxes
-pub mod Cycles
-pub mod Looks
 pub mod Along

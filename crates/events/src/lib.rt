@@ -1,4 +1,3 @@
-// Rules 1 to 4 by events: what each removes where a pair has changed, by sets of items read from the rows.
+// Rules 1 to 3 by events: what each removes where a pair has changed, by sets of items read from the rows.
 pub mod paths;
-pub mod rings;
 pub mod sets;

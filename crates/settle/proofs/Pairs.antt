@@ -16,7 +16,7 @@ use Rattle.events.specs.Worked.{Worked}
 use Rattle.events.specs.Sets.{Gives, Paths, Diagonal, lapping}
 use Rattle.events.proofs.Works.{worked-none, worked-then, worked-as}
 use Rattle.events.proofs.Reading.{lapping-of}
-use Rattle.events.proofs.Cycles.{ring-near, overlap-converse}
+use Rattle.rings.proofs.Cycles.{ring-near, overlap-converse}
 use Rattle.settle.specs.Mentions.{Overlapping, Mentioning}
 use Rattle.settle.proofs.Instances.{mentioning-covered}
 

@@ -11,9 +11,9 @@ ghost use Rattle.settle.specs.Pending as P;
 ghost use Rattle.settle.specs.Pending.{Pending};
 use events::paths::follow_both;
 use events::paths::third_axis;
-use events::rings::ring_across;
-use events::rings::ring_side;
 use events::sets;
+use rings::ring_across;
+use rings::ring_side;
 use rows::bits::has;
 
 // How working the queue off ended, and where the queue ends then.

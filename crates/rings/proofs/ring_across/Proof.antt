@@ -1,14 +1,14 @@
--- `events::rings::ring_across` meets its contract.
+-- `rings::ring_across` meets its contract.
 use mathlib.Core.Path.{sym, _∙_}
 use native.Mathlib.Omega.{arith}
 use borrow.Author.Needs.{needs}
 use borrow.Author.Tests.{not-true}
 use Rattle.events.specs.Sets.{Ring}
 use Rattle.events.proofs.Reading.{readable}
-use Rattle.events.proofs.Looks.{Looked, looked-none, looked-one}
-use Rattle.events.proofs.Cycles.{both-small, both-item, diagonal-idle, diagonal-worked}
-use Rattle.events.proofs.rings.ring_across.Statement.{statement}
-use Rattle.events.proofs.rings.ring_across.Tie as tie
+use Rattle.rings.proofs.Looks.{Looked, looked-none, looked-one}
+use Rattle.rings.proofs.Cycles.{both-small, both-item, diagonal-idle, diagonal-worked}
+use Rattle.rings.proofs.ring_across.Statement.{statement}
+use Rattle.rings.proofs.ring_across.Tie as tie
 
 abbrev Inv-loop : tie.InvT-loop
 Inv-loop k₀ rows₀ queue₀ top n a q s end₀ left₀ k rows queue end left = Looked n (λ r. Ring n a q r s) left₀ k₀ queue₀ top k rows queue end left

@@ -19,13 +19,13 @@ use Rattle.rows.specs.Queue.{Good, In, Items, Removed}
 use Rattle.rows.proofs.Sets.{bit-and, and-small}
 use Rattle.rows.proofs.Claims.{gone-mono, says-mono, overlaps-sym}
 use Rattle.rows.proofs.Grown.{grown-then}
 use Rattle.events.specs.Clauses.{of, g1, AllHold, Obeyed}
 use Rattle.events.specs.Worked.{Worked}
 use Rattle.events.specs.Sets.{Gives, Ring, Sides, Diagonal, Overlapped, lapping}
 use Rattle.events.proofs.Works.{worked-none}
-use Rattle.events.proofs.Looks.{Looked, looked-all}
+use Rattle.rings.proofs.Looks.{Looked, looked-all}
 use Rattle.events.proofs.Reading.{rowed, gone-distinct, not-equal, equal-not, struck-is, lapping-says, lapping-of}
 use Rattle.events.proofs.Masks.{bit-others, plain}
 
 -- Both orders are removed, one after the other
 pub overlapped-of : {n a u items : ℕ} {k : Domains} {q : List ℕ} {top : ℕ} {j : Domains} {rows r : List ℕ} {mid : ℕ} {l : Domains} {rows′ s : List ℕ} {end : ℕ}

@@ -1,14 +1,14 @@
--- `events::rings::ring_side` meets its contract.
+-- `rings::ring_side` meets its contract.
 use mathlib.Core.Path.{sym, _∙_}
 use native.Mathlib.Omega.{arith}
 use borrow.Author.Needs.{needs}
 use borrow.Author.Tests.{not-true}
 use Rattle.events.specs.Sets.{Ring}
 use Rattle.events.proofs.Reading.{readable}
-use Rattle.events.proofs.Looks.{Looked, looked-none, looked-one}
-use Rattle.events.proofs.Cycles.{far-small, far-item, sides-idle, sides-worked}
-use Rattle.events.proofs.rings.ring_side.Statement.{statement}
-use Rattle.events.proofs.rings.ring_side.Tie as tie
+use Rattle.rings.proofs.Looks.{Looked, looked-none, looked-one}
+use Rattle.rings.proofs.Cycles.{far-small, far-item, sides-idle, sides-worked}
+use Rattle.rings.proofs.ring_side.Statement.{statement}
+use Rattle.rings.proofs.ring_side.Tie as tie
 
 abbrev Inv-loop : tie.InvT-loop
 Inv-loop k₀ rows₀ queue₀ top n a q r end₀ left₀ k rows queue end left = Looked n (Ring n a q r) left₀ k₀ queue₀ top k rows queue end left

@@ -1,8 +1,8 @@
--- `events::rings::keep_overlap` meets its contract.
-use Rattle.events.proofs.Cycles.{overlapped-of}
+-- `rings::keep_overlap` meets its contract.
+use Rattle.rings.proofs.Cycles.{overlapped-of}
 use borrow.Author.Needs.{needs}
-use Rattle.events.proofs.rings.keep_overlap.Statement.{statement}
-use Rattle.events.proofs.rings.keep_overlap.Tie as tie
+use Rattle.rings.proofs.keep_overlap.Statement.{statement}
+use Rattle.rings.proofs.keep_overlap.Tie as tie
 
 returns : tie.Need-returns
 returns c = overlapped-of (c .before .before .before .before .remove .ensures) (c .remove2 .ensures)

@@ -1,10 +1,10 @@
--- `events::rings::ring_at` meets its contract.
+-- `rings::ring_at` meets its contract.
 use mathlib.Core.Path.{sym, _∙_}
 use borrow.Author.Tests.{not-true, not-false}
-use Rattle.events.proofs.Cycles.{ring-idle-across, ring-idle-far, ring-idle-near, neighbours-items, ring-worked}
+use Rattle.rings.proofs.Cycles.{ring-idle-across, ring-idle-far, ring-idle-near, neighbours-items, ring-worked}
 use borrow.Author.Needs.{needs}
-use Rattle.events.proofs.rings.ring_at.Statement.{statement}
-use Rattle.events.proofs.rings.ring_at.Tie as tie
+use Rattle.rings.proofs.ring_at.Statement.{statement}
+use Rattle.rings.proofs.ring_at.Tie as tie
 
 returns : tie.Need-returns
 returns c = let p = c .before .before .before .pre in

@@ -1,9 +1,9 @@
 // Rule 4: four items in a ring, each known to overlap the next, one diagonal without overlap. The other diagonal overlaps.
 ghost use Prim.Native.Nat.{_<_};
 ghost use Rattle.rows.specs.Queue.{Good, Items};
 ghost use Rattle.events.specs.Worked.{Worked};
 ghost use Rattle.events.specs.Sets.{Overlapped, Ring, Sides, Diagonal};
-use crate::sets;
+use events::sets;
 use rows::bits::bit;
 use rows::bits::has;
 use rows::bits::lowest;
