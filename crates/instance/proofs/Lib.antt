@@ -1,5 +1,4 @@
 pub mod Arrays
-pub mod Rows
 pub mod Readers
 pub mod Sheets
 pub mod RoundTrips

@@ -16,31 +16,9 @@ use Rattle.parts.specs.Parts.{count-field, measures, size-fields}
 use Rattle.sheet.specs.Sheet.{Sheet, list-of, sheet-fields, sheet, item-list, precedence-list, yard-number}
 use Rattle.instance.specs.declared.Instance.{Instance}
 use Rattle.instance.specs.Valid.{items-of, precedences-of}
-use Rattle.instance.specs.Sheets.{filled, instance-of, sheet-of, decode}
-use Rattle.instance.specs.Lists.{Filled}
+use Rattle.instance.specs.Sheets.{instance-of, sheet-of, decode}
+use Rattle.lists.proofs.Counted.{filled-many}
 use Rattle.instance.specs.Drafts.{Draft, from-items, from-precedences, from-yard-number}
-
--- a counted row is a count, left out for 0, and the row
-pub list-run : {P A : Type 0} (part : Format A) (tests : P → A → List Test) (next : P → A → P) (p : P) (limit : ℕ) (present : Bool) (at : ℕ) (rest : List ℕ)
-    → run (optional-reading (list-of part tests next p limit) present) at rest
-    ≡ after (run (optional-reading (count-field limit) present) at rest) λ n at₁ rest₁. run (row-reading part tests next p n) at₁ rest₁
-unfolding list-of counted keyed row count-field row-reading run
-list-run part tests next p limit false at rest = refl
-list-run part tests next p limit true at rest = simp run-then
-
--- a count that was read is within its limit
-pub count-within : (limit : ℕ) (present : Bool) (at : ℕ) (rest : List ℕ) {n at′ : ℕ} {rest′ : List ℕ} → run (optional-reading (count-field limit) present) at rest ≡ got n at′ rest′ → n ≤ limit
-unfolding count-field count tested testing byte run _>>=_
-count-within limit false at rest {n} h = let e : _≡_ {A = ℕ} 0 n = cc in omega arith
-count-within limit true at [] h = absurd (never-both h)
-count-within limit true at (x ∷ rest) {n} h =
-    let (c, g) = cond-got (eqb x 0 || ltb limit x) _ _ h in
-    let e : x ≡ n = cc in
-    rw (← e) (ltb-false limit x (second (eqb x 0) (ltb limit x) c))
-  where
-    second : (a b : Bool) → (a || b) ≡ false → b ≡ false
-    second false b c = c
-    second true b c = absurd (true≢false c)
 
 -- 7: "bytes after the last field"
 abbrev pub ended : Instance → ℕ → List ℕ → Read Instance
@@ -93,14 +71,6 @@ sheet-there [] h d = absurd (omega arith)
 sheet-there (x ∷ rest) h d = simp (cond-after, read-as-cond, run-then, after-after, read-as-after)
 
 -- The draft.
-module _ {A : Type 0} (room n : ℕ) (blank : A) (xs : List A) (φ : Filled room blank n xs) where
-  pub filled-many : length (take n xs) ≡ n
-  filled-many =
-      let few = φ .few in
-      let l : length xs ≡ length (take n xs) + (room - length (take n xs)) = ap length (φ .same) ∙ simp (length-append, length-replicate) in
-      let t = length-take n xs in
-      omega arith
-
 module _ (i : Instance) (δ : Draft i) where
   pub items-many : length (items-of i) ≡ i .«item_count»
   items-many = filled-many _ _ _ _ (δ .items)

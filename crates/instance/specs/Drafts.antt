@@ -6,7 +6,7 @@ use Rattle.formats.specs.Fields.{Fields, field, fields-reading}
 use Rattle.parts.specs.Sizes.{no-item, no-precedence}
 use Rattle.sheet.specs.Sheet.{Sheet, sheet-fields, max-items, max-precedences}
 use Rattle.instance.specs.declared.Instance.{Instance}
-use Rattle.instance.specs.Lists.{Filled}
+use Rattle.lists.specs.Lists.{Filled}
 use Rattle.instance.specs.Sheets.{instance-of}
 
 -- its counts are within the limits and the entries past them blank

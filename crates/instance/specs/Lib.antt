@@ -2,7 +2,6 @@ pub mod Valid
 pub mod Values
 pub mod Meaning
 pub mod Sheets
-pub mod Lists
 pub mod Drafts
 pub mod Answers
 pub mod Reads

@@ -1,17 +1,14 @@
 -- An instance and what its sheet says; reading and writing it (document 01, "Sheet bytes").
-use mathlib.Core.List.{List, _++_}
-use Prim.Native.Nat.{ℕ, _-_}
-use lib.ListN.{length, replicate}
+use mathlib.Core.List.{List}
+use Prim.Native.Nat.{ℕ}
+use lib.ListN.{length}
 use Rattle.formats.specs.Reading.{Read, run, read-as}
 use Rattle.formats.specs.Formats.{Format, whole}
 use Rattle.parts.specs.Sizes.{no-item, no-precedence}
 use Rattle.sheet.specs.Sheet.{Sheet, sheet, max-items, max-precedences}
+use Rattle.lists.specs.Lists.{filled}
 use Rattle.instance.specs.declared.Instance.{Instance}
 use Rattle.instance.specs.Valid.{items-of, precedences-of}
-
--- "Entries of a sheet past its counts are no part of it; reading leaves them 0"
-abbrev pub filled : {A : Type 0} → ℕ → A → List A → List A
-filled room blank xs = xs ++ replicate (room - length xs) blank
 
 unfoldable pub instance-of : Sheet → Instance
 instance-of s = record {

@@ -10,7 +10,6 @@ use parts::Size;
 use parts::SizeRead;
 use refusal::Refusal;
 
-mod lists;
 mod read;
 
 // A sheet. Entries past the counts are no part of it.
@@ -61,9 +60,9 @@ pub struct ReadResult {
 }
 
 impl Instance {
-    pub const MAX_ITEMS: usize = 10;
+    pub const MAX_ITEMS: usize = lists::MAX_ITEMS;
 
-    pub const MAX_PRECEDENCES: usize = 90;
+    pub const MAX_PRECEDENCES: usize = lists::MAX_PRECEDENCES;
 
     pub const MAX_BRANCHES: usize = 270;
 

@@ -9,7 +9,7 @@ ghost use Rattle.instance.specs.Drafts.{Draft, from-items, from-preceden
 use crate::Instance;
 use crate::ReadAnswer;
 use crate::ReadResult;
-use crate::lists::Stop;
+use lists::Stop;
 use parts::FieldRead;
 use parts::Size;
 use refusal::Refusal;
@@ -22,8 +22,8 @@ pub fn empty() -> Instance
         depth: 1,
         shifts: 1,
     };
-    let items = crate::lists::no_items();
-    let precedences = crate::lists::no_precedences();
+    let items = lists::no_items();
+    let precedences = lists::no_precedences();
     Instance {
         container,
         items,
@@ -71,7 +71,7 @@ fn read_from_precedences(rest: &[u8], at: usize, map: u8, draft: Instance) -> Re
     ensures { λ r. ⌜ r ≡ read-result (from-precedences map (sheet-of draft) at (now (rest .entry))) ⌝ }
 {
     let n = draft.item_count;
-    let list = crate::lists::read_precedences(rest, at, n, parts::read::bit_is_set(map, 16));
+    let list = lists::read_precedences(rest, at, n, parts::read::bit_is_set(map, 16));
     let stop = list.stop;
     match stop {
         Stop::Refused(e) => refuse(e),
@@ -90,7 +90,7 @@ pub fn read_from_items(rest: &[u8], at: usize, map: u8, draft: Instance) -> Read
     requires { ⌜ PlacesFit at (now rest) × Draft draft ⌝ }
     ensures { λ r. ⌜ r ≡ read-result (from-items map (sheet-of draft) at (now (rest .entry))) ⌝ }
 {
-    let list = crate::lists::read_items(rest, at, parts::read::bit_is_set(map, 8));
+    let list = lists::read_items(rest, at, parts::read::bit_is_set(map, 8));
     let stop = list.stop;
     match stop {
         Stop::Refused(e) => refuse(e),

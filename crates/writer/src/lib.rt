@@ -13,7 +13,7 @@ ghost use Rattle.writer.specs.Answers.{write-answer, written-room};
 use instance::Instance;
 use refusal::Refusal;
 
-mod lists;
+mod counted;
 
 // What writing gives: how many bytes were written.
 pub enum WriteAnswer {
@@ -26,10 +26,10 @@ fn map_of(instance: Instance) -> u8
     ensures { λ r. ⌜ r ≡ flags sheet-fields (sheet-of instance) ⌝ }
 {
     let container = instance.container;
-    let lists = parts::write::flag_of_count(instance.item_count)
+    let counts = parts::write::flag_of_count(instance.item_count)
         + 2 * parts::write::flag_of_count(instance.precedence_count);
     parts::write::size_flags_of(container)
-        + 8 * lists
+        + 8 * counts
         + 32 * parts::write::flag_of(0, instance.yard_number)
 }
 
@@ -42,8 +42,8 @@ fn sheet_len(instance: Instance) -> usize
     let items = instance.items;
     1
         + parts::write::size_len(container)
-        + lists::items_len(items, instance.item_count)
-        + lists::precedences_len(instance.precedence_count)
+        + counted::items_len(items, instance.item_count)
+        + counted::precedences_len(instance.precedence_count)
         + parts::write::field_len(0, instance.yard_number)
 }
 
@@ -58,8 +58,8 @@ fn write_sheet(out: &mut [u8], instance: Instance) -> usize
     let precedences = instance.precedences;
     out[0] = map_of(instance);
     let a = parts::write::write_size(out, 1, container);
-    let b = lists::write_items(out, a, items, instance.item_count);
-    let c = lists::write_precedences(out, b, precedences, instance.precedence_count);
+    let b = counted::write_items(out, a, items, instance.item_count);
+    let c = counted::write_precedences(out, b, precedences, instance.precedence_count);
     parts::write::write_field(out, c, 0, instance.yard_number)
 }
 

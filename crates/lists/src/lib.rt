@@ -1,4 +1,4 @@
-// The items and the precedences of an instance: arrays of which the first entries count.
+// Lists of parts as a sheet holds them: arrays of which the first entries count. How they are read, and when they are valid.
 ghost use mathlib.Core.Path.{_≡_};
 ghost use Prim.Native.Nat.{_+_, _≤_};
 ghost use lib.ListN.{length, take, drop, replicate};
@@ -8,8 +8,7 @@ ghost use Rattle.parts.specs.Answers.{PlacesFit};
 ghost use Rattle.parts.specs.Precedences.{all-stand};
 ghost use Rattle.parts.specs.Sizes.{no-item, no-precedence, all-have-size};
 ghost use Rattle.sheet.specs.Sheet.{max-items, max-precedences, item-list, precedence-list};
-ghost use Rattle.instance.specs.Lists.{item-row, precedence-row, row-read, Filled};
-use crate::Instance;
+ghost use Rattle.lists.specs.Lists.{item-row, precedence-row, row-read, Filled};
 use parts::FieldRead;
 use parts::Item;
 use parts::ItemRead;
@@ -18,6 +17,11 @@ use parts::PrecedenceRead;
 use parts::Previous;
 use parts::Size;
 use refusal::Refusal;
+
+// "10 pieces, 90 orders .. are limits belonging to the sheet": `Instance` has them as its own.
+pub const MAX_ITEMS: usize = 10;
+
+pub const MAX_PRECEDENCES: usize = 90;
 
 // How reading a row ends: after so many bytes, or refused.
 pub enum Stop {
@@ -29,13 +33,13 @@ pub enum Stop {
 pub struct ItemsRead {
     pub stop: Stop,
     pub count: usize,
-    pub items: [Item; Instance::MAX_ITEMS],
+    pub items: [Item; MAX_ITEMS],
 }
 
 pub struct PrecedencesRead {
     pub stop: Stop,
     pub count: usize,
-    pub precedences: [Precedence; Instance::MAX_PRECEDENCES],
+    pub precedences: [Precedence; MAX_PRECEDENCES],
 }
 
 fn widened(x: u16) -> usize
@@ -44,7 +48,7 @@ fn widened(x: u16) -> usize
     x as usize
 }
 
-pub fn no_items() -> [Item; Instance::MAX_ITEMS]
+pub fn no_items() -> [Item; MAX_ITEMS]
     ensures { λ r. ⌜ r ≡ replicate max-items no-item ⌝ }
 {
     let size = Size {
@@ -53,17 +57,17 @@ pub fn no_items() -> [Item; Instance::MAX_ITEMS]
         shifts: 0,
     };
     let item = Item { size };
-    [item; Instance::MAX_ITEMS]
+    [item; MAX_ITEMS]
 }
 
-pub fn no_precedences() -> [Precedence; Instance::MAX_PRECEDENCES]
+pub fn no_precedences() -> [Precedence; MAX_PRECEDENCES]
     ensures { λ r. ⌜ r ≡ replicate max-precedences no-precedence ⌝ }
 {
     let none = Precedence {
         predecessor: 0,
         successor: 0,
     };
-    [none; Instance::MAX_PRECEDENCES]
+    [none; MAX_PRECEDENCES]
 }
 
 // n items from byte `from` on: each is read from the rest of the sheet after the item before.
@@ -138,7 +142,7 @@ pub fn read_items(rest: &[u8], at: usize, present: bool) -> ItemsRead
     ensures { λ r. ⌜ run (optional-reading item-list present) at (now (rest .entry)) ≡ row-read at (now (rest .entry)) (r .stop) (take (r .count) (r .items)) ⌝ }
     ensures { λ r. ⌜ Filled max-items no-item (r .count) (r .items) ⌝ }
 {
-    match parts::read::read_count(rest, at, present, Instance::MAX_ITEMS) {
+    match parts::read::read_count(rest, at, present, MAX_ITEMS) {
         FieldRead::Value(n, used) => read_item_row(rest, at, used, widened(n)),
         FieldRead::Refused(e) => {
             let items = no_items();
@@ -157,7 +161,7 @@ pub fn read_precedences(rest: &[u8], at: usize, n: usize, present: bool) -> Prec
     ensures { λ r. ⌜ run (optional-reading (precedence-list n) present) at (now (rest .entry)) ≡ row-read at (now (rest .entry)) (r .stop) (take (r .count) (r .precedences)) ⌝ }
     ensures { λ r. ⌜ Filled max-precedences no-precedence (r .count) (r .precedences) ⌝ }
 {
-    match parts::read::read_count(rest, at, present, Instance::MAX_PRECEDENCES) {
+    match parts::read::read_count(rest, at, present, MAX_PRECEDENCES) {
         FieldRead::Value(m, used) => read_precedence_row(rest, at, used, n, widened(m)),
         FieldRead::Refused(e) => {
             let precedences = no_precedences();
@@ -171,7 +175,7 @@ pub fn read_precedences(rest: &[u8], at: usize, n: usize, present: bool) -> Prec
 }
 
 // The first n items have no measure 0.
-pub fn all_positive(items: [Item; Instance::MAX_ITEMS], n: usize) -> bool
+pub fn all_positive(items: [Item; MAX_ITEMS], n: usize) -> bool
     requires { ⌜ n ≤ max-items ⌝ }
     ensures { λ r. ⌜ r ≡ all-have-size (take n items) ⌝ }
 {
@@ -188,11 +192,7 @@ pub fn all_positive(items: [Item; Instance::MAX_ITEMS], n: usize) -> bool
 }
 
 // The first m precedences name two of n items each and rise.
-pub fn all_in_order(
-    precedences: [Precedence; Instance::MAX_PRECEDENCES],
-    m: usize,
-    n: usize,
-) -> bool
+pub fn all_in_order(precedences: [Precedence; MAX_PRECEDENCES], m: usize, n: usize) -> bool
     requires { ⌜ m ≤ max-precedences ⌝ }
     ensures { λ r. ⌜ r ≡ all-stand n Previous.Nothing (take m precedences) ⌝ }
 {

@@ -1,4 +1,4 @@
--- `writer::lists::write_precedences` meets its contract.
+-- `writer::counted::write_precedences` meets its contract.
 use native.Mathlib.Omega.{arith}
 use mathlib.Core.Path.{_≡_, refl, ap, _∙_}
 use Prim.Native.Nat.{ℕ, _+_, _-_, _*_, _≤_}
@@ -10,8 +10,8 @@ use Rattle.parts.specs.Parts.{precedence}
 use Rattle.parts.specs.Sizes.{no-precedence}
 use Rattle.parts.proofs.Writers.{precedences-length}
 use borrow.Author.Needs.{needs}
-use Rattle.writer.proofs.lists.write_precedences.Statement.{statement}
-use Rattle.writer.proofs.lists.write_precedences.Tie as tie
+use Rattle.writer.proofs.counted.write_precedences.Statement.{statement}
+use Rattle.writer.proofs.counted.write_precedences.Tie as tie
 
 -- after the count the first i precedences are written
 abbrev Inv-loop : tie.InvT-loop

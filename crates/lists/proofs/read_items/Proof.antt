@@ -1,14 +1,14 @@
--- `instance::lists::read_items` meets its contract.
+-- `lists::read_items` meets its contract.
 use native.Mathlib.Omega.{arith}
 use mathlib.Core.List.{[]}
 use mathlib.Core.Path.{refl, _∙_}
 use Rattle.formats.proofs.Run.{run-took}
 use Rattle.parts.specs.Parts.{item}
 use Rattle.sheet.specs.Sheet.{max-items, item-list}
-use Rattle.instance.proofs.Readers.{list-run, count-within}
+use Rattle.lists.proofs.Counted.{list-run, count-within}
 use borrow.Author.Needs.{needs}
-use Rattle.instance.proofs.lists.read_items.Statement.{statement}
-use Rattle.instance.proofs.lists.read_items.Tie as tie
+use Rattle.lists.proofs.read_items.Statement.{statement}
+use Rattle.lists.proofs.read_items.Tie as tie
 
 read-item-row-requires : tie.Need-read-item-row-requires
 read-item-row-requires c κs =

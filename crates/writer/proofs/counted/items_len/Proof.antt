@@ -1,4 +1,4 @@
--- `writer::lists::items_len` meets its contract.
+-- `writer::counted::items_len` meets its contract.
 use native.Mathlib.Omega.{arith}
 use Prim.Native.Nat.{_+_, _-_, _*_, _≤_}
 use mathlib.Core.Path.{_≡_, refl}
@@ -8,8 +8,8 @@ use Rattle.formats.proofs.Stores.{row-none, row-next}
 use Rattle.parts.specs.Parts.{count-bytes, item}
 use Rattle.parts.specs.Sizes.{no-item}
 use borrow.Author.Needs.{needs}
-use Rattle.writer.proofs.lists.items_len.Statement.{statement}
-use Rattle.writer.proofs.lists.items_len.Tie as tie
+use Rattle.writer.proofs.counted.items_len.Statement.{statement}
+use Rattle.writer.proofs.counted.items_len.Tie as tie
 
 -- the count and the first i items are summed up
 abbrev Inv-loop : tie.InvT-loop

@@ -1,8 +1,8 @@
 -- The rows of a sheet and the arrays that hold them.
-use mathlib.Core.List.{List, []}
+use mathlib.Core.List.{List, [], _++_}
 use mathlib.Core.Path.{_≡_}
-use Prim.Native.Nat.{ℕ, _+_, _≤_}
-use lib.ListN.{take, drop}
+use Prim.Native.Nat.{ℕ, _+_, _-_, _≤_}
+use lib.ListN.{length, take, drop, replicate}
 use Rattle.formats.specs.Reading.{Reading, Read, got, refused}
 use Rattle.formats.specs.Formats.{row-reading}
 use Rattle.parts.specs.declared.Item.{Item}
@@ -10,9 +10,8 @@ use Rattle.parts.specs.declared.Precedence.{Precedence}
 use Rattle.parts.specs.declared.Previous.{Previous}
 use Rattle.parts.specs.declared.Previous.the-variants.{Was}
 use Rattle.parts.specs.Parts.{item, precedence, precedence-tests}
-use Rattle.instance.specs.declared.lists.Stop.{Stop}
-use Rattle.instance.specs.declared.lists.Stop.the-variants as S
-use Rattle.instance.specs.Sheets.{filled}
+use Rattle.lists.specs.declared.Stop.{Stop}
+use Rattle.lists.specs.declared.Stop.the-variants as S
 
 -- the next n items
 abbrev pub item-row : ℕ → Reading (List Item)
@@ -26,6 +25,10 @@ precedence-row n = row-reading precedence (precedence-tests n) (λ _ o. Was o)
 abbrev pub row-read : {A : Type 0} → ℕ → List ℕ → Stop → List A → Read (List A)
 row-read at rest (S.After used) xs = got xs (at + used) (drop used rest)
 row-read at rest (S.Refused e) xs = refused e
+
+-- "Entries of a sheet past its counts are no part of it; reading leaves them 0"
+abbrev pub filled : {A : Type 0} → ℕ → A → List A → List A
+filled room blank xs = xs ++ replicate (room - length xs) blank
 
 -- of `room` entries the first n count, and those past them are blank
 pub record Filled {A : Type 0} (room : ℕ) (blank : A) (n : ℕ) (xs : List A) : Type 0 where

@@ -1,4 +1,4 @@
--- `instance::lists::all_in_order` meets its contract.
+-- `lists::all_in_order` meets its contract.
 use borrow.Author.Needs.{needs}
 use borrow.Author.Tests.{not-true, not-false}
 use native.Mathlib.Omega.{arith}
@@ -9,8 +9,8 @@ use Rattle.parts.specs.declared.Previous.the-variants.{Nothing}
 use Rattle.parts.specs.Sizes.{no-precedence}
 use Rattle.parts.specs.Precedences.{all-stand}
 use Rattle.formats.proofs.Entries.{part-next, part-done}
-use Rattle.instance.proofs.lists.all_in_order.Statement.{statement}
-use Rattle.instance.proofs.lists.all_in_order.Tie as tie
+use Rattle.lists.proofs.all_in_order.Statement.{statement}
+use Rattle.lists.proofs.all_in_order.Tie as tie
 
 abbrev Inv-loop : tie.InvT-loop
 Inv-loop m n precedences last₀ i₀ last i = (i ≤ m) × (all-stand n last (drop i (take m precedences)) ≡ all-stand n Nothing (take m precedences))

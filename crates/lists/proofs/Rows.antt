@@ -11,7 +11,7 @@ use Rattle.formats.specs.Reading.{Read, got, refused, run}
 use Rattle.formats.specs.Formats.{Format, Test, tested, row-reading}
 use Rattle.formats.proofs.Run.{after, run-then}
 use Rattle.parts.specs.Answers.{taken}
-use Rattle.instance.specs.Lists.{Filled}
+use Rattle.lists.specs.Lists.{Filled}
 
 module _ {A : Type 0} where
   -- what was read before, and then the rest of the row

@@ -1,4 +1,4 @@
--- `writer::lists::write_items` meets its contract.
+-- `writer::counted::write_items` meets its contract.
 use native.Mathlib.Omega.{arith}
 use native.Mathlib.Nat.{add-zero, add-assoc}
 use mathlib.Core.Path.{_≡_, refl, sym, _∙_}
@@ -10,8 +10,8 @@ use Rattle.formats.proofs.Stores.{row-none, row-next, row-room, sets-append}
 use Rattle.parts.specs.Parts.{count-bytes, item}
 use Rattle.parts.specs.Sizes.{no-item}
 use borrow.Author.Needs.{needs}
-use Rattle.writer.proofs.lists.write_items.Statement.{statement}
-use Rattle.writer.proofs.lists.write_items.Tie as tie
+use Rattle.writer.proofs.counted.write_items.Statement.{statement}
+use Rattle.writer.proofs.counted.write_items.Tie as tie
 
 -- after the count the first i items are written
 abbrev Inv-loop : tie.InvT-loop

@@ -1,8 +1,8 @@
--- `writer::lists::precedences_len` meets its contract.
+-- `writer::counted::precedences_len` meets its contract.
 use native.Mathlib.Omega.{arith}
 use borrow.Author.Needs.{needs}
-use Rattle.writer.proofs.lists.precedences_len.Statement.{statement}
-use Rattle.writer.proofs.lists.precedences_len.Tie as tie
+use Rattle.writer.proofs.counted.precedences_len.Statement.{statement}
+use Rattle.writer.proofs.counted.precedences_len.Tie as tie
 
 returns : tie.Need-returns
 returns c = (omega (arith, c .count-len .ensures .0), omega (arith, c .count-len .ensures .1))

@@ -1,4 +1,4 @@
--- `instance::lists::read_precedence_row` meets its contract.
+-- `lists::read_precedence_row` meets its contract.
 use borrow.Author.Needs.{needs}
 use native.Mathlib.Omega.{arith}
 use native.Mathlib.Nat.{sub-zero}
@@ -13,10 +13,10 @@ use Rattle.parts.specs.Answers.{precedence-read}
 use Rattle.parts.specs.Parts.{precedence, precedence-tests}
 use Rattle.parts.specs.declared.Previous.the-variants.{Nothing, Was}
 use Rattle.parts.specs.Sizes.{no-precedence}
-use Rattle.instance.specs.Lists.{precedence-row}
-use Rattle.instance.proofs.Rows.{Along, along-start, along-next, along-filled, along-refused, along-done, row-next, row-refused, row-done}
-use Rattle.instance.proofs.lists.read_precedence_row.Statement.{statement}
-use Rattle.instance.proofs.lists.read_precedence_row.Tie as tie
+use Rattle.lists.specs.Lists.{precedence-row}
+use Rattle.lists.proofs.Rows.{Along, along-start, along-next, along-filled, along-refused, along-done, row-next, row-refused, row-done}
+use Rattle.lists.proofs.read_precedence_row.Statement.{statement}
+use Rattle.lists.proofs.read_precedence_row.Tie as tie
 
 abbrev Inv-loop : tie.InvT-loop
 Inv-loop rest at from n m precedences₀ last₀ used₀ i₀ xs last used i =

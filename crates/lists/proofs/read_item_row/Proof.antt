@@ -1,4 +1,4 @@
--- `instance::lists::read_item_row` meets its contract.
+-- `lists::read_item_row` meets its contract.
 use borrow.Author.Needs.{needs}
 use native.Mathlib.Omega.{arith}
 use native.Mathlib.Nat.{sub-zero}
@@ -14,10 +14,10 @@ use Rattle.formats.proofs.Run.{run-took}
 use Rattle.parts.specs.Answers.{item-read}
 use Rattle.parts.specs.Parts.{item}
 use Rattle.parts.specs.Sizes.{no-item}
-use Rattle.instance.specs.Lists.{item-row}
-use Rattle.instance.proofs.Rows.{Along, along-start, along-next, along-filled, along-refused, along-done, row-next, row-refused, row-done}
-use Rattle.instance.proofs.lists.read_item_row.Statement.{statement}
-use Rattle.instance.proofs.lists.read_item_row.Tie as tie
+use Rattle.lists.specs.Lists.{item-row}
+use Rattle.lists.proofs.Rows.{Along, along-start, along-next, along-filled, along-refused, along-done, row-next, row-refused, row-done}
+use Rattle.lists.proofs.read_item_row.Statement.{statement}
+use Rattle.lists.proofs.read_item_row.Tie as tie
 
 abbrev Inv-loop : tie.InvT-loop
 Inv-loop rest at from n items₀ used₀ i₀ xs used i =

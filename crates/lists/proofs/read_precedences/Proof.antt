@@ -1,14 +1,14 @@
--- `instance::lists::read_precedences` meets its contract.
+-- `lists::read_precedences` meets its contract.
 use native.Mathlib.Omega.{arith}
 use mathlib.Core.Path.{refl, _∙_}
 use Rattle.formats.proofs.Run.{run-took}
 use Rattle.parts.specs.Parts.{precedence, precedence-tests}
 use Rattle.parts.specs.declared.Previous.the-variants.{Nothing, Was}
 use Rattle.sheet.specs.Sheet.{max-precedences, precedence-list}
-use Rattle.instance.proofs.Readers.{list-run, count-within}
+use Rattle.lists.proofs.Counted.{list-run, count-within}
 use borrow.Author.Needs.{needs}
-use Rattle.instance.proofs.lists.read_precedences.Statement.{statement}
-use Rattle.instance.proofs.lists.read_precedences.Tie as tie
+use Rattle.lists.proofs.read_precedences.Statement.{statement}
+use Rattle.lists.proofs.read_precedences.Tie as tie
 
 read-precedence-row-requires : tie.Need-read-precedence-row-requires
 read-precedence-row-requires c κs =

@@ -1,4 +1,4 @@
--- `instance::lists::all_positive` meets its contract.
+-- `lists::all_positive` meets its contract.
 use borrow.Author.Needs.{needs}
 use borrow.Author.Tests.{not-true, not-false}
 use native.Mathlib.Omega.{arith}
@@ -7,8 +7,8 @@ use mathlib.Core.Path.{_≡_, refl, sym}
 use lib.ListN.{length, take, drop}
 use Rattle.parts.specs.Sizes.{all-have-size, no-item}
 use Rattle.formats.proofs.Entries.{part-next, part-done}
-use Rattle.instance.proofs.lists.all_positive.Statement.{statement}
-use Rattle.instance.proofs.lists.all_positive.Tie as tie
+use Rattle.lists.proofs.all_positive.Statement.{statement}
+use Rattle.lists.proofs.all_positive.Tie as tie
 
 abbrev Inv-loop : tie.InvT-loop
 Inv-loop n items i₀ i = (i ≤ n) × (all-have-size (drop i (take n items)) ≡ all-have-size (take n items))
