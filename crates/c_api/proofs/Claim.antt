@@ -23,11 +23,11 @@ use Rattle.instance.specs.Sheets.{decode}
 use Rattle.instance.specs.Meaning.{problem-of}
 use Rattle.instance.specs.Reads.{Reads}
 use Rattle.instance.specs.declared.Instance.{Instance}
-use Rattle.replay.proofs.Checkpoints.{checkpoint-back}
+use Rattle.search.proofs.Checkpoints.{checkpoint-back}
 use Rattle.search.proofs.Claim.{following-so, short, held-follows}
-use Rattle.replay.specs.Checkpoints.{value-of}
+use Rattle.search.specs.Checkpoints.{value-of}
 use Rattle.search.specs.Results as R
-use Rattle.search.specs.declared.SearchResult.{SearchResult}
+use Rattle.search.specs.declared.results.SearchResult.{SearchResult}
 use Rattle.buffers.proofs.Bytes.{steps-back}
 use Rattle.c_api.specs.Calls.{lengths-fit, note-follows, instance-searched, searched, note-of, search-call, search-code}
 use Rattle.c_api.specs.Lists.{Lent, Call, own, other, on-bytes}

@@ -21,11 +21,11 @@ use Rattle.instance.specs.Sheets.{decode}
 use Rattle.instance.specs.Meaning.{problem-of}
 use Rattle.instance.specs.Reads.{Reads}
 use Rattle.search.proofs.Claim.{following-so, answered-small, zero-is-spent}
-use Rattle.replay.specs.Checkpoints.{checkpoint-of, following}
+use Rattle.search.specs.Checkpoints.{checkpoint-of, following}
 use Rattle.search.specs.Results as R
-use Rattle.search.specs.declared.Answer.{Answer}
-use Rattle.search.specs.declared.Answer.the-variants.{Packed, Infeasible, BudgetSpent, Refused}
-use Rattle.search.specs.declared.SearchResult.{SearchResult}
+use Rattle.search.specs.declared.results.Answer.{Answer}
+use Rattle.search.specs.declared.results.Answer.the-variants.{Packed, Infeasible, BudgetSpent, Refused}
+use Rattle.search.specs.declared.results.SearchResult.{SearchResult}
 use Rattle.buffers.proofs.Bytes.{steps-back}
 use Rattle.buffers.specs.Bytes.{packing-bytes, steps-in}
 use Rattle.buffers.specs.Checkpoints.{checkpoint-in, is-checkpoint}

@@ -14,9 +14,9 @@ use Rattle.model.specs.Admits.{Sound}
 use Rattle.model.specs.Problem.{Problem}
 use Rattle.model.specs.Search as S
 use Rattle.formats.specs.Reading.{Bytes}
-use Rattle.replay.proofs.Checkpoints.{branches-length, branches-past, well-formed-bits, well-formed-length, value-again}
+use Rattle.search.proofs.Checkpoints.{branches-length, branches-past, well-formed-bits, well-formed-length, value-again}
 use Rattle.search.proofs.Claim.{following-so, held-follows}
-use Rattle.replay.specs.Checkpoints.{checkpoint-of, well-formed, following, branches-of, value-of}
+use Rattle.search.specs.Checkpoints.{checkpoint-of, well-formed, following, branches-of, value-of}
 use Rattle.buffers.proofs.CheckpointBytes as B
 use Rattle.buffers.specs.Bytes.{word-at}
 use Rattle.buffers.specs.Checkpoints.{status-of, checkpoint-bytes, checkpoint-in, all-zero, is-checkpoint}

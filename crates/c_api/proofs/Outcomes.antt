@@ -24,12 +24,12 @@ use Rattle.instance.specs.declared.Instance.{Instance}
 use Rattle.instance.specs.declared.Packing.{Packing}
 use Rattle.packing.specs.Check.{check-answer, check-number}
 use Rattle.packing.specs.declared.CheckAnswer.{CheckAnswer}
-use Rattle.replay.proofs.Checkpoints.{value-short}
+use Rattle.search.proofs.Checkpoints.{value-short}
 use Rattle.search.proofs.Claim.{short, CallIs, invalid, not-following, searched, call-is}
-use Rattle.replay.proofs.Sound.{valid-sound}
-use Rattle.replay.specs.Checkpoints.{checkpoint-of, value-of}
+use Rattle.nodes.proofs.Sound.{valid-sound}
+use Rattle.search.specs.Checkpoints.{checkpoint-of, value-of}
 use Rattle.search.specs.Results as R
-use Rattle.search.specs.declared.SearchResult.{SearchResult}
+use Rattle.search.specs.declared.results.SearchResult.{SearchResult}
 use Rattle.buffers.specs.Bytes.{packing-in}
 use Rattle.buffers.specs.Checkpoints.{checkpoint-in, is-checkpoint}
 use Rattle.c_api.specs.Calls.{plan-fits, lengths-fit, checked-if, note-follows, instance-searched, PathFits}

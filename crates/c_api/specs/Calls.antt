@@ -13,11 +13,11 @@ use Rattle.instance.specs.declared.Instance.{Instance}
 use Rattle.packing.specs.Check.{check-answer, check-number}
 use Rattle.packing.specs.declared.CheckAnswer.{CheckAnswer}
 use Rattle.packing.specs.declared.CheckAnswer.the-variants as K
-use Rattle.replay.specs.Checkpoints.{checkpoint-of, following}
+use Rattle.search.specs.Checkpoints.{checkpoint-of, following}
 use Rattle.search.specs.Results as R
-use Rattle.search.specs.declared.Answer.{Answer}
-use Rattle.search.specs.declared.Answer.the-variants.{Packed, Infeasible, BudgetSpent, Refused}
-use Rattle.search.specs.declared.SearchResult.{SearchResult}
+use Rattle.search.specs.declared.results.Answer.{Answer}
+use Rattle.search.specs.declared.results.Answer.the-variants.{Packed, Infeasible, BudgetSpent, Refused}
+use Rattle.search.specs.declared.results.SearchResult.{SearchResult}
 use Rattle.buffers.specs.Bytes.{packing-bytes, packing-in, step-bytes}
 use Rattle.buffers.specs.Checkpoints.{checkpoint-bytes, checkpoint-in, is-checkpoint}
 use Rattle.sheet.specs.Sheet.{max-branches}

@@ -7,7 +7,7 @@ use Rattle.model.specs.Problem.{Problem}
 use Rattle.model.specs.Run.{look}
 use Rattle.model.specs.Search as S
 use Rattle.instance.specs.declared.Instance.{Instance}
-use Rattle.replay.specs.Checkpoints.{value-of}
+use Rattle.search.specs.Checkpoints.{value-of}
 use Rattle.buffers.specs.Checkpoints.{checkpoint-bytes}
 use Rattle.buffers.specs.Lengths.{note-length, steps-length, position-length}
 

@@ -16,8 +16,8 @@ use Rattle.packing.specs.declared.CheckAnswer.{CheckAnswer}
 use Rattle.packing.specs.declared.CheckAnswer.the-variants as Checking
 use Rattle.search.proofs.Claim.{refuses, handed-back}
 use Rattle.search.specs.Results.{answer-number, search-result}
-use Rattle.search.specs.declared.Answer.{Answer}
-use Rattle.search.specs.declared.Answer.the-variants as Searching
+use Rattle.search.specs.declared.results.Answer.{Answer}
+use Rattle.search.specs.declared.results.Answer.the-variants as Searching
 use Rattle.c_api.proofs.Faults.{search-refuses, untouched}
 use Rattle.c_api.proofs.Plans.{check-refuses}
 use Rattle.c_api.specs.Calls.{checked, check-code, search-call}

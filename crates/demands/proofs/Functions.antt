@@ -12,7 +12,7 @@ use Rattle.packing.proofs.check.Met as Check
 use Rattle.packing.proofs.clearance.Met as Clearance
 use Rattle.refusal.proofs.Refusal.number.Met as Number
 use Rattle.refusal.proofs.Refusal.place.Met as Place
-use Rattle.search.proofs.Answer.number.Met as AnswerNumber
+use Rattle.search.proofs.results.Answer.number.Met as AnswerNumber
 use Rattle.search.proofs.search.Met as Search
 use Rattle.demands.specs.Functions.{Functions}
 

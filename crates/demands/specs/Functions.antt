@@ -38,8 +38,8 @@ use Rattle.packing.proofs.clearance.Reads as Clearance
 use Rattle.packing.proofs.clearance.Statement as ClearanceRuns
 use Rattle.packing.specs.Check.{check-answer}
 use Rattle.packing.specs.Clearance.{clearance-answer}
-use Rattle.search.proofs.Answer.number.Reads as AnswerNumber
-use Rattle.search.proofs.Answer.number.Statement as AnswerNumberRuns
+use Rattle.search.proofs.results.Answer.number.Reads as AnswerNumber
+use Rattle.search.proofs.results.Answer.number.Statement as AnswerNumberRuns
 use Rattle.search.proofs.search.Reads as Search
 use Rattle.search.proofs.search.Statement as SearchRuns
 use Rattle.search.specs.Results.{answer-number, search-result}

@@ -1,7 +1,10 @@
-pub mod Branches
-pub mod Choices
-pub mod Layouts
-pub mod Openings
-pub mod Packings
-pub mod Removals
+pub mod BitLaws
+pub mod DomainBits
+pub mod Through
+pub mod Narrowed
+pub mod Mirror
 pub mod Rooms
+pub mod Single
+pub mod Items
+pub mod Each
+pub mod Rest

@@ -1,3 +1,5 @@
-pub mod Shape
-pub mod Choice
-pub mod Starts
+pub mod Access
+pub mod Bits
+pub mod Rows
+pub mod Queue
+pub mod Narrowed

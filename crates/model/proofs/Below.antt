@@ -181,6 +181,11 @@ stays false f = absurd (f refl)
 pub clash : {b : Bool} → b ≡ true → b ≡ false → ⊥
 clash p q = false≢true (sym q ∙ p)
 
+-- what implies a test that fails
+pub fails : {b c : Bool} → Implies b c → c ≡ false → b ≡ false
+fails {b = true} f e = absurd (clash (f refl) e)
+fails {b = false} f e = refl
+
 -- a test says no where what it tests does not hold
 pub not-so : {A : Type 0} (b : Bool) → (b ≡ true) ↔ A → (A → ⊥) → b ≡ false
 not-so true so h = absurd (h (so .0 refl))

@@ -48,11 +48,11 @@ fresh-unlisted had (x ∷ l) u f e = neither-or (go (eqb u x) refl) (fresh-unlis
     go true q = absurd (clash e (ap (λ (y : ℕ). listed y had) (eqb-true u x q) ∙ f .0))
     go false q = refl
 
-module _ (p : Problem) (a : ℕ) (linked : ℕ → ℕ → Bool) (on : ℕ → ℕ → ℕ → ℕ) (mono : (u v x y : ℕ) → x ≤ y → on u v x ≤ on u v y) where
-  first-item : {u : ℕ} {l : List ℕ} → Chain p linked (u ∷ l) → u < p .items
-  first-item (alone h) = h
-  first-item (link h b d c) = h
+pub first-item : {p : Problem} {linked : ℕ → ℕ → Bool} {u : ℕ} {l : List ℕ} → Chain p linked (u ∷ l) → u < p .items
+first-item (alone h) = h
+first-item (link h b d c) = h
 
+module _ (p : Problem) (a : ℕ) (linked : ℕ → ℕ → Bool) (on : ℕ → ℕ → ℕ → ℕ) (mono : (u v x y : ℕ) → x ≤ y → on u v x ≤ on u v y) where
   first-once : {u : ℕ} {l : List ℕ} → Chain p linked (u ∷ l) → listed u l ≡ false
   first-once (alone h) = refl
   first-once (link h b d c) = d

@@ -1,5 +1,5 @@
 -- What it says that domains are inconsistent or not; where they are not, and rule 2 has been applied, "before" is a strict order.
-use mathlib.Core.Bool.{Bool, true, false, not, _||_, false≢true}
+use mathlib.Core.Bool.{Bool, true, false, not, _||_}
 use mathlib.Core.Logic.{_⊎_, inl, inr, _≢_}
 use mathlib.Core.Path.{_≡_, refl, sym, _∙_, ap, subst}
 use Prim.Native.Nat.{ℕ, _≤_, _<_}
@@ -11,10 +11,12 @@ use Rattle.model.specs.Problem.{Problem}
 use Rattle.model.specs.Domains.{Domains, may-overlap, may-before, fixed-before}
 use Rattle.model.specs.Branching.{empty, inconsistent}
 use Rattle.model.specs.Order.{Proper, Rising}
-use Rattle.model.specs.Obeys.{Composes}
+use Rattle.model.specs.Relations.{gone}
+use Rattle.model.specs.Claims.{says}
+use Rattle.model.specs.Clauses.{d2, Obeyed}
 use Rattle.model.proofs.Below.{and-intro, or-case, or-left, or-right, or-neither, some-at, some-of, none-at, clash}
 use Rattle.model.proofs.Slots.{lt-or-gt}
-use Rattle.model.proofs.Domains.{may-overlap-sym, fixed-before-says, fixed-before-of, fixed-distinct}
+use Rattle.model.proofs.Domains.{may-overlap-sym, fixed-before-says, fixed-distinct}
 
 module _ (p : Problem) (k : Domains) (consistent : inconsistent p k ≡ false) where
   fits-or : (a v : ℕ) → a < 3 → v < p .items → (ltb (p .capacity a) (p .size a v) ≡ false) × (some-below v (λ u. empty k a u v) ≡ false)
@@ -28,18 +30,20 @@ module _ (p : Problem) (k : Domains) (consistent : inconsistent p k ≡ false) w
   pub size-fits : (a v : ℕ) → a < 3 → v < p .items → p .size a v ≤ p .capacity a
   size-fits a v ha hv = ltb-false _ _ (fits-or a v ha hv .0)
 
-  not-empty : (a u v : ℕ) → a < 3 → u < v → v < p .items → may-overlap k a u v ≡ false → may-before k a u v ≡ false → may-before k a v u ≡ false → ⊥
-  unfolding empty
-  not-empty a u v ha h hv l f g =
-      false≢true (sym (none-at v (λ x. empty k a x v) (fits-or a v ha hv .1) u h) ∙ and-intro (ap not l) (and-intro (ap not f) (ap not g)))
-
   -- each pair has a relation left on each axis
+  pub pair-left : (a u v : ℕ) → Rising (p .items) a u v → empty k a u v ≡ false
+  pair-left a u v r = none-at v (λ x. empty k a x v) (fits-or a v (r .axis) (r .item) .1) u (r .rising)
+
+  not-empty : (a u v : ℕ) → Rising (p .items) a u v → may-overlap k a u v ≡ false → may-before k a u v ≡ false → may-before k a v u ≡ false → ⊥
+  unfolding empty
+  not-empty a u v r l f g = clash (and-intro (ap not l) (and-intro (ap not f) (ap not g))) (pair-left a u v r)
+
   pub relation-left : (a u v : ℕ) → Proper (p .items) a u v → may-overlap k a u v ≡ false → may-before k a u v ≡ false → may-before k a v u ≡ false → ⊥
   relation-left a u v w l f g = go (lt-or-gt u v (w .distinct))
     where
       go : (u < v) ⊎ (v < u) → ⊥
-      go (inl h) = not-empty a u v (w .axis) h (w .item-v) l f g
-      go (inr h) = not-empty a v u (w .axis) h (w .item-u) (may-overlap-sym k a u v ∙ l) g f
+      go (inl h) = not-empty a u v (omega arith) l f g
+      go (inr h) = not-empty a v u (omega arith) (may-overlap-sym k a u v ∙ l) g f
 
 -- Where rule 2 leaves nothing to remove, "before" is a strict order
 module _ (p : Problem) (k : Domains) (consistent : inconsistent p k ≡ false) (a : ℕ) (ha : a < 3) where
@@ -55,12 +59,13 @@ module _ (p : Problem) (k : Domains) (consistent : inconsistent p k ≡ false) (
       let q = fixed-before-says k a u v b in
       relation-left p k consistent a u v (on hu hv (fixed-distinct k a u v b)) (q .0) m (q .1)
 
-  pub before-transitive : Composes p k → (x v u : ℕ) → x < p .items → v < p .items → u < p .items
+  pub before-transitive : Obeyed (p .items) k → (x v u : ℕ) → x < p .items → v < p .items → u < p .items
       → fixed-before k a x v ≡ true → fixed-before k a v u ≡ true → fixed-before k a x u ≡ true
-  before-transitive composes x v u hx hv hu f g =
+  unfolding says gone fixed-before
+  before-transitive obeyed x v u hx hv hu f g =
       let apart : x ≢ u = λ q. before-left x v hx hv f (fixed-before-says k a v x (subst (λ (y : ℕ). fixed-before k a v y ≡ true) (sym q) g) .1) in
-      let r = composes a x v u (record { uv = on hx hv (fixed-distinct k a x v f); vw = on hv hu (fixed-distinct k a v u g); uw = on hx hu apart }) f g in
-      fixed-before-of k a x u (r .0) (r .1)
+      let (n, m) : (x ≢ v) × (v ≢ u) = (fixed-distinct k a x v f, fixed-distinct k a v u g) in
+      obeyed _ _ (d2 2 a x v u (omega arith) (omega arith)) (f, (g, tt))
 
 -- What makes domains inconsistent, and what keeps them from it
 module _ (p : Problem) (k : Domains) where

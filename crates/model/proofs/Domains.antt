@@ -1,20 +1,16 @@
--- The accessors: what they read after a removal, of the same relation and of another; domains that read alike are equal.
-use mathlib.Core.Bool.{Bool, true, false, not, and-comm, false≢true}
-use mathlib.Core.List.{[], _∷_}
-use mathlib.Core.Logic.{_⊎_, inl, inr, _≢_}
-use mathlib.Core.Path.{_≡_, refl, sym, _∙_, ap, subst}
-use Prim.Native.Nat.{ℕ, zero, suc, _<_, min, max, compare, Ordering, Ordering·lt, Ordering·eq, Ordering·gt, compare·zero-suc, compare·suc-zero, compare·suc-suc}
-use native.Mathlib.Decide.{decLt, ℕ-discrete}
+-- The accessors: where the relations of two items stand, in either order, and what "fixed" says of them.
+use mathlib.Core.Bool.{true, false, not, and-comm}
+use mathlib.Core.Logic.{_≢_}
+use mathlib.Core.Path.{_≡_, refl, sym, _∙_, ap}
+use Prim.Native.Nat.{ℕ, zero, suc, _<_, min, compare, Ordering, Ordering·lt, Ordering·eq, Ordering·gt, compare·zero-suc, compare·suc-zero, compare·suc-suc}
 use native.Mathlib.Omega.{arith}
-use lib.Dec.{eqb, isEq}
-use lib.ListN.{getD, length, set}
-use lib.Seq.{getD-set-same, getD-set-other}
-use borrow.Author.Tests.{eqb-true, eqb-false, not-true}
-use Rattle.model.specs.Domains.{Domains, overlap-bit, before-bit, after-bit, index, index-of, has-overlap, has-before, without-overlap, without-before, may-overlap, may-before, remove-overlap, remove-before, fixed-before, fixed-overlap}
-use Rattle.model.specs.Order.{Proper, Rising, WellFormed, Subdomain, _⊑_}
-use Rattle.model.proofs.Below.{Implies, and-intro, and-both, clash}
-use Rattle.model.proofs.Order.{overlap-bit-of, before-bit-of, after-bit-of, sub-zero, below-eq}
-use Rattle.model.proofs.Slots.{proper-sym, proper-up, index-sym, index-up, index-of-same, index-of-small, slot-indexed}
+use lib.Dec.{isEq}
+use lib.ListN.{getD}
+use borrow.Author.Tests.{eqb-true, not-true}
+use Rattle.model.specs.Domains.{Domains, overlap-bit, before-bit, after-bit, index, bit, converse, place, left, struck, may-overlap, may-before, remove-overlap, remove-before}
+use Rattle.model.specs.Domains.{gone, without, fixed-before, fixed-overlap}
+use Rattle.model.proofs.Below.{and-intro, and-both, clash}
+use Rattle.model.proofs.Slots.{index-sym, index-up}
 
 -- How two items compare, and the other way round
 abbrev opposite : Ordering → Ordering
@@ -44,152 +40,71 @@ compare-lt (suc u) (suc v) h = compare·suc-suc u v ∙ compare-lt u v (omega ar
 pub compare-gt : (u v : ℕ) → u < v → compare v u ≡ Ordering·gt
 compare-gt u v h = compare-opposite u v ∙ ap opposite (compare-lt u v h)
 
--- One domain without a relation: the relation is gone and the others stay
-overlap-without-before : (o q : Ordering) (m : ℕ) → has-overlap o (without-before q m) ≡ has-overlap o m
-overlap-without-before Ordering·lt Ordering·lt m = overlap-bit-of _ _ _
-overlap-without-before Ordering·lt Ordering·eq m = refl
-overlap-without-before Ordering·lt Ordering·gt m = overlap-bit-of _ _ _
-overlap-without-before Ordering·eq q m = refl
-overlap-without-before Ordering·gt Ordering·lt m = overlap-bit-of _ _ _
-overlap-without-before Ordering·gt Ordering·eq m = refl
-overlap-without-before Ordering·gt Ordering·gt m = overlap-bit-of _ _ _
+-- The numbers of relations, and their bits
+pub converse-small : (x : ℕ) → converse x < 3
+converse-small zero = omega arith
+converse-small (suc zero) = omega arith
+converse-small (suc (suc x)) = omega arith
 
-before-without-overlap : (o q : Ordering) (m : ℕ) → has-before o (without-overlap q m) ≡ has-before o m
-before-without-overlap Ordering·lt Ordering·lt m = before-bit-of _ _ _
-before-without-overlap Ordering·lt Ordering·eq m = refl
-before-without-overlap Ordering·lt Ordering·gt m = before-bit-of _ _ _
-before-without-overlap Ordering·eq q m = refl
-before-without-overlap Ordering·gt Ordering·lt m = after-bit-of _ _ _
-before-without-overlap Ordering·gt Ordering·eq m = refl
-before-without-overlap Ordering·gt Ordering·gt m = after-bit-of _ _ _
+converse-twice : (x : ℕ) → converse (converse x) ≡ min x 2
+converse-twice zero = refl
+converse-twice (suc zero) = refl
+converse-twice (suc (suc x)) = omega arith
 
-before-without-before : (o : Ordering) (m : ℕ) → o ≢ Ordering·eq → has-before o (without-before o m) ≡ false
-before-without-before Ordering·lt m h = before-bit-of _ _ _
-before-without-before Ordering·eq m h = absurd (h refl)
-before-without-before Ordering·gt m h = after-bit-of _ _ _
+place-opposite : (o : Ordering) (x : ℕ) → place (opposite o) (converse x) ≡ place o x
+place-opposite Ordering·lt x = converse-twice x
+place-opposite Ordering·eq x = refl
+place-opposite Ordering·gt x = omega (arith, converse-small x)
 
-overlap-without-overlap : (o : Ordering) (m : ℕ) → o ≢ Ordering·eq → has-overlap o (without-overlap o m) ≡ false
-overlap-without-overlap Ordering·lt m h = overlap-bit-of _ _ _
-overlap-without-overlap Ordering·eq m h = absurd (h refl)
-overlap-without-overlap Ordering·gt m h = overlap-bit-of _ _ _
+pub place-small : {u v : ℕ} → u ≢ v → (x : ℕ) → place (compare u v) x < 3
+place-small {u} {v} h x = go (compare u v) (compare-ne u v h)
+  where
+    go : (o : Ordering) → o ≢ Ordering·eq → place o x < 3
+    go Ordering·lt n = omega arith
+    go Ordering·eq n = absurd (n refl)
+    go Ordering·gt n = converse-small x
 
-opposite-without-before : (o : Ordering) (m : ℕ) → has-before (opposite o) (without-before o m) ≡ has-before (opposite o) m
-opposite-without-before Ordering·lt m = after-bit-of _ _ _
-opposite-without-before Ordering·eq m = refl
-opposite-without-before Ordering·gt m = before-bit-of _ _ _
+pub place-same : {u v : ℕ} → u ≢ v → {x y : ℕ} → x < 3 → y < 3 → place (compare u v) x ≡ place (compare u v) y → x ≡ y
+place-same {u} {v} h {x} {y} hx hy = go (compare u v) (compare-ne u v h)
+  where
+    go : (o : Ordering) → o ≢ Ordering·eq → place o x ≡ place o y → x ≡ y
+    go Ordering·lt n e = omega arith
+    go Ordering·eq n e = absurd (n refl)
+    go Ordering·gt n e = omega (arith, converse-twice x, converse-twice y, ap converse e)
 
-overlap-opposite : (o : Ordering) (m : ℕ) → has-overlap (opposite o) m ≡ has-overlap o m
-overlap-opposite Ordering·lt m = refl
-overlap-opposite Ordering·eq m = refl
-overlap-opposite Ordering·gt m = refl
+-- The relation x of u and v is its converse of v and u
+module _ (k : Domains) (x a u v : ℕ) where
+  pub place-converse : place (compare v u) (converse x) ≡ place (compare u v) x
+  place-converse = ap (λ (o : Ordering). place o (converse x)) (compare-opposite u v) ∙ place-opposite (compare u v) x
 
--- what stays of one domain stays of all
-read-set : (r : ℕ → Bool) (g : ℕ → ℕ) → ((m : ℕ) → r (g m) ≡ r m) → (k : Domains) (i j : ℕ)
-    → r (getD (set k i (g (getD k i 0))) j 0) ≡ r (getD k j 0)
-read-set r g h [] i j = refl
-read-set r g h (x ∷ k) zero zero = h x
-read-set r g h (x ∷ k) zero (suc j) = refl
-read-set r g h (x ∷ k) (suc i) zero = refl
-read-set r g h (x ∷ k) (suc i) (suc j) = read-set r g h k i j
+  pub left-converse : left k (converse x) a v u ≡ left k x a u v
+  left-converse = rw (place-converse, index-sym a v u) refl
 
--- Of an item and itself nothing is removed; overlap has no direction
-pub may-before-self : (k : Domains) (a u : ℕ) → may-before k a u u ≡ true
-unfolding may-before
-may-before-self k a u = ap (λ (o : Ordering). has-before o (getD k (index-of a u u) 0)) (compare-self u)
+  struck-converse : struck k (converse x) a v u ≡ struck k x a u v
+  struck-converse = rw (place-converse, index-sym a v u) refl
 
-pub may-overlap-self : (k : Domains) (a u : ℕ) → may-overlap k a u u ≡ true
-unfolding may-overlap
-may-overlap-self k a u = ap (λ (o : Ordering). has-overlap o (getD k (index-of a u u) 0)) (compare-self u)
+pub gone-is : (k : Domains) (x a u v : ℕ) → gone k x a u v ≡ not (left k x a u v)
+unfolding gone may-overlap may-before
+gone-is k zero a u v = refl
+gone-is k (suc zero) a u v = refl
+gone-is k (suc (suc x)) a u v = ap not (left-converse k (suc (suc x)) a u v)
+
+pub without-is : (k : Domains) (x a u v : ℕ) → without k x a u v ≡ struck k x a u v
+unfolding without remove-overlap remove-before
+without-is k zero a u v = refl
+without-is k (suc zero) a u v = refl
+without-is k (suc (suc x)) a u v = struck-converse k (suc (suc x)) a u v
 
 pub may-overlap-sym : (k : Domains) (a u v : ℕ) → may-overlap k a v u ≡ may-overlap k a u v
 unfolding may-overlap
-may-overlap-sym k a u v = rw (compare-opposite u v, index-sym a v u) (overlap-opposite (compare u v) _)
+may-overlap-sym k a u v = left-converse k 0 a u v
 
--- Removing one kind of relation leaves the other kind
-pub overlap-after-before : (k : Domains) (a u v b x y : ℕ) → may-overlap (remove-before k a u v) b x y ≡ may-overlap k b x y
-unfolding may-overlap remove-before
-overlap-after-before k a u v b x y =
-    read-set (has-overlap (compare x y)) (without-before (compare u v)) (overlap-without-before (compare x y) (compare u v)) k (index-of a u v) (index-of b x y)
+-- Of an item and itself nothing is removed
+pub gone-self : (k : Domains) (x a u : ℕ) → gone k x a u u ≡ false
+gone-self k x a u = rw (gone-is k x a u u, compare-self u) refl
 
-pub before-after-overlap : (k : Domains) (a u v b x y : ℕ) → may-before (remove-overlap k a u v) b x y ≡ may-before k b x y
-unfolding may-before remove-overlap
-before-after-overlap k a u v b x y =
-    read-set (has-before (compare x y)) (without-overlap (compare u v)) (before-without-overlap (compare x y) (compare u v)) k (index-of a u v) (index-of b x y)
-
-module _ (k : Domains) (long : length k ≡ 135) where
-  -- what is removed is gone
-  pub before-removed : {a u v : ℕ} → Proper 10 a u v → may-before (remove-before k a u v) a u v ≡ false
-  unfolding may-before remove-before
-  before-removed {a} {u} {v} w =
-      rw (getD-set-same k (index-of a u v) _ 0 (rw long (index-of-small w))) (before-without-before (compare u v) _ (compare-ne u v (w .distinct)))
-
-  pub overlap-removed : {a u v : ℕ} → Proper 10 a u v → may-overlap (remove-overlap k a u v) a u v ≡ false
-  unfolding may-overlap remove-overlap
-  overlap-removed {a} {u} {v} w =
-      rw (getD-set-same k (index-of a u v) _ 0 (rw long (index-of-small w))) (overlap-without-overlap (compare u v) _ (compare-ne u v (w .distinct)))
-
-  -- every other relation stays
-  before-elsewhere : (a u v b x y : ℕ) → index-of b x y ≢ index-of a u v → may-before (remove-before k a u v) b x y ≡ may-before k b x y
-  unfolding may-before remove-before
-  before-elsewhere a u v b x y h = ap (has-before (compare x y)) (getD-set-other k (index-of a u v) (index-of b x y) _ 0 h)
-
-  before-opposite : (a u v : ℕ) → may-before (remove-before k a u v) a v u ≡ may-before k a v u
-  unfolding may-before remove-before
-  before-opposite a u v =
-      rw (compare-opposite u v, index-sym a v u)
-      (read-set (has-before (opposite (compare u v))) (without-before (compare u v)) (opposite-without-before (compare u v)) k (index-of a u v) (index-of a u v))
-
-  pub before-other : {a u v b x y : ℕ} → Proper 10 a u v → Proper 10 b x y → (a ≡ b → u ≡ x → v ≡ y → ⊥)
-      → may-before (remove-before k a u v) b x y ≡ may-before k b x y
-  before-other {a} {u} {v} {b} {x} {y} w z h = go (eqb (index-of b x y) (index-of a u v)) refl
-    where
-      over : (a ≡ b) × (u ≡ y) × (v ≡ x) → may-before (remove-before k a u v) b x y ≡ may-before k b x y
-      over e = rw (← e .0, ← e .1, ← e .2) (before-opposite a u v)
-
-      go : (t : Bool) → eqb (index-of b x y) (index-of a u v) ≡ t → may-before (remove-before k a u v) b x y ≡ may-before k b x y
-      go true e =
-          let q = index-of-same w z (sym (eqb-true _ _ e)) in
-          let ne : u ≢ x = λ d. h (q .0) d (omega (arith, q .1, q .2)) in
-          over (q .0, omega (arith, q .1, q .2), omega (arith, q .1, q .2))
-      go false e = before-elsewhere a u v b x y (eqb-false _ _ e)
-
-  pub overlap-other : {a u v b x y : ℕ} → Proper 10 a u v → Proper 10 b x y → (a ≡ b → min u v ≡ min x y → max u v ≡ max x y → ⊥)
-      → may-overlap (remove-overlap k a u v) b x y ≡ may-overlap k b x y
-  unfolding may-overlap remove-overlap
-  overlap-other {a} {u} {v} {b} {x} {y} w z h =
-      ap (has-overlap (compare x y))
-      (getD-set-other k (index-of a u v) (index-of b x y) _ 0 (λ e. let q = index-of-same w z (sym e) in h (q .0) (q .1) (q .2)))
-
-  -- so what was left and is gone is what was removed
-  pub before-lost : {a u v b x y : ℕ} → Proper 10 a u v → Proper 10 b x y → may-before k b x y ≡ true → may-before (remove-before k a u v) b x y ≡ false
-      → (a ≡ b) × (u ≡ x) × (v ≡ y)
-  before-lost {a} {u} {v} {b} {x} {y} w z e f = go (ℕ-discrete a b) (ℕ-discrete u x) (ℕ-discrete v y)
-    where
-      stayed : (a ≡ b → u ≡ x → v ≡ y → ⊥) → ⊥
-      stayed h = clash e (sym (before-other w z h) ∙ f)
-
-      go : Dec (a ≡ b) → Dec (u ≡ x) → Dec (v ≡ y) → (a ≡ b) × (u ≡ x) × (v ≡ y)
-      go (yes p) (yes q) (yes r) = (p, q, r)
-      go (yes p) (yes q) (no r) = absurd (stayed (λ _ _ h. r h))
-      go (yes p) (no q) _ = absurd (stayed (λ _ h _. q h))
-      go (no p) _ _ = absurd (stayed (λ h _ _. p h))
-
-  pub overlap-lost : {a u v b x y : ℕ} → Proper 10 a u v → Proper 10 b x y → may-overlap k b x y ≡ true → may-overlap (remove-overlap k a u v) b x y ≡ false
-      → (a ≡ b) × (((u ≡ x) × (v ≡ y)) ⊎ ((u ≡ y) × (v ≡ x)))
-  overlap-lost {a} {u} {v} {b} {x} {y} w z e f = go (ℕ-discrete a b) (ℕ-discrete (min u v) (min x y)) (ℕ-discrete (max u v) (max x y))
-    where
-      stayed : (a ≡ b → min u v ≡ min x y → max u v ≡ max x y → ⊥) → ⊥
-      stayed h = clash e (sym (overlap-other w z h) ∙ f)
-
-      either : min u v ≡ min x y → max u v ≡ max x y → Dec (u ≡ x) → ((u ≡ x) × (v ≡ y)) ⊎ ((u ≡ y) × (v ≡ x))
-      either q r (yes d) = inl (d, omega arith)
-      either q r (no d) = inr (omega arith, omega arith)
-
-      go : Dec (a ≡ b) → Dec (min u v ≡ min x y) → Dec (max u v ≡ max x y) → (a ≡ b) × (((u ≡ x) × (v ≡ y)) ⊎ ((u ≡ y) × (v ≡ x)))
-      go (yes p) (yes q) (yes r) = (p, either q r (ℕ-discrete u x))
-      go (yes p) (yes q) (no r) = absurd (stayed (λ _ _ h. r h))
-      go (yes p) (no q) _ = absurd (stayed (λ _ h _. q h))
-      go (no p) _ _ = absurd (stayed (λ h _ _. p h))
+pub gone-distinct : (k : Domains) (x a u v : ℕ) → gone k x a u v ≡ true → u ≢ v
+gone-distinct k x a u v e q = clash e (ap (gone k x a u) (sym q) ∙ gone-self k x a u)
 
 -- What "fixed" says, and what says it
 pub fixed-before-says : (k : Domains) (a u v : ℕ) → fixed-before k a u v ≡ true → (may-overlap k a u v ≡ false) × (may-before k a v u ≡ false)
@@ -214,63 +129,29 @@ fixed-overlap-sym k a u v = and-comm (not (may-before k a v u)) (not (may-before
 
 -- A relation that is removed is of two distinct items
 pub before-distinct : (k : Domains) (a u v : ℕ) → may-before k a u v ≡ false → u ≢ v
-before-distinct k a u v e q = false≢true (sym e ∙ (ap (may-before k a u) (sym q) ∙ may-before-self k a u))
+unfolding gone
+before-distinct k a u v e = gone-distinct k 1 a u v (ap not e)
 
 pub overlap-distinct : (k : Domains) (a u v : ℕ) → may-overlap k a u v ≡ false → u ≢ v
-overlap-distinct k a u v e q = false≢true (sym e ∙ (ap (may-overlap k a u) (sym q) ∙ may-overlap-self k a u))
+unfolding gone
+overlap-distinct k a u v e = gone-distinct k 0 a u v (ap not e)
 
 pub fixed-distinct : (k : Domains) (a u v : ℕ) → fixed-before k a u v ≡ true → u ≢ v
 fixed-distinct k a u v e = overlap-distinct k a u v (fixed-before-says k a u v e .0)
 
--- The accessors at a pair in its order, and the other way round
+-- The accessor at a pair in its order: by number, and by name in both directions
+pub left-up : (k : Domains) (x a : ℕ) {u v : ℕ} → u < v → left k x a u v ≡ bit (min x 2) (getD k (index a u v) 0)
+left-up k x a {u} {v} h = rw (compare-lt u v h, index-up a h) refl
+
 module _ (k : Domains) (a : ℕ) {u v : ℕ} (h : u < v) where
+  pub overlap-up : may-overlap k a u v ≡ overlap-bit (getD k (index a u v) 0)
+  unfolding may-overlap
+  overlap-up = left-up k 0 a h
+
   pub before-up : may-before k a u v ≡ before-bit (getD k (index a u v) 0)
   unfolding may-before
-  before-up = rw (compare-lt u v h, index-up a h) refl
+  before-up = left-up k 1 a h
 
   pub before-down : may-before k a v u ≡ after-bit (getD k (index a u v) 0)
   unfolding may-before
-  before-down = rw (compare-opposite u v, compare-lt u v h, index-sym a v u, index-up a h) refl
-
-  pub overlap-up : may-overlap k a u v ≡ overlap-bit (getD k (index a u v) 0)
-  unfolding may-overlap
-  overlap-up = rw (compare-lt u v h, index-up a h) refl
-
--- Domains are ordered, and equal, by what the accessors read
-pub below-of : (k j : Domains) → length k ≡ 135
-    → ((a u v : ℕ) → Proper 10 a u v → Implies (may-before k a u v) (may-before j a u v))
-    → ((a u v : ℕ) → Proper 10 a u v → Implies (may-overlap k a u v) (may-overlap j a u v)) → k ⊑ j
-below-of k j long f g i = go (lt-or-ge i)
-  where
-    past : (l : Domains) (i : ℕ) → (i < length l → ⊥) → getD l i 0 ≡ 0
-    past [] i h = refl
-    past (m ∷ l) zero h = absurd (h (omega arith))
-    past (m ∷ l) (suc i) h = past l i (λ q. h (omega arith))
-
-    lt-or-ge : (i : ℕ) → (i < 135) ⊎ (i < 135 → ⊥)
-    lt-or-ge i = dec (decLt i 135)
-      where
-        dec : Dec (i < 135) → (i < 135) ⊎ (i < 135 → ⊥)
-        dec (yes l) = inl l
-        dec (no l) = inr l
-
-    at : (a u v : ℕ) → Rising 10 a u v → Subdomain (getD k (index a u v) 0) (getD j (index a u v) 0)
-    at a u v w =
-        let h = w .rising in
-        record {
-          overlap-in = λ e. sym (overlap-up j a h) ∙ g a u v (proper-up w) (overlap-up k a h ∙ e);
-          before-in = λ e. sym (before-up j a h) ∙ f a u v (proper-up w) (before-up k a h ∙ e);
-          after-in = λ e. sym (before-down j a h) ∙ f a v u (proper-sym (proper-up w)) (before-down k a h ∙ e);
-        }
-
-    go : (i < 135) ⊎ (i < 135 → ⊥) → Subdomain (getD k i 0) (getD j i 0)
-    go (inl h) = let s = slot-indexed i h in subst (λ x. Subdomain (getD k x 0) (getD j x 0)) (s .1) (at _ _ _ (s .0))
-    go (inr h) = rw (past k i (λ q. h (rw (← long) q))) (sub-zero _)
-
-pub domains-eq : (k j : Domains) → WellFormed k → WellFormed j
-    → ((a u v : ℕ) → Proper 10 a u v → may-before k a u v ≡ may-before j a u v)
-    → ((a u v : ℕ) → Proper 10 a u v → may-overlap k a u v ≡ may-overlap j a u v) → k ≡ j
-domains-eq k j wk wj f g =
-    below-eq k j wk wj
-    (below-of k j (wk .long) (λ a u v w e. sym (f a u v w) ∙ e) (λ a u v w e. sym (g a u v w) ∙ e))
-    (below-of j k (wj .long) (λ a u v w e. f a u v w ∙ e) (λ a u v w e. g a u v w ∙ e))
+  before-down = left-converse k 2 a u v ∙ left-up k 2 a h

@@ -1,12 +1,12 @@
 -- The test of a packing passes exactly when the packing is feasible.
 use mathlib.Core.Bool.{Bool, true, false, _&&_, _||_}
-use mathlib.Core.List.{List, List·Memᴰ}
+use mathlib.Core.List.{List·Memᴰ}
 use mathlib.Core.Logic.{_⊎_, inl, inr, _≢_, _↔_}
 use mathlib.Core.Path.{_≡_, refl}
 use Prim.Native.Nat.{ℕ, _+_, _≤_, _<_}
 use lib.Dec.{leb, eqb}
 use borrow.Author.Tests.{leb-true, le-leb, eqb-true, eqb-false}
-use Rattle.model.specs.Below.{some-below, all-below, all-in}
+use Rattle.model.specs.Below.{all-below}
 use Rattle.model.specs.Problem.{Problem, Precedence, Positions, EndsBefore, ends-before, Feasible, feasible, inside-test, apart-test, ordered-test, apart-on-some-axis, time}
 use Rattle.model.proofs.Below.{and-intro, and-both, or-left, or-right, or-case, all-at, all-of, some-at, some-of, in-at, in-of}
 

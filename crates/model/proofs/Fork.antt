@@ -10,23 +10,25 @@ use lib.ListN.{getD}
 use borrow.Author.Tests.{not-true}
 use Rattle.model.specs.Below.{some-below, all-below}
 use Rattle.model.specs.Problem.{Problem, Positions, EndsBefore}
-use Rattle.model.specs.Domains.{Domains, Pair, pairs, pair-number, may-overlap, may-before, fixed-before, fixed-overlap}
+use Rattle.model.specs.Domains.{Domains, Pair, pairs, pair-number, may-overlap, may-before, without, fixed-before, fixed-overlap}
 use Rattle.model.specs.Rules.{rule1, rule2, asks-overlap}
 use Rattle.model.specs.Branching.{inconsistent, separated, packed, undecided, choice-pair, choice-axis, choice, Branch, first, second, branch-at, branched}
 use Rattle.model.specs.Order.{Proper, WellFormed, _⊑_, AtRest, Fork}
 use Rattle.model.specs.Admits.{Sound, Overlaps, Admits}
 use Rattle.model.proofs.Below.{all-not, all-of, some-at, none-at, or-left, or-right, or-neither, First, first-is, first-exists, clash}
+use Rattle.model.proofs.Asks.{not-overlap}
 use Rattle.model.proofs.Slots.{no-pair, pair-of, pairs-count, pair-number-small, pair-at-number, pairs-rise, pairs-sorted, proper-sym, proper-up}
 use Rattle.model.proofs.Domains.{may-overlap-sym, fixed-before-of, fixed-overlap-of, fixed-overlap-says}
-use Rattle.model.proofs.Removal.{remove-before-less, remove-overlap-less, fix-overlap-less, remove-before-well-formed, remove-overlap-well-formed, fix-overlap-well-formed}
+use Rattle.model.proofs.Without.{without-less, without-well-formed}
+use Rattle.model.proofs.Removal.{fix-overlap-less, fix-overlap-well-formed}
 use Rattle.model.proofs.Ends.{ends?}
 use Rattle.model.proofs.Consistent.{relation-left}
-use Rattle.model.proofs.Admits.{not-both, remove-before-admits, remove-overlap-admits, fix-overlap-admits}
+use Rattle.model.proofs.Admits.{not-both, without-admits, fix-overlap-admits}
 
-abbrev axes : List ℕ
+abbrev pub axes : List ℕ
 axes = 0 ∷ 1 ∷ 2 ∷ []
 
-axis-at : (a : ℕ) → a < 3 → getD axes a 0 ≡ a
+pub axis-at : (a : ℕ) → a < 3 → getD axes a 0 ≡ a
 axis-at zero h = refl
 axis-at (suc zero) h = refl
 axis-at (suc (suc zero)) h = refl
@@ -88,7 +90,7 @@ module _ (p : Problem) (k : Domains) (rest : AtRest p k) (consistent : inconsist
         let s = proper 0 (omega arith) in
         let f = fixed-overlap-says k 0 u v (fixed 0 (omega arith)) in
         relation-left p k consistent 0 u v s
-        (rest .no-overlap 0 u v s
+        (not-overlap rest 0 u v s
         (or-left (rule2 p k 0 u v || rule2 p k 0 v u)
         (all-of 3 (λ b. eqb b 0 || fixed-overlap k b u v) (λ b hb. or-right (eqb b 0) (fixed b hb)))))
         (f .0) (f .1)
@@ -139,16 +141,18 @@ module _ (p : Problem) (k : Domains) (rest : AtRest p k) (consistent : inconsist
 
 -- A branch only removes
 branch-less : (o : Bool) (b : Branch) (k : Domains) (a u v : ℕ) → branch-at o b k a u v ⊑ k
-branch-less true first k a u v = remove-overlap-less k a u v
+unfolding without
+branch-less true first k a u v = without-less k 0 a u v
 branch-less true second k a u v = fix-overlap-less k a u v
-branch-less false first k a u v = remove-before-less k a v u
-branch-less false second k a u v = remove-before-less k a u v
+branch-less false first k a u v = without-less k 1 a v u
+branch-less false second k a u v = without-less k 1 a u v
 
 branch-well-formed : (o : Bool) (b : Branch) (k : Domains) (a u v : ℕ) → WellFormed k → WellFormed (branch-at o b k a u v)
-branch-well-formed true first k a u v w = remove-overlap-well-formed k a u v w
-branch-well-formed true second k a u v w = fix-overlap-well-formed k a u v w
-branch-well-formed false first k a u v w = remove-before-well-formed k a v u w
-branch-well-formed false second k a u v w = remove-before-well-formed k a u v w
+unfolding without
+branch-well-formed true first k a u v = without-well-formed k 0 a u v
+branch-well-formed true second k a u v = fix-overlap-well-formed k a u v
+branch-well-formed false first k a u v = without-well-formed k 1 a v u
+branch-well-formed false second k a u v = without-well-formed k 1 a u v
 
 pub branched-less : (k : Domains) (b : Branch) → branched k b ⊑ k
 unfolding branched
@@ -161,15 +165,15 @@ branched-well-formed k b w = let c = choice k in branch-well-formed (may-overlap
 -- What is admitted is admitted by one of the two
 module _ (p : Problem) (sound : Sound p) (q : Positions) (k : Domains) (w : WellFormed k) (admits : Admits p k q) where
   branch-split : (o : Bool) (a u v : ℕ) → Proper (p .items) a u v → Admits p (branch-at o first k a u v) q ⊎ Admits p (branch-at o second k a u v) q
-  unfolding Overlaps
+  unfolding Overlaps without
   branch-split o a u v s = go o (ends? p q a u v) (ends? p q a v u)
     where
       go : (o : Bool) → Dec (EndsBefore p q a u v) → Dec (EndsBefore p q a v u) → Admits p (branch-at o first k a u v) q ⊎ Admits p (branch-at o second k a u v) q
-      go true (yes b) d = inl (remove-overlap-admits p sound q k w admits s (λ h. h .0 b))
-      go true (no f) (yes b) = inl (remove-overlap-admits p sound q k w admits s (λ h. h .1 b))
+      go true (yes b) d = inl (without-admits p sound q k w admits 0 (omega arith) s (λ h. h .0 b))
+      go true (no f) (yes b) = inl (without-admits p sound q k w admits 0 (omega arith) s (λ h. h .1 b))
       go true (no f) (no g) = inr (fix-overlap-admits p sound q k w admits s (f, g))
-      go false (yes b) d = inl (remove-before-admits p sound q k w admits (proper-sym s) (not-both p sound q k w admits s b))
-      go false (no f) d = inr (remove-before-admits p sound q k w admits s f)
+      go false (yes b) d = inl (without-admits p sound q k w admits 1 (omega arith) (proper-sym s) (not-both p sound q s b))
+      go false (no f) d = inr (without-admits p sound q k w admits 1 (omega arith) s f)
 
   pub fork-split : Fork p k (choice k) → Admits p (branched k first) q ⊎ Admits p (branched k second) q
   unfolding branched

@@ -1,36 +1,34 @@
 -- The fewer relations are left, the more is fixed and the more the rules ask for.
 use mathlib.Core.Bool.{Bool}
-use Prim.Native.Nat.{ℕ, _≤_, compare, Ordering, Ordering·lt, Ordering·eq, Ordering·gt}
+use mathlib.Core.Path.{sym, _∙_}
+use Prim.Native.Nat.{ℕ, zero, suc, _≤_, compare}
 use lib.Dec.{eqb}
 use Rattle.model.specs.Problem.{Problem}
-use Rattle.model.specs.Domains.{Domains, index-of, has-overlap, has-before, may-overlap, may-before, fixed-before, fixed-overlap}
-use Rattle.model.specs.Rules.{greatest-ending, greatest-starting, rule1, rule2, rule3, rule4, rule5, asks-overlap, asks-before}
-use Rattle.model.specs.Order.{Subdomain, _⊑_}
+use Rattle.model.specs.Domains.{Domains, index-of, place, left, gone, may-overlap, may-before, fixed-before, fixed-overlap}
+use Rattle.model.specs.Rules.{greatest-ending, greatest-starting, rule1, rule2, rule3, rule4, rule5, asks-overlap, asks-before, asks}
+use Rattle.model.specs.Order.{_⊑_}
 use Rattle.model.proofs.Below.{Implies, and-mono, or-mono, not-mono, some-mono, all-mono, ltb-mono}
+use Rattle.model.proofs.Domains.{gone-is}
 use Rattle.model.proofs.Ends.{joined-mono}
 use Rattle.model.proofs.Chains.{greatest-ending-more, greatest-starting-more}
-
-has-overlap-mono : (o : Ordering) {m j : ℕ} → Subdomain m j → Implies (has-overlap o m) (has-overlap o j)
-has-overlap-mono Ordering·lt r = r .overlap-in
-has-overlap-mono Ordering·eq r = λ e. e
-has-overlap-mono Ordering·gt r = r .overlap-in
-
-has-before-mono : (o : Ordering) {m j : ℕ} → Subdomain m j → Implies (has-before o m) (has-before o j)
-has-before-mono Ordering·lt r = r .before-in
-has-before-mono Ordering·eq r = λ e. e
-has-before-mono Ordering·gt r = r .after-in
 
 same-test : {b : Bool} → Implies b b
 same-test e = e
 
 module _ (k j : Domains) (h : k ⊑ j) where
+  pub left-mono : (x a u v : ℕ) → Implies (left k x a u v) (left j x a u v)
+  left-mono x a u v = h (index-of a u v) .bits (place (compare u v) x)
+
+  pub gone-mono : (x a u v : ℕ) → Implies (gone j x a u v) (gone k x a u v)
+  gone-mono x a u v e = gone-is k x a u v ∙ not-mono (left-mono x a u v) (sym (gone-is j x a u v) ∙ e)
+
   pub may-overlap-mono : (a u v : ℕ) → Implies (may-overlap k a u v) (may-overlap j a u v)
   unfolding may-overlap
-  may-overlap-mono a u v = has-overlap-mono (compare u v) (h (index-of a u v))
+  may-overlap-mono = left-mono 0
 
   pub may-before-mono : (a u v : ℕ) → Implies (may-before k a u v) (may-before j a u v)
   unfolding may-before
-  may-before-mono a u v = has-before-mono (compare u v) (h (index-of a u v))
+  may-before-mono = left-mono 1
 
   pub fixed-before-mono : (a u v : ℕ) → Implies (fixed-before j a u v) (fixed-before k a u v)
   unfolding fixed-before
@@ -67,10 +65,16 @@ module _ (k j : Domains) (h : k ⊑ j) where
     unfolding rule5
     rule5-mono u v = ltb-mono (p .capacity a) (joined-mono p a u v (greatest-ending-mono u) (greatest-starting-mono v))
 
-    pub asks-overlap-mono : (u v : ℕ) → Implies (asks-overlap p j a u v) (asks-overlap p k a u v)
+    asks-overlap-mono : (u v : ℕ) → Implies (asks-overlap p j a u v) (asks-overlap p k a u v)
     unfolding asks-overlap
     asks-overlap-mono u v = or-mono (rule1-mono u v) (or-mono (rule2-mono u v) (rule2-mono v u))
 
-    pub asks-before-mono : (u v : ℕ) → Implies (asks-before p j a u v) (asks-before p k a u v)
+    asks-before-mono : (u v : ℕ) → Implies (asks-before p j a u v) (asks-before p k a u v)
     unfolding asks-before
     asks-before-mono u v = or-mono (rule2-mono v u) (or-mono (rule3-mono u v) (or-mono (rule4-mono u v) (rule5-mono u v)))
+
+    pub asks-mono : (x u v : ℕ) → Implies (asks p j x a u v) (asks p k x a u v)
+    unfolding asks
+    asks-mono zero u v = asks-overlap-mono u v
+    asks-mono (suc zero) u v = asks-before-mono u v
+    asks-mono (suc (suc x)) u v = asks-before-mono v u

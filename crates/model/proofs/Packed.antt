@@ -16,30 +16,41 @@ use Rattle.model.specs.Branching.{inconsistent, separated, packed, start
 use Rattle.model.specs.Order.{AtRest}
 use Rattle.model.specs.Admits.{Sound}
 use Rattle.model.proofs.Below.{or-case, or-right, all-at, some-at}
+use Rattle.model.proofs.Asks.{not-before}
 use Rattle.model.proofs.Slots.{lt-or-gt}
 use Rattle.model.proofs.Domains.{fixed-distinct}
 use Rattle.model.proofs.Ends.{joined-mono, joined-ends}
-use Rattle.model.proofs.Chains.{greatest-ending-size, greatest-starting-size, greatest-ending-bound, greatest-ending-step}
-use Rattle.model.proofs.Obeys.{rest-obeys}
+use Rattle.model.proofs.Chains.{greatest-ending-size, greatest-starting-size, greatest-ending-bound, greatest-starting-bound, greatest-ending-step}
+use Rattle.model.proofs.Clauses.{rest-obeyed}
 use Rattle.model.proofs.Consistent.{size-fits, before-irreflexive, before-left, before-transitive}
 
 module _ (p : Problem) (k : Domains) (rest : AtRest p k) (consistent : inconsistent p k ≡ false) where
-  -- no chain is longer than the container: rule 5 at rest
-  pub chain-fits : (a v : ℕ) → a < 3 → v < p .items → greatest-ending p k a v ≤ p .capacity a
+  -- two chains where one goes on with the other have room: rule 5 at rest
+  room : (a u v : ℕ) → a < 3 → u < p .items → v < p .items → fixed-before k a u v ≡ true
+      → joined p a u v (greatest-ending p k a u) (greatest-starting p k a v) ≤ p .capacity a
   unfolding asks-before rule5
+  room a u v ha hu hv b = go (ltb (p .capacity a) whole) refl
+    where
+      whole : ℕ
+      whole = joined p a u v (greatest-ending p k a u) (greatest-starting p k a v)
+
+      go : (t : Bool) → ltb (p .capacity a) whole ≡ t → whole ≤ p .capacity a
+      go true q =
+          absurd (before-left p k consistent a ha u v hu hv b
+          (not-before rest a u v (record { axis = ha; item-u = hu; item-v = hv; distinct = fixed-distinct k a u v b })
+          (or-right (rule2 p k a v u) (or-right (rule3 p k a u v) (or-right (rule4 p k a u v) q)))))
+      go false q = ltb-false (p .capacity a) whole q
+
+  -- so no chain is longer than the container
+  pub chain-fits : (a v : ℕ) → a < 3 → v < p .items → greatest-ending p k a v ≤ p .capacity a
   chain-fits a v ha hv =
       greatest-ending-bound p k a v (p .capacity a) hv (size-fits p k consistent a v ha hv)
-      (λ u hu b. le-trans (joined-mono p a u v (le-refl _) (greatest-starting-size p k a v)) (go u hu b (ltb (p .capacity a) (whole u)) refl))
-    where
-      whole : ℕ → ℕ
-      whole u = joined p a u v (greatest-ending p k a u) (greatest-starting p k a v)
+      (λ u hu b. le-trans (joined-mono p a u v (le-refl _) (greatest-starting-size p k a v)) (room a u v ha hu hv b))
 
-      go : (u : ℕ) → u < p .items → fixed-before k a u v ≡ true → (t : Bool) → ltb (p .capacity a) (whole u) ≡ t → whole u ≤ p .capacity a
-      go u hu b true q =
-          absurd (before-left p k consistent a ha u v hu hv b
-          (rest .no-before a u v (record { axis = ha; item-u = hu; item-v = hv; distinct = fixed-distinct k a u v b })
-          (or-right (rule2 p k a v u) (or-right (rule3 p k a u v) (or-right (rule4 p k a u v) q)))))
-      go u hu b false q = ltb-false (p .capacity a) (whole u) q
+  pub starting-fits : (a v : ℕ) → a < 3 → v < p .items → greatest-starting p k a v ≤ p .capacity a
+  starting-fits a v ha hv =
+      greatest-starting-bound p k a v (p .capacity a) hv (size-fits p k consistent a v ha hv)
+      (λ u hu b. le-trans (joined-mono p a v u (greatest-ending-size p k a v) (le-refl _)) (room a v u ha hv hu b))
 
   -- where "before" is fixed, the starts keep it
   pub starts-before : (a u v : ℕ) → a < 3 → u < p .items → v < p .items → fixed-before k a u v ≡ true → EndsBefore p (starts p k) a u v
@@ -47,7 +58,7 @@ module _ (p : Problem) (k : Domains) (rest : AtRest p k) (consistent : inconsist
   starts-before a u v ha hu hv b =
       joined-ends p (starts p k) a u v (greatest-ending p k a u) (greatest-ending p k a v)
       (omega (arith, greatest-ending-size p k a u)) (omega (arith, greatest-ending-size p k a v))
-      (greatest-ending-step p k a (before-transitive p k consistent a ha (rest-obeys p k rest .d2)) (before-irreflexive p k consistent a ha) u v hu hv b)
+      (greatest-ending-step p k a (before-transitive p k consistent a ha (rest-obeyed p k rest)) (before-irreflexive p k consistent a ha) u v hu hv b)
 
   pub starts-inside : (a u : ℕ) → a < 3 → u < p .items → starts p k a u + p .size a u ≤ p .capacity a
   unfolding starts

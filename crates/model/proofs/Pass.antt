@@ -3,24 +3,24 @@ use mathlib.Core.Bool.{Bool, true, false, not, _&&_, _||_, or-comm, and-true, an
 use mathlib.Core.List.{List, [], _∷_}
 use mathlib.Core.Logic.{_⊎_, inl, inr}
 use mathlib.Core.Path.{_≡_, refl, sym, _∙_, ap, ap₂, subst}
-use Prim.Native.Nat.{ℕ, zero, suc, _+_, _≤_, _<_, zero-le}
+use Prim.Native.Nat.{ℕ, zero, suc, _+_, _≤_, _<_, zero-le, min, max}
 use native.Mathlib.Nat.{le-refl}
 use native.Mathlib.Omega.{arith}
 use lib.Dec.{ltb, eqb}
 use lib.ListN.{getD, length}
 use lib.Seq.{ext-getD}
-use borrow.Author.Tests.{eqb-true, eqb-false, eq-eqb, ltb-true, lt-ltb}
+use borrow.Author.Tests.{eqb-true, eqb-false, eq-eqb, ltb-true, lt-ltb, le-ltb, not-true}
 use Rattle.model.specs.Below.{all-below}
 use Rattle.model.specs.Problem.{Problem}
-use Rattle.model.specs.Domains.{Domains, domain, overlap-bit, before-bit, after-bit, index, may-overlap, may-before}
-use Rattle.model.specs.Rules.{rule1, rule2, asks-overlap, asks-before}
+use Rattle.model.specs.Domains.{Domains, domain, overlap-bit, before-bit, after-bit, index, index-of, bit, converse, left}
+use Rattle.model.specs.Rules.{rule1, rule2, asks-overlap, asks}
 use Rattle.model.specs.Propagate.{Slot, slots, kept-if, kept, at-slots, pass, same, sum}
 use Rattle.model.specs.Order.{Proper, Rising, WellFormed, Subdomain, _⊑_, AtRest}
 use Rattle.model.proofs.Below.{and-first, and-mono, not-mono}
 use Rattle.model.proofs.Order.{overlap-bit-of, before-bit-of, after-bit-of, domain-bits, domain-le, sub-refl, sub-zero, sub-trans, sub-of, sub-mono}
 use Rattle.model.proofs.Slots.{lt-or-gt, no-slot, slot-at, slot-of, slot-indexed, slots-count, index-small}
-use Rattle.model.proofs.Domains.{may-overlap-sym, fixed-overlap-sym, before-up, before-down, overlap-up}
-use Rattle.model.proofs.Monotone.{asks-overlap-mono, asks-before-mono}
+use Rattle.model.proofs.Domains.{converse-small, left-converse, left-up, gone-is, fixed-overlap-sym}
+use Rattle.model.proofs.Monotone.{asks-mono}
 
 -- A function of domains applied at every slot
 getD-at : (f : Slot → ℕ → ℕ) (cs : List Slot) (k : Domains) (i : ℕ) (d : Slot) → i < length cs → i < length k
@@ -105,14 +105,14 @@ kept-le p k c m = go (ltb (c .v) (p .items))
     go false = le-refl m
 
 kept-mono : (k j : Domains) → k ⊑ j → (p : Problem) (c : Slot) (m m′ : ℕ) → Subdomain m m′ → Subdomain (kept p k c m) (kept p j c m′)
-unfolding kept
+unfolding kept asks
 kept-mono k j h p c m m′ r = go (ltb (c .v) (p .items))
   where
     go : (b : Bool) → Subdomain (kept-if b p k c m) (kept-if b p j c m′)
     go true =
-        sub-mono (and-mono (r .overlap-in) (not-mono (asks-overlap-mono k j h p (c .axis) (c .u) (c .v))))
-        (and-mono (r .before-in) (not-mono (asks-before-mono k j h p (c .axis) (c .u) (c .v))))
-        (and-mono (r .after-in) (not-mono (asks-before-mono k j h p (c .axis) (c .v) (c .u))))
+        sub-mono (and-mono (r .bits 0) (not-mono (asks-mono k j h p (c .axis) 0 (c .u) (c .v))))
+        (and-mono (r .bits 1) (not-mono (asks-mono k j h p (c .axis) 1 (c .u) (c .v))))
+        (and-mono (r .bits 2) (not-mono (asks-mono k j h p (c .axis) 2 (c .u) (c .v))))
     go false = r
 
 -- A pass only removes, and removes no less where less is left
@@ -138,9 +138,15 @@ rule1-sym : (p : Problem) (k : Domains) (a u v : ℕ) → rule1 p k a v u ≡ ru
 unfolding rule1
 rule1-sym p k a u v = λ i. all-below 3 (λ b. eqb b a || fixed-overlap-sym k b u v i)
 
-pub asks-overlap-sym : (p : Problem) (k : Domains) (a u v : ℕ) → asks-overlap p k a v u ≡ asks-overlap p k a u v
+asks-overlap-sym : (p : Problem) (k : Domains) (a u v : ℕ) → asks-overlap p k a v u ≡ asks-overlap p k a u v
 unfolding asks-overlap
 asks-overlap-sym p k a u v = ap₂ _||_ (rule1-sym p k a u v) (or-comm (rule2 p k a v u) (rule2 p k a u v))
+
+asks-converse : (p : Problem) (k : Domains) (x a u v : ℕ) → asks p k (converse x) a v u ≡ asks p k x a u v
+unfolding asks
+asks-converse p k zero a u v = asks-overlap-sym p k a u v
+asks-converse p k (suc zero) a u v = refl
+asks-converse p k (suc (suc x)) a u v = refl
 
 module _ (p : Problem) (limited : p .items ≤ 10) (k : Domains) (long : length k ≡ 135) where
   pass-at : {a u v : ℕ} → Rising (p .items) a u v
@@ -151,41 +157,46 @@ module _ (p : Problem) (limited : p .items ≤ 10) (k : Domains) (long : length 
       getD-at (kept p k) slots k (index a u v) no-slot (rw slots-count (index-small w)) (rw long (index-small w))
       ∙ rw (slot-at w, lt-ltb v (p .items) (r .item)) refl
 
-  before-pass-up : {a u v : ℕ} → Rising (p .items) a u v → may-before (pass p k) a u v ≡ (may-before k a u v && not (asks-before p k a u v))
-  before-pass-up {a} {u} {v} r = rw (before-up (pass p k) a (r .rising), before-up k a (r .rising), pass-at r) (before-bit-of _ _ _)
+  kept-bit : (y : ℕ) → y < 3 → (c : Slot) (m : ℕ) → bit y (kept-if true p k c m) ≡ (bit y m && not (asks p k y (c .axis) (c .u) (c .v)))
+  unfolding asks
+  kept-bit zero h c m = overlap-bit-of _ _ _
+  kept-bit (suc zero) h c m = before-bit-of _ _ _
+  kept-bit (suc (suc zero)) h c m = after-bit-of _ _ _
+  kept-bit (suc (suc (suc y))) h c m = absurd (omega arith)
 
-  before-pass-down : {a u v : ℕ} → Rising (p .items) a u v → may-before (pass p k) a v u ≡ (may-before k a v u && not (asks-before p k a v u))
-  before-pass-down {a} {u} {v} r = rw (before-down (pass p k) a (r .rising), before-down k a (r .rising), pass-at r) (after-bit-of _ _ _)
+  left-pass-up : (x a u v : ℕ) → x < 3 → Rising (p .items) a u v → left (pass p k) x a u v ≡ (left k x a u v && not (asks p k x a u v))
+  left-pass-up x a u v h r =
+      let e : min x 2 ≡ x = omega arith in
+      rw (left-up (pass p k) x a (r .rising), left-up k x a (r .rising), pass-at r, e) (kept-bit x h _ _)
 
-  overlap-pass-up : {a u v : ℕ} → Rising (p .items) a u v → may-overlap (pass p k) a u v ≡ (may-overlap k a u v && not (asks-overlap p k a u v))
-  overlap-pass-up {a} {u} {v} r = rw (overlap-up (pass p k) a (r .rising), overlap-up k a (r .rising), pass-at r) (overlap-bit-of _ _ _)
-
-  pub before-pass : (a u v : ℕ) → Proper (p .items) a u v → may-before (pass p k) a u v ≡ (may-before k a u v && not (asks-before p k a u v))
-  before-pass a u v w = go (lt-or-gt u v (w .distinct))
+  pub left-pass : (x a u v : ℕ) → x < 3 → Proper (p .items) a u v → left (pass p k) x a u v ≡ (left k x a u v && not (asks p k x a u v))
+  left-pass x a u v h w = go (lt-or-gt u v (w .distinct))
     where
-      go : (u < v) ⊎ (v < u) → may-before (pass p k) a u v ≡ (may-before k a u v && not (asks-before p k a u v))
-      go (inl h) = before-pass-up (record { axis = w .axis; rising = h; item = w .item-v })
-      go (inr h) = before-pass-down (record { axis = w .axis; rising = h; item = w .item-u })
+      go : (u < v) ⊎ (v < u) → left (pass p k) x a u v ≡ (left k x a u v && not (asks p k x a u v))
+      go (inl l) = left-pass-up x a u v h (omega arith)
+      go (inr l) =
+          rw (← left-converse (pass p k) x a u v, ← left-converse k x a u v, ← asks-converse p k x a u v)
+          (left-pass-up (converse x) a v u (converse-small x) (omega arith))
 
-  pub overlap-pass : (a u v : ℕ) → Proper (p .items) a u v → may-overlap (pass p k) a u v ≡ (may-overlap k a u v && not (asks-overlap p k a u v))
-  overlap-pass a u v w = go (lt-or-gt u v (w .distinct))
-    where
-      go : (u < v) ⊎ (v < u) → may-overlap (pass p k) a u v ≡ (may-overlap k a u v && not (asks-overlap p k a u v))
-      go (inl h) = overlap-pass-up (record { axis = w .axis; rising = h; item = w .item-v })
-      go (inr h) =
-          rw (may-overlap-sym (pass p k) a v u, may-overlap-sym k a v u, asks-overlap-sym p k a v u)
-          (overlap-pass-up (record { axis = w .axis; rising = h; item = w .item-u }))
-
-  and-not : (b c : Bool) → b ≡ (b && not c) → c ≡ true → b ≡ false
-  and-not true c e d = e ∙ ap not d
+  and-not : (b c : Bool) → b ≡ (b && not c) → c ≡ true → not b ≡ true
+  and-not true c e d = ap not (e ∙ ap not d)
   and-not false c e d = refl
 
   -- where a pass changes nothing, no rule asks for a relation that is left
   pub rests-at-rest : pass p k ≡ k → AtRest p k
   rests-at-rest e = record {
-    no-before = λ a u v w. and-not (may-before k a u v) (asks-before p k a u v) (ap (λ (j : Domains). may-before j a u v) (sym e) ∙ before-pass a u v w);
-    no-overlap = λ a u v w. and-not (may-overlap k a u v) (asks-overlap p k a u v) (ap (λ (j : Domains). may-overlap j a u v) (sym e) ∙ overlap-pass a u v w);
+    done = λ x a u v h w d. gone-is k x a u v
+        ∙ and-not (left k x a u v) (asks p k x a u v) (ap (λ (j : Domains). left j x a u v) (sym e) ∙ left-pass x a u v h w) d;
   }
+
+-- of a pair that is not of the problem a pass leaves all
+pub pass-past : (p : Problem) (k : Domains) → length k ≡ 135 → {a u v : ℕ} → Proper 10 a u v → (max u v < p .items → ⊥)
+    → getD (pass p k) (index-of a u v) 0 ≡ getD k (index-of a u v) 0
+unfolding pass kept index-of
+pass-past p k long {a} {u} {v} s past =
+    let w : Rising 10 a (min u v) (max u v) = omega arith in
+    getD-at (kept p k) slots k (index a (min u v) (max u v)) no-slot (rw slots-count (index-small w)) (rw long (index-small w))
+    ∙ rw (slot-at w, le-ltb (max u v) (p .items) (omega arith)) refl
 
 -- and where no rule asks for a relation that is left, a pass changes nothing
 and-not-keep : (b c : Bool) → (c ≡ true → b ≡ false) → (b && not c) ≡ b
@@ -198,15 +209,16 @@ domain-eq p q r = λ i. domain (p i) (q i) (r i)
 module _ (p : Problem) (k : Domains) (w : WellFormed k) (rest : AtRest p k) where
   keeps : {a u v : ℕ} → Rising 10 a u v → (b : Bool) → ltb v (p .items) ≡ b
       → kept-if b p k (record { axis = a; u = u; v = v }) (getD k (index a u v) 0) ≡ getD k (index a u v) 0
+  unfolding asks
   keeps {a} {u} {v} r true e =
-      let l = ltb-true v (p .items) e in
-      let up : Proper (p .items) a u v = omega arith in
-      let down : Proper (p .items) a v u = omega arith in
-      domain-eq
-      (and-not-keep _ _ (λ d. sym (overlap-up k a (r .rising)) ∙ rest .no-overlap a u v up d))
-      (and-not-keep _ _ (λ d. sym (before-up k a (r .rising)) ∙ rest .no-before a u v up d))
-      (and-not-keep _ _ (λ d. sym (before-down k a (r .rising)) ∙ rest .no-before a v u down d))
+      domain-eq (and-not-keep _ _ (cut 0 (omega arith))) (and-not-keep _ _ (cut 1 (omega arith))) (and-not-keep _ _ (cut 2 (omega arith)))
       ∙ domain-bits _ (w .small (index a u v))
+    where
+      cut : (y : ℕ) → y < 3 → asks p k y a u v ≡ true → bit y (getD k (index a u v) 0) ≡ false
+      cut y h d =
+          let l = ltb-true v (p .items) e in
+          let q : min y 2 ≡ y = omega arith in
+          rw q at (sym (left-up k y a (r .rising)) ∙ not-true _ (sym (gone-is k y a u v) ∙ rest .done y a u v h (omega arith) d))
   keeps r false e = refl
 
   pub at-rest-rests : pass p k ≡ k

@@ -2,22 +2,24 @@
 use mathlib.Core.Bool.{true, false}
 use mathlib.Core.List.{List, [], _∷_, List·Memᴰ, List·Memᴰ·head, List·Memᴰ·tail, List·Memᴰ·not-nil, List·Memᴰ·cases-cons}
 use mathlib.Core.Logic.{_⊎_, inl, inr}
-use mathlib.Core.Path.{_≡_, refl, _∙_}
+use mathlib.Core.Path.{_≡_, refl}
 use Prim.Native.Nat.{ℕ, _≤_, _<_}
 use native.Mathlib.Omega.{arith}
 use Rattle.model.specs.Problem.{Problem, Precedence, Positions, Feasible, time}
-use Rattle.model.specs.Domains.{Domains, fixed-before, remove-overlap, remove-before, fix-before, full-domains}
+use Rattle.model.specs.Domains.{Domains, gone, without, fixed-before, remove-before, fix-before, full-domains}
 use Rattle.model.specs.Propagate.{propagate}
 use Rattle.model.specs.Branching.{fix-precedences, opening-domains, inconsistent, packed, choice, Branch, first, second, branched, path-domains, plan}
 use Rattle.model.specs.Order.{Proper, WellFormed, _⊑_, AtRest, Fork}
 use Rattle.model.specs.Admits.{Sound, Admits}
 use Rattle.model.specs.Weight.{weight}
+use Rattle.model.proofs.Below.{and-intro}
 use Rattle.model.proofs.Slots.{proper-sym, proper-wide}
 use Rattle.model.proofs.Order.{below-refl, below-trans}
-use Rattle.model.proofs.Domains.{before-removed, overlap-removed, before-after-overlap, fixed-before-of}
+use Rattle.model.proofs.Monotone.{gone-mono}
+use Rattle.model.proofs.Without.{without-less, without-well-formed, without-gone}
 use Rattle.model.proofs.Monotone.{fixed-before-mono}
 use Rattle.model.proofs.Propagate.{propagate-less, propagate-well-formed, propagate-at-rest}
-use Rattle.model.proofs.Removal.{remove-before-well-formed, fix-before-less, fix-before-well-formed}
+use Rattle.model.proofs.Removal.{fix-before-less, fix-before-well-formed}
 use Rattle.model.proofs.Sound.{propagate-admits, admitted-consistent}
 use Rattle.model.proofs.Admits.{full-well-formed, opening-well-formed, opening-admits}
 use Rattle.model.proofs.Fork.{choice-fork, branched-less, branched-well-formed, fork-split}
@@ -26,12 +28,11 @@ use Rattle.model.proofs.Weight.{weight-mono, weight-branch}
 
 -- Precedences are fixed in the opening domains
 fix-before-fixed : (k : Domains) (u v : ℕ) → WellFormed k → Proper 10 time u v → fixed-before (fix-before k time u v) time u v ≡ true
-unfolding fix-before
+unfolding fix-before fixed-before gone without
 fix-before-fixed k u v w s =
     let j = remove-before k time v u in
-    fixed-before-of (remove-overlap j time u v) time u v
-    (overlap-removed j (remove-before-well-formed k time v u w .long) s)
-    (before-after-overlap j time u v time v u ∙ before-removed k (w .long) (proper-sym s))
+    and-intro (without-gone j 0 (without-well-formed k 1 time v u w) s)
+    (gone-mono (without j 0 time u v) j (without-less j 0 time u v) 2 time u v (without-gone k 1 w (proper-sym s)))
 
 precedences-less : (l : List Precedence) (k : Domains) → fix-precedences l k ⊑ k
 precedences-less [] k = below-refl k

@@ -2,38 +2,35 @@
 -- applied after every branch of a path or once at its end.
 use mathlib.Core.Bool.{Bool, true, false, not, _&&_, false≢true}
 use mathlib.Core.List.{List, [], _∷_}
-use mathlib.Core.Logic.{_⊎_, inl, inr, _≢_}
+use mathlib.Core.Logic.{_≢_}
 use mathlib.Core.Path.{_≡_, refl, sym, _∙_, ap, subst}
-use Prim.Native.Nat.{ℕ, zero, suc, _+_, _≤_, _<_}
-use Prim.Native.Nat.{compare, Ordering, Ordering·lt, Ordering·eq, Ordering·gt}
-use native.Mathlib.Nat.{eq-or-lt-of-le}
+use Prim.Native.Nat.{ℕ, zero, suc, _≤_, _<_}
+use Prim.Native.Nat.{compare}
+use native.Mathlib.Decide.{decLt}
 use native.Mathlib.Omega.{arith}
 use lib.Dec.{eqb}
-use lib.ListN.{getD, length, set}
-use borrow.Author.Tests.{eqb-false, ne-eqb, not-true}
+use lib.ListN.{getD, set}
+use borrow.Author.Tests.{eqb-false, ne-eqb, not-true, not-false}
 use Rattle.model.specs.Below.{some-below}
 use Rattle.model.specs.Problem.{Problem}
-use Rattle.model.specs.Domains.{Domains, overlap-bit, before-bit, after-bit, index-of}
-use Rattle.model.specs.Domains.{without-overlap, may-overlap, remove-overlap, fix-overlap}
-use Rattle.model.specs.Domains.{without-before, may-before, remove-before}
-use Rattle.model.specs.Rules.{asks-overlap, asks-before}
+use Rattle.model.specs.Domains.{Domains, index-of, clear, place, gone, without}
+use Rattle.model.specs.Domains.{may-overlap, fix-overlap}
+use Rattle.model.specs.Rules.{asks}
 use Rattle.model.specs.Propagate.{sum, propagate}
 use Rattle.model.specs.Branching.{Branch, first, second}
 use Rattle.model.specs.Branching.{choice, branch-at, branched, path-domains}
 use Rattle.model.specs.Order.{Proper, WellFormed, Subdomain, _⊑_, Between, AtRest}
-use Rattle.model.specs.Removals.{Removed, untouched, then-before, then-overlap}
+use Rattle.model.specs.Removals.{Removed, untouched, then}
 use Rattle.model.specs.Removals.{branch-removals, path-removals}
-use Rattle.model.proofs.Below.{some-at, none-at, and-both, clash}
-use Rattle.model.proofs.Slots.{proper-wide}
-use Rattle.model.proofs.Order.{overlap-bit-of, before-bit-of, after-bit-of}
-use Rattle.model.proofs.Order.{domain-bits, domain-le, sub-zero, sub-trans, of-sub}
+use Rattle.model.proofs.Below.{some-at, none-at, and-both, fails}
+use Rattle.model.proofs.Slots.{proper-sym, proper-wide}
+use Rattle.model.proofs.Order.{cleared, clear-none, clear-above, sub-zero, sub-trans}
 use Rattle.model.proofs.Order.{below-refl, below-trans}
-use Rattle.model.proofs.Domains.{before-removed, overlap-removed}
+use Rattle.model.proofs.Domains.{without-is}
+use Rattle.model.proofs.Without.{without-less, without-well-formed, without-gone, sum-falls}
 use Rattle.model.proofs.Propagate.{propagate-less, propagate-mono, propagate-well-formed}
 use Rattle.model.proofs.Propagate.{between-start, between-propagates, between-rest}
-use Rattle.model.proofs.Removal.{remove-before-less, remove-before-well-formed}
-use Rattle.model.proofs.Removal.{remove-overlap-less, remove-overlap-well-formed}
-use Rattle.model.proofs.Removal.{between-before, between-overlap}
+use Rattle.model.proofs.Removal.{between-without}
 use Rattle.model.proofs.Admits.{opening-well-formed}
 
 -- Any order
@@ -42,10 +39,8 @@ module _ (p : Problem) (limited : p .items ≤ 10) (k : Domains) (w : WellFormed
   -- whoever removes only what rules ask for stays between k and its propagation
   removed-between : (j : Domains) → Removed p k j → Between p k j
   removed-between _ untouched = between-start p k w
-  removed-between _ (then-before {j = j} r a u v s e) =
-      between-before p limited k w j a u v (removed-between j r) s e
-  removed-between _ (then-overlap {j = j} r a u v s e) =
-      between-overlap p limited k w j a u v (removed-between j r) s e
+  removed-between _ (then {j = j} r x a u v h s e) =
+      between-without p limited k w j x a u v (removed-between j r) h s e
 
   -- and, in whatever order, has come to the propagation once nothing more can be removed
   pub any-order : (j : Domains) → Removed p k j → AtRest p j → j ≡ propagate p k
@@ -83,21 +78,12 @@ removes-both {R} {S} r s = record {
 }
 
 -- one domain
-before-alike : (o : Ordering) (x m l : ℕ) → Subdomain x (without-before o m) → Subdomain x l
-    → Subdomain x (without-before o l)
-before-alike Ordering·lt x m l f g =
-    of-sub x (g .overlap-in) (λ e. sym (before-bit-of _ _ _) ∙ f .before-in e) (g .after-in)
-before-alike Ordering·eq x m l f g = g
-before-alike Ordering·gt x m l f g =
-    of-sub x (g .overlap-in) (g .before-in) (λ e. sym (after-bit-of _ _ _) ∙ f .after-in e)
-
-overlap-alike : (o : Ordering) (x m l : ℕ) → Subdomain x (without-overlap o m) → Subdomain x l
-    → Subdomain x (without-overlap o l)
-overlap-alike Ordering·lt x m l f g =
-    of-sub x (λ e. sym (overlap-bit-of _ _ _) ∙ f .overlap-in e) (g .before-in) (g .after-in)
-overlap-alike Ordering·eq x m l f g = g
-overlap-alike Ordering·gt x m l f g =
-    of-sub x (λ e. sym (overlap-bit-of _ _ _) ∙ f .overlap-in e) (g .before-in) (g .after-in)
+clear-alike : (y x m l : ℕ) → Subdomain x (clear y m) → Subdomain x l → Subdomain x (clear y l)
+clear-alike y x m l f g = go (decLt y 3)
+  where
+    go : Dec (y < 3) → Subdomain x (clear y l)
+    go (yes h) = clear-above y g (fails (f .bits y) (cleared y m h))
+    go (no h) = rw (clear-none y l h) g
 
 -- one domain of many
 module _ (r : ℕ → ℕ)
@@ -115,33 +101,21 @@ module _ (r : ℕ → ℕ)
       set-alike i (λ z. j (suc z)) k h (λ z. f (suc z)) (λ z. g (suc z)) n
 
 -- the removals of one relation, and of all that a branch removes
-module _ (a u v : ℕ) where
-  before-removes : Removes (λ k. remove-before k a u v)
-  unfolding remove-before
-  before-removes = record {
-    less = λ k. remove-before-less k a u v;
-    alike = λ j.
-        let o = compare u v in
-        set-alike (without-before o) (before-alike o) (index-of a u v) (λ n. getD j n 0);
-    shaped = λ k. remove-before-well-formed k a u v;
-  }
-
-  overlap-removes : Removes (λ k. remove-overlap k a u v)
-  unfolding remove-overlap
-  overlap-removes = record {
-    less = λ k. remove-overlap-less k a u v;
-    alike = λ j.
-        let o = compare u v in
-        set-alike (without-overlap o) (overlap-alike o) (index-of a u v) (λ n. getD j n 0);
-    shaped = λ k. remove-overlap-well-formed k a u v;
-  }
+without-removes : (x a u v : ℕ) → Removes (λ k. without k x a u v)
+without-removes x a u v = record {
+  less = λ k. without-less k x a u v;
+  alike = λ j k h.
+      let y = place (compare u v) x in
+      rw (without-is k x a u v, without-is h x a u v) (set-alike (clear y) (clear-alike y) (index-of a u v) (λ n. getD j n 0) k h);
+  shaped = λ k. without-well-formed k x a u v;
+}
 
 branch-at-removes : (o : Bool) (b : Branch) (a u v : ℕ) → Removes (λ k. branch-at o b k a u v)
-unfolding fix-overlap
-branch-at-removes true first a u v = overlap-removes a u v
-branch-at-removes true second a u v = removes-both (before-removes a v u) (before-removes a u v)
-branch-at-removes false first a u v = before-removes a v u
-branch-at-removes false second a u v = before-removes a u v
+unfolding fix-overlap without
+branch-at-removes true first a u v = without-removes 0 a u v
+branch-at-removes true second a u v = removes-both (without-removes 1 a v u) (without-removes 1 a u v)
+branch-at-removes false first a u v = without-removes 1 a v u
+branch-at-removes false second a u v = without-removes 1 a u v
 
 branch-removes : (k : Domains) (b : Branch) → Removes (branch-removals k b)
 unfolding branch-removals
@@ -216,40 +190,8 @@ find n t = go (some-below 3 on-axis) refl
         let eu = none-at n (of-item a) ea u (s .item-u) in
         rw (ne-eqb u v (s .distinct)) at (none-at n (at a u) eu v (s .item-v)))
 
--- domains with fewer relations add up to less
-sub-le : {m l : ℕ} → m < 8 → Subdomain m l → m ≤ l
-sub-le {m} {l} h r =
-    omega (
-      arith,
-      domain-bits m h,
-      domain-le l (overlap-bit m) (before-bit m) (after-bit m)
-          (r .overlap-in) (r .before-in) (r .after-in),
-    )
-
-same-or-less : (i j : Domains) → length i ≡ length j → ((n : ℕ) → getD i n 0 ≤ getD j n 0)
-    → (i ≡ j) ⊎ (sum i < sum j)
-same-or-less [] [] e h = inl refl
-same-or-less [] (y ∷ j) e h = absurd (omega arith)
-same-or-less (x ∷ i) [] e h = absurd (omega arith)
-same-or-less (x ∷ i) (y ∷ j) e h =
-    go (eq-or-lt-of-le (h 0)) (same-or-less i j (omega arith) (λ n. h (suc n)))
-  where
-    go : (x ≡ y) ⊎ (x < y) → (i ≡ j) ⊎ (sum i < sum j) → (x ∷ i ≡ y ∷ j) ⊎ (x + sum i < y + sum j)
-    go (inl p) (inl q) = inl (cc)
-    go (inr p) (inl q) = inr (omega (arith, ap sum q))
-    go (inl p) (inr q) = inr (omega arith)
-    go (inr p) (inr q) = inr (omega arith)
-
-fewer-sum : (i j : Domains) → WellFormed i → WellFormed j → i ⊑ j → i ≢ j → sum i < sum j
-fewer-sum i j wi wj less ne =
-    go (same-or-less i j (wi .long ∙ sym (wj .long)) (λ n. sub-le (wi .small n) (less n)))
-  where
-    go : (i ≡ j) ⊎ (sum i < sum j) → sum i < sum j
-    go (inl e) = absurd (ne e)
-    go (inr l) = l
-
-and-other : {b c : Bool} → (b && c) ≡ false → b ≡ true → c ≡ false
-and-other {b = true} e d = e
+and-other : {b c : Bool} → (b && not c) ≡ false → b ≡ true → c ≡ true
+and-other {b = true} e d = not-false _ e
 and-other {b = false} e d = absurd (false≢true d)
 
 module _ (p : Problem) (limited : p .items ≤ 10) (k : Domains) (w : WellFormed k) where
@@ -258,39 +200,33 @@ module _ (p : Problem) (limited : p .items ≤ 10) (k : Domains) (w : WellFormed
 
   -- one removal more where one is due, and at rest where none is
   remove-or-rest : (j : Domains) → WellFormed j → Removed p k j
-      → ((i : Domains) → Removed p k i → i ⊑ j → i ≢ j → Rested) → Rested
-  remove-or-rest j wj r on = go (find (p .items) due-before) (find (p .items) due-overlap)
+      → ((i : Domains) → Removed p k i → sum i < sum j → Rested) → Rested
+  remove-or-rest j wj r on = go (find (p .items) (due 0)) (find (p .items) (due 1))
     where
-      due-before : ℕ → ℕ → ℕ → Bool
-      due-before a u v = asks-before p j a u v && may-before j a u v
+      due : ℕ → ℕ → ℕ → ℕ → Bool
+      due x a u v = asks p j x a u v && not (gone j x a u v)
 
-      due-overlap : ℕ → ℕ → ℕ → Bool
-      due-overlap a u v = asks-overlap p j a u v && may-overlap j a u v
+      remove : (x : ℕ) → x < 3 → (a u v : ℕ) → Proper (p .items) a u v → due x a u v ≡ true → Rested
+      remove x h a u v s d =
+          let (e, m) = and-both (asks p j x a u v) (not (gone j x a u v)) d in
+          let lost = without-gone j x wj (proper-wide (omega arith) s) in
+          on (without j x a u v) (then r x a u v h s e)
+          (sum-falls (without j x a u v) j (without-well-formed j x a u v wj) wj (without-less j x a u v) x a u v lost (not-true _ m))
 
-      go : Found (p .items) due-before → Found (p .items) due-overlap → Rested
-      go (found a u v s d) q =
-          let (e, m) = and-both (asks-before p j a u v) (may-before j a u v) d in
-          let gone = before-removed j (wj .long) (proper-wide (omega arith) s) in
-          on (remove-before j a u v) (then-before r a u v s e) (remove-before-less j a u v)
-          (λ h. clash m (ap (λ (i : Domains). may-before i a u v) (sym h) ∙ gone))
-      go (nowhere f) (found a u v s d) =
-          let (e, m) = and-both (asks-overlap p j a u v) (may-overlap j a u v) d in
-          let gone = overlap-removed j (wj .long) (proper-wide (omega arith) s) in
-          on (remove-overlap j a u v) (then-overlap r a u v s e) (remove-overlap-less j a u v)
-          (λ h. clash m (ap (λ (i : Domains). may-overlap i a u v) (sym h) ∙ gone))
-      go (nowhere f) (nowhere g) =
-          let rest : AtRest p j = record {
-            no-before = λ a u v s. and-other (f a u v s);
-            no-overlap = λ a u v s. and-other (g a u v s);
-          } in
-          (j, r, rest)
+      go : Found (p .items) (due 0) → Found (p .items) (due 1) → Rested
+      go (found a u v s d) q = remove 0 (omega arith) a u v s d
+      go (nowhere f) (found a u v s d) = remove 1 (omega arith) a u v s d
+      go (nowhere f) (nowhere g) = (j, r, record { done = rest })
+        where
+          rest : (x a u v : ℕ) → x < 3 → Proper (p .items) a u v → asks p j x a u v ≡ true → gone j x a u v ≡ true
+          rest zero a u v h s = and-other (f a u v s)
+          rest (suc zero) a u v h s = and-other (g a u v s)
+          rest (suc (suc x)) a u v h s = unfold gone asks in and-other (g a v u (proper-sym s))
 
   come-to-rest : (f : ℕ) (j : Domains) → Removed p k j → sum j < f → Rested
   come-to-rest zero j r h = absurd (omega arith)
   come-to-rest (suc f) j r h =
-      remove-or-rest j (shaped j r) r
-      (λ i q less ne.
-      come-to-rest f i q (omega (arith, fewer-sum i j (shaped i q) (shaped j r) less ne)))
+      remove-or-rest j (shaped j r) r (λ i q less. come-to-rest f i q (omega arith))
     where
       shaped : (i : Domains) → Removed p k i → WellFormed i
       shaped i q = removed-between p limited k w i q .well-formed

@@ -2,45 +2,42 @@
 -- the opening domains admit every feasible packing, and inconsistent domains admit none.
 use mathlib.Core.Bool.{Bool, true, false, not, _&&_, _||_}
 use mathlib.Core.Logic.{_⊎_, inl, inr}
-use mathlib.Core.Path.{_≡_, refl, _∙_, subst}
-use Prim.Native.Nat.{ℕ, _+_, _-_, _≤_, _<_}
+use mathlib.Core.Path.{_≡_, refl, sym, _∙_, ap, subst}
+use Prim.Native.Nat.{ℕ, zero, suc, _+_, _-_, _≤_, _<_}
 use native.Mathlib.Nat.{le-refl}
 use native.Mathlib.Omega.{arith}
 use lib.Dec.{ltb, eqb}
-use borrow.Author.Tests.{eqb-true, ltb-true, not-true}
+use borrow.Author.Tests.{eqb-true, ltb-true, not-true, not-false}
 use Rattle.model.specs.Below.{some-below}
 use Rattle.model.specs.Problem.{Problem, Positions, EndsBefore, Feasible}
-use Rattle.model.specs.Domains.{Domains, may-overlap, may-before, fixed-before, fixed-overlap}
-use Rattle.model.specs.Rules.{greatest-ending, greatest-starting, rule1, rule2, rule3, rule4, rule5, asks-overlap, asks-before}
+use Rattle.model.specs.Domains.{Domains, may-overlap, may-before, left, gone, fixed-before, fixed-overlap}
+use Rattle.model.specs.Rules.{greatest-ending, greatest-starting, rule1, rule2, rule3, rule4, rule5, asks-overlap, asks-before, asks}
 use Rattle.model.specs.Propagate.{pass, propagate}
 use Rattle.model.specs.Branching.{empty, inconsistent}
 use Rattle.model.specs.Order.{Proper, WellFormed}
-use Rattle.model.specs.Admits.{Sound, Overlaps, Admits}
+use Rattle.model.specs.Admits.{Sound, Overlaps, Realises, Admits}
 use Rattle.model.proofs.Below.{and-intro, and-both, or-case, all-at, some-at, clash}
 use Rattle.model.proofs.Slots.{proper-sym}
-use Rattle.model.proofs.Domains.{fixed-before-says, fixed-overlap-says, before-distinct, overlap-distinct}
+use Rattle.model.proofs.Domains.{gone-is, fixed-before-says, fixed-overlap-says, before-distinct, overlap-distinct}
 use Rattle.model.proofs.Ends.{ends?, ends-trans, ends-asym, ends-cross, joined-room, joined-from}
 use Rattle.model.proofs.Chains.{greatest-ending-within, greatest-starting-within}
-use Rattle.model.proofs.Pass.{pass-well-formed, before-pass, overlap-pass}
+use Rattle.model.proofs.Pass.{pass-well-formed, left-pass}
 use Rattle.model.proofs.Propagate.{propagate-keeps}
-
-pub overlaps-sym : (p : Problem) (q : Positions) (a u v : ℕ) → Overlaps p q a u v → Overlaps p q a v u
-unfolding Overlaps
-overlaps-sym p q a u v h = (h .1, h .0)
 
 module _ (p : Problem) (sound : Sound p) (q : Positions) (feasible : Feasible p q) (k : Domains) (admits : Admits p k q) where
   -- What is removed is not so, and what is fixed is so
   not-before : {a u v : ℕ} → Proper (p .items) a u v → may-before k a u v ≡ false → EndsBefore p q a u v → ⊥
-  not-before {a} {u} {v} s e b = clash (admits .before a u v s b) e
+  unfolding gone
+  not-before {a} {u} {v} s e b = clash (ap not e) (admits .realised 1 a u v (omega arith) s b)
 
   ends-either : {a u v : ℕ} → Proper (p .items) a u v → may-overlap k a u v ≡ false → EndsBefore p q a u v ⊎ EndsBefore p q a v u
-  unfolding Overlaps
+  unfolding Overlaps gone
   ends-either {a} {u} {v} s e = go (ends? p q a u v) (ends? p q a v u)
     where
       go : Dec (EndsBefore p q a u v) → Dec (EndsBefore p q a v u) → EndsBefore p q a u v ⊎ EndsBefore p q a v u
       go (yes b) _ = inl b
       go (no f) (yes b) = inr b
-      go (no f) (no g) = absurd (clash (admits .overlap a u v s (f, g)) e)
+      go (no f) (no g) = absurd (clash (ap not e) (admits .realised 0 a u v (omega arith) s (f, g)))
 
   pub fixed-before-holds : {a u v : ℕ} → a < 3 → u < p .items → v < p .items → fixed-before k a u v ≡ true → EndsBefore p q a u v
   fixed-before-holds {a} {u} {v} ha hu hv e =
@@ -143,7 +140,7 @@ module _ (p : Problem) (sound : Sound p) (q : Positions) (feasible : Feasible p 
       omega arith
 
   -- No rule asks for what the packing realises
-  pub asks-before-sound : (a u v : ℕ) → Proper (p .items) a u v → asks-before p k a u v ≡ true → EndsBefore p q a u v → ⊥
+  asks-before-sound : (a u v : ℕ) → Proper (p .items) a u v → asks-before p k a u v ≡ true → EndsBefore p q a u v → ⊥
   unfolding asks-before
   asks-before-sound a u v s e h = one (or-case (rule2 p k a v u) (rule3 p k a u v || (rule4 p k a u v || rule5 p k a u v)) e)
     where
@@ -159,7 +156,7 @@ module _ (p : Problem) (sound : Sound p) (q : Positions) (feasible : Feasible p 
       one (inl d) = ends-asym p q a u v (sound .positive a v (s .axis) (s .item-v)) h (rule2-sound a v u (s .axis) (s .item-v) (s .item-u) d)
       one (inr d) = two (or-case (rule3 p k a u v) (rule4 p k a u v || rule5 p k a u v) d)
 
-  pub asks-overlap-sound : (a u v : ℕ) → Proper (p .items) a u v → asks-overlap p k a u v ≡ true → Overlaps p q a u v → ⊥
+  asks-overlap-sound : (a u v : ℕ) → Proper (p .items) a u v → asks-overlap p k a u v ≡ true → Overlaps p q a u v → ⊥
   unfolding asks-overlap Overlaps
   asks-overlap-sound a u v s e h = one (or-case (rule1 p k a u v) (rule2 p k a u v || rule2 p k a v u) e)
     where
@@ -170,6 +167,12 @@ module _ (p : Problem) (sound : Sound p) (q : Positions) (feasible : Feasible p 
       one : (rule1 p k a u v ≡ true) ⊎ ((rule2 p k a u v || rule2 p k a v u) ≡ true) → ⊥
       one (inl d) = rule1-sound a u v s d h
       one (inr d) = two (or-case (rule2 p k a u v) (rule2 p k a v u) d)
+
+  asks-sound : (x a u v : ℕ) → Proper (p .items) a u v → asks p k x a u v ≡ true → Realises p q x a u v → ⊥
+  unfolding asks
+  asks-sound zero a u v s = asks-overlap-sound a u v s
+  asks-sound (suc zero) a u v s = asks-before-sound a u v s
+  asks-sound (suc (suc x)) a u v s = asks-before-sound a v u (proper-sym s)
 
   -- inconsistent domains admit no feasible packing
   pub admitted-consistent : inconsistent p k ≡ false
@@ -205,10 +208,10 @@ module _ (p : Problem) (sound : Sound p) (q : Positions) (feasible : Feasible p 
   pass-admits k (w, α) = (
     pass-well-formed p k w,
     record {
-      before = λ a u v s h. before-pass p (sound .limited) k (w .long) a u v s
-          ∙ and-not-true (α .before a u v s h) (λ e. asks-before-sound p sound q feasible k α a u v s e h);
-      overlap = λ a u v s h. overlap-pass p (sound .limited) k (w .long) a u v s
-          ∙ and-not-true (α .overlap a u v s h) (λ e. asks-overlap-sound p sound q feasible k α a u v s e h);
+      realised = λ x a u v h s r.
+          let had : left k x a u v ≡ true = not-false _ (sym (gone-is k x a u v) ∙ α .realised x a u v h s r) in
+          gone-is (pass p k) x a u v
+          ∙ ap not (left-pass p (sound .limited) k (w .long) x a u v h s ∙ and-not-true had (λ e. asks-sound p sound q feasible k α x a u v s e r));
     },
   )
 

@@ -5,24 +5,24 @@ use mathlib.Core.Path.{_≡_, refl, subst}
 use Prim.Native.Nat.{ℕ, zero, suc, pred, _+_, _*_, _-_, _≤_, _<_}
 use native.Mathlib.Nat.{eq-or-lt-of-le, le-of-suc-le-suc}
 use native.Mathlib.Omega.{arith}
+use borrow.Author.Tests.{not-true}
 use Rattle.model.specs.Problem.{Problem}
-use Rattle.model.specs.Domains.{Domains, may-overlap, may-before, remove-overlap, remove-before, fix-overlap}
+use Rattle.model.specs.Domains.{Domains, may-overlap, may-before, remove-overlap, remove-before, gone, without, fix-overlap}
 use Rattle.model.specs.Branching.{undecided, choice, Branch, first, second, branch-at, branched}
 use Rattle.model.specs.Order.{Proper, Rising, WellFormed, _⊑_, Fork}
 use Rattle.model.specs.Weight.{sum-below, sum-slots, relations, weight}
 use Rattle.model.proofs.Below.{Implies}
 use Rattle.model.proofs.Slots.{proper-sym, proper-up, proper-wide}
-use Rattle.model.proofs.Domains.{before-removed, overlap-removed}
 use Rattle.model.proofs.Monotone.{may-overlap-mono, may-before-mono}
-use Rattle.model.proofs.Removal.{remove-before-well-formed, remove-before-less}
+use Rattle.model.proofs.Without.{without-less, without-well-formed, without-gone}
 use Rattle.model.proofs.Fork.{branched-less}
 
 module _ (f g : ℕ → ℕ) where
-  sum-mono : (n : ℕ) → ((i : ℕ) → i < n → f i ≤ g i) → sum-below n f ≤ sum-below n g
+  pub sum-mono : (n : ℕ) → ((i : ℕ) → i < n → f i ≤ g i) → sum-below n f ≤ sum-below n g
   sum-mono zero h = omega arith
   sum-mono (suc n) h = omega (arith, sum-mono n (λ i l. h i (omega arith)), h n (omega arith))
 
-  sum-less : (n j : ℕ) → ((i : ℕ) → i < n → f i ≤ g i) → j < n → f j < g j → sum-below n f < sum-below n g
+  pub sum-less : (n j : ℕ) → ((i : ℕ) → i < n → f i ≤ g i) → j < n → f j < g j → sum-below n f < sum-below n g
   sum-less zero j h l x = absurd (omega arith)
   sum-less (suc n) j h l x = go (λ q. sum-less n j (λ i p. h i (omega arith)) q x) (eq-or-lt-of-le (le-of-suc-le-suc l))
     where
@@ -55,8 +55,8 @@ one-le : (b : Bool) → cond b 1 0 ≤ 1
 one-le true = omega arith
 one-le false = omega arith
 
-gone : {b : Bool} → b ≡ false → _≡_ {A = ℕ} (cond b 1 0) 0
-gone e = rw e refl
+none : {b : Bool} → b ≡ false → _≡_ {A = ℕ} (cond b 1 0) 0
+none e = rw e refl
 
 pred-mono : {x y : ℕ} → x ≤ y → pred x ≤ pred y
 pred-mono h = omega arith
@@ -90,28 +90,27 @@ undecided-two k a u v e = two-left (may-overlap k a u v) (may-before k a u v) (m
 
 branch-fewer : (k : Domains) (w : WellFormed k) (a u v : ℕ) → Proper 10 a u v → (b : Branch) (o : Bool) → may-overlap k a u v ≡ o
     → 2 ≤ relations k a u v → branch-at o b k a u v ⊑ k → relations (branch-at o b k a u v) a u v < relations k a u v
-unfolding relations fix-overlap
+unfolding relations fix-overlap gone without
 branch-fewer k w a u v s first true e h less =
     let j = remove-overlap k a u v in
-    let lost = gone (overlap-removed k (w .long) s) in
+    let lost = none (not-true (may-overlap j a u v) (without-gone k 0 w s)) in
     let had : _≡_ {A = ℕ} (cond (may-overlap k a u v) 1 0) 1 = rw e refl in
     omega (arith, one-mono (may-before-mono j k less a u v), one-mono (may-before-mono j k less a v u))
 branch-fewer k w a u v s second true e h less =
     let i = remove-before k a v u in
     let j = remove-before i a u v in
-    let wi = remove-before-well-formed k a v u w in
-    let lost = gone (before-removed i (wi .long) s) in
-    let lost′ : _≡_ {A = ℕ} (cond (may-before i a v u) 1 0) 0 = gone (before-removed k (w .long) (proper-sym s)) in
-    omega (arith, one-le (may-overlap j a u v), one-mono (may-before-mono j i (remove-before-less i a u v) a v u))
+    let lost = none (not-true (may-before j a u v) (without-gone i 1 (without-well-formed k 1 a v u w) s)) in
+    let lost′ = none (not-true (may-before i a v u) (without-gone k 1 w (proper-sym s))) in
+    omega (arith, one-le (may-overlap j a u v), one-mono (may-before-mono j i (without-less i 1 a u v) a v u))
 branch-fewer k w a u v s first false e h less =
     let j = remove-before k a v u in
-    let lost = gone (before-removed k (w .long) (proper-sym s)) in
-    let none : _≡_ {A = ℕ} (cond (may-overlap k a u v) 1 0) 0 = gone e in
+    let lost = none (not-true (may-before j a v u) (without-gone k 1 w (proper-sym s))) in
+    let gap = none e in
     omega (arith, one-mono (may-overlap-mono j k less a u v), one-le (may-before j a u v))
 branch-fewer k w a u v s second false e h less =
     let j = remove-before k a u v in
-    let lost = gone (before-removed k (w .long) s) in
-    let none : _≡_ {A = ℕ} (cond (may-overlap k a u v) 1 0) 0 = gone e in
+    let lost = none (not-true (may-before j a u v) (without-gone k 1 w s)) in
+    let gap = none e in
     omega (arith, one-mono (may-overlap-mono j k less a u v), one-le (may-before j a v u))
 
 -- the weight falls with each branch of a fork

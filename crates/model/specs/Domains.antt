@@ -57,47 +57,63 @@ index a u v = pair-number u v * 3 + a
 unfoldable pub index-of : ℕ → ℕ → ℕ → ℕ
 index-of a u v = index a (min u v) (max u v)
 
--- whether a domain has "u and v overlap" and "u before v", by how u compares with v; of an item and itself nothing is ever removed
-abbrev pub has-overlap : Ordering → ℕ → Bool
-has-overlap Ordering·lt m = overlap-bit m
-has-overlap Ordering·eq m = true
-has-overlap Ordering·gt m = overlap-bit m
+-- The bits by number, 0 to 2, and a domain without one; there is no bit 3
+abbrev pub bit : ℕ → ℕ → Bool
+bit zero m = overlap-bit m
+bit (suc zero) m = before-bit m
+bit (suc (suc zero)) m = after-bit m
+bit (suc (suc (suc y))) m = true
 
-abbrev pub has-before : Ordering → ℕ → Bool
-has-before Ordering·lt m = before-bit m
-has-before Ordering·eq m = true
-has-before Ordering·gt m = after-bit m
+abbrev pub clear : ℕ → ℕ → ℕ
+clear zero m = domain false (before-bit m) (after-bit m)
+clear (suc zero) m = domain (overlap-bit m) false (after-bit m)
+clear (suc (suc zero)) m = domain (overlap-bit m) (before-bit m) false
+clear (suc (suc (suc y))) m = m
 
--- a domain without the relation
-abbrev pub without-overlap : Ordering → ℕ → ℕ
-without-overlap Ordering·lt m = domain false (before-bit m) (after-bit m)
-without-overlap Ordering·eq m = m
-without-overlap Ordering·gt m = domain false (before-bit m) (after-bit m)
+-- Any two items in either order: their relations have the numbers 0 overlap, 1 "u before v" and 2 "v before u".
+-- The same relation seen from v
+abbrev pub converse : ℕ → ℕ
+converse zero = 0
+converse (suc zero) = 2
+converse (suc (suc x)) = 1
 
-abbrev pub without-before : Ordering → ℕ → ℕ
-without-before Ordering·lt m = domain (overlap-bit m) false (after-bit m)
-without-before Ordering·eq m = m
-without-before Ordering·gt m = domain (overlap-bit m) (before-bit m) false
+-- the bit of the relation x, by how u compares with v; of an item and itself nothing is ever removed
+abbrev pub place : Ordering → ℕ → ℕ
+place Ordering·lt x = min x 2
+place Ordering·eq x = 3
+place Ordering·gt x = converse x
 
--- Any two items in either order: nothing from here on asks whether u < v
-module _ (k : Domains) (a u v : ℕ) where
-  abbrev pub domain-of : ℕ
-  domain-of = getD k (index-of a u v) 0
+-- the relation x of u and v is left on the axis a
+abbrev pub left : Domains → ℕ → ℕ → ℕ → ℕ → Bool
+left k x a u v = bit (place (compare u v) x) (getD k (index-of a u v) 0)
 
-  -- "u and v overlap" is left on the axis a
-  unfoldable pub may-overlap : Bool
-  may-overlap = has-overlap (compare u v) domain-of
+-- "Striking removes words": the domains without it
+abbrev pub struck : Domains → ℕ → ℕ → ℕ → ℕ → Domains
+struck k x a u v = set k (index-of a u v) (clear (place (compare u v) x) (getD k (index-of a u v) 0))
 
-  -- "u before v" is left
-  unfoldable pub may-before : Bool
-  may-before = has-before (compare u v) domain-of
+-- From here on nothing asks whether u < v: "u and v overlap" and "u before v", left and removed
+unfoldable pub may-overlap : Domains → ℕ → ℕ → ℕ → Bool
+may-overlap k a u v = left k 0 a u v
 
-  -- "Striking removes words": overlap, and u before v
-  unfoldable pub remove-overlap : Domains
-  remove-overlap = set k (index-of a u v) (without-overlap (compare u v) domain-of)
+unfoldable pub may-before : Domains → ℕ → ℕ → ℕ → Bool
+may-before k a u v = left k 1 a u v
 
-  unfoldable pub remove-before : Domains
-  remove-before = set k (index-of a u v) (without-before (compare u v) domain-of)
+unfoldable pub remove-overlap : Domains → ℕ → ℕ → ℕ → Domains
+remove-overlap k a u v = struck k 0 a u v
+
+unfoldable pub remove-before : Domains → ℕ → ℕ → ℕ → Domains
+remove-before k a u v = struck k 1 a u v
+
+-- any relation by its number (2 is 1 of v and u): whether it is removed, and the domains without it
+unfoldable pub gone : Domains → ℕ → ℕ → ℕ → ℕ → Bool
+gone k zero a u v = not (may-overlap k a u v)
+gone k (suc zero) a u v = not (may-before k a u v)
+gone k (suc (suc x)) a u v = not (may-before k a v u)
+
+unfoldable pub without : Domains → ℕ → ℕ → ℕ → ℕ → Domains
+without k zero a u v = remove-overlap k a u v
+without k (suc zero) a u v = remove-before k a u v
+without k (suc (suc x)) a u v = remove-before k a v u
 
 -- "A word is known when the other two are struck": u before v, and overlap
 unfoldable pub fixed-before : Domains → ℕ → ℕ → ℕ → Bool

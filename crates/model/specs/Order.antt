@@ -5,8 +5,8 @@ use mathlib.Core.Path.{_≡_}
 use Prim.Native.Nat.{ℕ, _<_}
 use lib.ListN.{getD, length}
 use Rattle.model.specs.Problem.{Problem}
-use Rattle.model.specs.Domains.{Domains, overlap-bit, before-bit, after-bit, may-overlap, may-before}
-use Rattle.model.specs.Rules.{asks-overlap, asks-before}
+use Rattle.model.specs.Domains.{Domains, bit, gone}
+use Rattle.model.specs.Rules.{asks}
 use Rattle.model.specs.Propagate.{Slot, propagate}
 use Rattle.model.specs.Branching.{separated, undecided}
 
@@ -30,9 +30,7 @@ pub record WellFormed (k : Domains) : Type 0 where
 
 -- the relations of the domain m are among those of j
 pub record Subdomain (m j : ℕ) : Type 0 where
-  pub overlap-in : overlap-bit m ≡ true → overlap-bit j ≡ true
-  pub before-in : before-bit m ≡ true → before-bit j ≡ true
-  pub after-in : after-bit m ≡ true → after-bit j ≡ true
+  pub bits : (y : ℕ) → bit y m ≡ true → bit y j ≡ true
 
 -- k has at most the relations of j
 infix 20 _⊑_
@@ -47,8 +45,7 @@ pub record Between (p : Problem) (k j : Domains) : Type 0 where
 
 -- "until nothing more can be struck": no rule asks for a relation that is left
 pub record AtRest (p : Problem) (k : Domains) : Type 0 where
-  pub no-before : (a u v : ℕ) → Proper (p .items) a u v → asks-before p k a u v ≡ true → may-before k a u v ≡ false
-  pub no-overlap : (a u v : ℕ) → Proper (p .items) a u v → asks-overlap p k a u v ≡ true → may-overlap k a u v ≡ false
+  pub done : (x a u v : ℕ) → x < 3 → Proper (p .items) a u v → asks p k x a u v ≡ true → gone k x a u v ≡ true
 
 -- a place to branch: a pair of the problem with no fixed "before", on an axis with more than one relation left
 pub record Fork (p : Problem) (k : Domains) (c : Slot) : Type 0 where

@@ -4,10 +4,10 @@
 use mathlib.Core.Bool.{true}
 use mathlib.Core.List.{List, [], _∷_}
 use mathlib.Core.Path.{_≡_}
-use Prim.Native.Nat.{ℕ}
+use Prim.Native.Nat.{ℕ, _<_}
 use Rattle.model.specs.Problem.{Problem}
-use Rattle.model.specs.Domains.{Domains, may-overlap, remove-overlap, remove-before}
-use Rattle.model.specs.Rules.{asks-overlap, asks-before}
+use Rattle.model.specs.Domains.{Domains, may-overlap, without}
+use Rattle.model.specs.Rules.{asks}
 use Rattle.model.specs.Branching.{opening-domains, choice, Branch, branch-at, path-domains}
 use Rattle.model.specs.Order.{Proper}
 
@@ -15,10 +15,8 @@ use Rattle.model.specs.Order.{Proper}
 -- at a time, in any order, each asked for by a rule when it is removed. `AtRest` is the end of it
 pub data Removed (p : Problem) (k : Domains) : Domains → Type 0 where
   untouched : Removed p k k
-  then-before : {j : Domains} → Removed p k j → (a u v : ℕ) → Proper (p .items) a u v
-      → asks-before p j a u v ≡ true → Removed p k (remove-before j a u v)
-  then-overlap : {j : Domains} → Removed p k j → (a u v : ℕ) → Proper (p .items) a u v
-      → asks-overlap p j a u v ≡ true → Removed p k (remove-overlap j a u v)
+  then : {j : Domains} → Removed p k j → (x a u v : ℕ) → x < 3 → Proper (p .items) a u v
+      → asks p j x a u v ≡ true → Removed p k (without j x a u v)
 
 -- the relations that the branch b removes where the search stands at k, removed from j
 unfoldable pub branch-removals : Domains → Branch → Domains → Domains

@@ -1,4 +1,4 @@
--- The five rules (document 01, "Knowledge and striking"), each seen from the relation that it removes.
+-- The five rules (document 01, "Knowledge and striking") as tests, for computing: the clauses of specs/Clauses, each seen from the relation that it removes.
 -- "These hold for distinct pieces": nothing is removed of an item and itself, so that items in a premise differ.
 use mathlib.Core.Bool.{Bool, true, false, not, _&&_, _||_}
 use mathlib.Core.List.{List, [], _∷_}
@@ -76,3 +76,9 @@ asks-overlap p k a u v = rule1 p k a u v || (rule2 p k a u v || rule2 p k a v u)
 -- some rule asks to remove "u before v"
 unfoldable pub asks-before : Problem → Domains → ℕ → ℕ → ℕ → Bool
 asks-before p k a u v = rule2 p k a v u || (rule3 p k a u v || (rule4 p k a u v || rule5 p k a u v))
+
+-- some rule asks to remove the relation x
+unfoldable pub asks : Problem → Domains → ℕ → ℕ → ℕ → ℕ → Bool
+asks p k zero a u v = asks-overlap p k a u v
+asks p k (suc zero) a u v = asks-before p k a u v
+asks p k (suc (suc x)) a u v = asks-before p k a v u

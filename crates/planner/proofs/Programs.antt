@@ -13,8 +13,8 @@ use Rattle.instance.proofs.Sheets.{valid-says}
 use Rattle.instance.proofs.RoundTrips.{read-valid}
 use Rattle.instance.proofs.Readings.{was-read, was-refused}
 use Rattle.search.specs.Results.{search-result}
-use Rattle.search.specs.declared.Answer.the-variants as S
-use Rattle.search.specs.declared.SearchResult.{SearchResult}
+use Rattle.search.specs.declared.results.Answer.the-variants as S
+use Rattle.search.specs.declared.results.SearchResult.{SearchResult}
 use Rattle.report.specs.Text.{packed-text, infeasible-text, spent-text, refused-text}
 use Rattle.planner.specs.Program.{result-text, program-text}
 

@@ -6,9 +6,9 @@ use Rattle.instance.specs.declared.Instance.{Instance}
 use Rattle.instance.specs.declared.Packing.{Packing}
 use Rattle.instance.specs.Sheets.{decode}
 use Rattle.instance.specs.Values.{opening-checkpoint}
-use Rattle.search.specs.declared.Answer.{Answer}
-use Rattle.search.specs.declared.Answer.the-variants.{Packed, Infeasible, BudgetSpent, Refused}
-use Rattle.search.specs.declared.SearchResult.{SearchResult}
+use Rattle.search.specs.declared.results.Answer.{Answer}
+use Rattle.search.specs.declared.results.Answer.the-variants.{Packed, Infeasible, BudgetSpent, Refused}
+use Rattle.search.specs.declared.results.SearchResult.{SearchResult}
 use Rattle.search.specs.Results.{search-result}
 use Rattle.report.specs.Text.{packed-text, infeasible-text, spent-text, refused-text}
 

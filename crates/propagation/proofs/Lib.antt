@@ -1,6 +1,3 @@
-pub mod Cuts
-pub mod Directions
-pub mod Shapes
-pub mod Rest
-pub mod Rounds
-pub mod Updates
+pub mod Pending
+pub mod Working
+pub mod Settling

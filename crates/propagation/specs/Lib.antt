@@ -1,3 +1,2 @@
-pub mod Shape
 pub mod Propagated
-pub mod Chains
+pub mod Events

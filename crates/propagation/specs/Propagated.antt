@@ -1,93 +1,55 @@
--- What propagation in code comes to: domains with their rows, tables and queue, before it and after.
-use mathlib.Core.Bool.{Bool, true, false, _&&_}
-use mathlib.Core.List.{List}
+-- What propagation in code comes to: domains with their rows, queue and totals, before it and after.
+use mathlib.Core.Bool.{Bool, true, false}
+use mathlib.Core.List.{List, [], _∷_}
 use mathlib.Core.Logic.{_⊎_}
 use mathlib.Core.Path.{_≡_}
-use Prim.Native.Nat.{ℕ, zero, suc, _+_, _/_, _%_, _≤_, _<_}
-use lib.Dec.{ltb}
-use lib.ListN.{getD, length}
-use Rattle.model.specs.Below.{some-below}
-use Rattle.model.specs.Problem as M
+use Prim.Native.Nat.{ℕ, _≤_, _<_}
+use Rattle.model.specs.Problem.{Problem}
 use Rattle.model.specs.Domains.{Domains}
-use Rattle.model.specs.Propagate.{propagate}
+use Rattle.model.specs.Rules.{greatest-ending}
+use Rattle.model.specs.Propagate as M
 use Rattle.model.specs.Branching.{inconsistent}
-use Rattle.model.specs.Order.{Proper, WellFormed}
-use Rattle.rows.specs.Rows.{gone, Mirror}
-use Rattle.rows.specs.Claims.{nothing, Holds}
-use Rattle.rows.specs.Queue.{In, Queued, Good}
-use Rattle.events.specs.Clauses.{of, Obeyed}
-use Rattle.settle.specs.Pending.{Pending}
-use Rattle.tables.specs.Totals.{at, Linked, Direction, Totals, Closed, Within}
-use Rattle.tables.specs.Cuts.{Table, exceeds}
-use Rattle.propagation.specs.Shape.{shape-problem}
+use Rattle.model.specs.Claims.{Claim, Holds}
+use Rattle.model.specs.Clauses.{Rule, AllHold, Obeyed}
+use Rattle.model.specs.Toward.{Under, ClosedBut, NoPair, Closed}
+use Rattle.domains.specs.Rows.{Laid}
+use Rattle.domains.specs.Queue.{end, Queued, Good}
+use Rattle.chains.specs.Totals.{table, Tabled, Measured}
 
--- r tells whether the propagation of k is inconsistent; where it is not, j is that propagation
-pub record Propagated (p : M.Problem) (k j : Domains) (r : Bool) : Type 0 where
-  pub verdict : r ≡ inconsistent p (propagate p k)
-  pub ends : r ≡ false → j ≡ propagate p k
-  pub well-formed : WellFormed j
+-- one of the claims is of a pair on the queue
+abbrev pub SomeQueued : List ℕ → ℕ → ℕ → List Claim → Type 0
+SomeQueued q from to [] = ⊥
+SomeQueued q from to (c ∷ cs) = Queued q from to (c .axis) (c .u) (c .v) ⊎ SomeQueued q from to cs
 
--- the item i % 10 of n is above the container's measure on the axis i / 10
-abbrev pub large-at : ℕ → List ℕ → List ℕ → ℕ → Bool
-large-at n sizes capacity i = ltb (i % 10) n && ltb (getD capacity (i / 10) 0) (getD sizes i 0)
+-- a rule that still asks for something has a premise on the queue
+abbrev pub Pending : Domains → List ℕ → ℕ → Type 0
+Pending k q from = (ps : List Claim) (c : Claim) → Rule 10 ps c → AllHold k ps → Holds k c ⊎ SomeQueued q from (end q) ps
 
-unfoldable pub has-large : ℕ → List ℕ → List ℕ → Bool
-has-large n sizes capacity = some-below 30 (large-at n sizes capacity)
+-- domains of a problem with all that is still to be done on the queue, from its start on
+pub record Ready (p : Problem) (k : Domains) (rows q t : List ℕ) : Type 0 where
+  pub good : Good k rows q
+  pub tabled : Tabled t
+  pub measured : Measured p t
+  pub pending : Pending k q 1
+  pub under : Under p (table t) k
+  pub closed : ClosedBut (λ x. Queued q 1 (end q)) NoPair p k (table t)
 
--- the arrays of n ≤ 10 items
-pub record Arrays (n : ℕ) (sizes capacity : List ℕ) : Type 0 where
-  pub limited : n ≤ 10
-  pub sizes-long : length sizes ≡ 30
-  pub sizes-small : (i : ℕ) → getD sizes i 0 ≤ 65535
-  pub capacity-long : length capacity ≡ 3
+-- domains at rest, consistent, with totals that are those of their greatest chains: what a snapshot keeps
+pub record Rested (p : Problem) (k : Domains) (rows t : List ℕ) : Type 0 where
+  pub laid : Laid k rows
+  pub tabled : Tabled t
+  pub measured : Measured p t
+  pub obeyed : Obeyed 10 k
+  pub under : Under p (table t) k
+  pub closed : Closed p k (table t)
+  pub exact : (a u : ℕ) → a < 3 → u < p .items → table t 2 a u ≡ greatest-ending p k a u
 
--- the table of the chains starting in an item (1), or ending in it (2)
-abbrev pub table : ℕ → List ℕ → List ℕ → List ℕ
-table zero ends starts = starts
-table (suc zero) ends starts = starts
-table (suc (suc x)) ends starts = ends
+-- propagation ends in j, consistent; or what it ends in is inconsistent
+pub record Propagated (p : Problem) (k j : Domains) (rows t : List ℕ) : Type 0 where
+  pub is : j ≡ M.propagate p k
+  pub consistent : inconsistent p j ≡ false
+  pub rested : Rested p j rows t
 
-module _ (p : M.Problem) where
-  -- the chains around "u before v" are together longer than the container
-  abbrev pub too-long : List ℕ → List ℕ → ℕ → ℕ → ℕ → Bool
-  too-long ends starts a u v = exceeds (p .capacity a) ends starts a u v
-
-  -- what the tables say of k: totals of chains in it; they go on along every link, but for pairs on the queue; and what they find too long is removed, but for the
-  -- items of `fresh`
-  pub record Tabled (k : Domains) (ends starts q : List ℕ) (from to fresh : ℕ) : Type 0 where
-    pub bounded : (x : ℕ) → Direction x → Table (table x ends starts)
-    pub totals : (x a : ℕ) → Direction x → a < 3 → Totals (p .items) x a p k (table x ends starts)
-    pub closed : (x a v z : ℕ) → Direction x → Proper (p .items) a v z → Linked x k a v z
-        → (at (table x ends starts) a v + p .size a z ≤ at (table x ends starts) a z) ⊎ Queued q from to a v z
-    pub fits : (a u v : ℕ) → Proper (p .items) a u v → too-long ends starts a u v ≡ true → (gone k 1 a u v ≡ true) ⊎ In fresh u
-
-  -- domains to propagate: what changed is on the queue
-  pub record Ready (k : Domains) (rows ends starts q : List ℕ) (top fresh : ℕ) : Type 0 where
-    pub good : Good (p .items) k rows q top
-    pub small : fresh < 1024
-    pub within : Within (p .items) fresh
-    pub pending : Pending (p .items) k q 0 top
-    pub tabled : Tabled k ends starts q 0 top fresh
-
-  -- domains at rest, with nothing empty
-  pub record Kept (k : Domains) (rows ends starts : List ℕ) : Type 0 where
-    pub well-formed : WellFormed k
-    pub mirror : Mirror (p .items) k rows
-    pub obeyed : Obeyed (p .items) k
-    pub filled : (a u v : ℕ) → Proper (p .items) a u v → Holds k (of nothing a u v) → ⊥
-    pub bounded : (x : ℕ) → Direction x → Table (table x ends starts)
-    pub totals : (x a : ℕ) → Direction x → a < 3 → Totals (p .items) x a p k (table x ends starts)
-    pub closed : (x a : ℕ) → Direction x → a < 3 → Closed (p .items) x a p k (table x ends starts)
-    pub fits : (a u v : ℕ) → Proper (p .items) a u v → too-long ends starts a u v ≡ true → gone k 1 a u v ≡ true
-
--- so for some precedences
-pub record Readied (n : ℕ) (sizes capacity : List ℕ) (k : Domains) (rows ends starts q : List ℕ) (top fresh : ℕ) : Type 0 where
-  pub arrays : Arrays n sizes capacity
-  pub whole : has-large n sizes capacity ≡ false
-  pub precedences : List M.Precedence
-  pub ready : Ready (shape-problem n sizes capacity precedences) k rows ends starts q top fresh
-
--- propagation of what is ready: its verdict and, where that is consistent, what is kept
-pub record Answered (p : M.Problem) (k j : Domains) (rows ends starts : List ℕ) (r : Bool) : Type 0 where
-  pub propagated : Propagated p k j r
-  pub kept : r ≡ false → Kept p j rows ends starts
+abbrev pub Answered : Problem → Domains → Domains → List ℕ → List ℕ → Bool → Type 0
+Answered p k j rows t true = Propagated p k j rows t
+Answered p k j rows t false = inconsistent p (M.propagate p k) ≡ true

@@ -25,12 +25,12 @@ use Rattle.instance.specs.Values.{opening-checkpoint, origin-packing}
 use Rattle.instance.specs.declared.Checkpoint.{Checkpoint}
 use Rattle.instance.specs.declared.Instance.{Instance}
 use Rattle.search.specs.Calls.{values}
-use Rattle.replay.specs.Checkpoints.{checkpoint-of, well-formed, following, Following, branches-of, value-of}
+use Rattle.search.specs.Checkpoints.{checkpoint-of, well-formed, following, Following, branches-of, value-of}
 use Rattle.search.specs.Results.{answer-number, answer-of, packing-with, result-of, refused, result-if, search-result, SearchFault, nine, ten}
-use Rattle.search.specs.declared.SearchResult.{SearchResult}
-use Rattle.replay.proofs.Checkpoints.{Short, checkpoint-back, value-well-formed}
+use Rattle.search.specs.declared.results.SearchResult.{SearchResult}
+use Rattle.search.proofs.Checkpoints.{Short, checkpoint-back, value-well-formed}
 use Rattle.search.proofs.Packing.{packing-back, feasible-same}
-use Rattle.replay.proofs.Sound.{valid-sound}
+use Rattle.nodes.proofs.Sound.{valid-sound}
 
 -- the value of the opening checkpoint
 pub opening-value : value-of S.opening ≡ opening-checkpoint

@@ -1,57 +1,43 @@
 -- The packing of a complete path.
-use mathlib.Core.Bool.{false}
 use mathlib.Core.List.{List}
-use mathlib.Core.Path.{_≡_, ap, _∙_}
-use Prim.Native.Nat.{ℕ, _-_, _<_}
+use mathlib.Core.Path.{_≡_, sym, ap₂, _∙_}
+use Prim.Native.Nat.{ℕ, _-_, _≤_, _<_}
 use native.Mathlib.Omega.{arith}
 use lib.ListN.{length}
 use Rattle.model.proofs.Chains.{greatest-ending-size}
-use Rattle.model.proofs.Packed.{starts-inside}
-use Rattle.model.proofs.Search.{look-complete}
-use Rattle.model.specs.Branching.{Branch, inconsistent, starts, plan}
+use Rattle.model.proofs.Wide.{wide-size, wide-ending}
+use Rattle.model.specs.Branching.{Branch, starts, plan}
 use Rattle.model.specs.Domains.{Domains}
-use Rattle.model.specs.Order.{AtRest}
-use Rattle.model.specs.Problem.{Problem, Precedence}
+use Rattle.model.specs.Problem.{Problem}
+use Rattle.model.specs.Relations.{Untouched}
+use Rattle.model.specs.Rules.{greatest-ending}
+use Rattle.model.specs.Wide.{wide}
 use Rattle.instance.specs.declared.Packing.{Packing}
-use Rattle.propagation.proofs.Rest.{kept-ends, kept-rests}
-use Rattle.propagation.proofs.Shapes.{capacity-at-is}
-use Rattle.propagation.specs.Propagated as D
-use Rattle.propagation.specs.Shape.{shape-problem, size-at}
-use Rattle.domains.specs.Starts.{start-at, Startable, Started}
-use Rattle.replay.specs.Standing.{Looked}
-use Rattle.replay.specs.declared.Outlook.the-variants.{Complete}
 use Rattle.search.specs.Results.{packing-of}
+use Rattle.nodes.specs.Nodes.{Seen}
+use Rattle.nodes.specs.Starts.{start-at, Startable, Started}
+use Rattle.chains.specs.Totals.{table, size-at}
 use Rattle.search.proofs.Packing.{plan-is}
 
-module _ (n : ℕ) (sizes capacity : List ℕ) (os : List Precedence) (path : List Branch) where
-  abbrev p : Problem
-  p = shape-problem n sizes capacity os
+-- the totals of a path's domains give its packing
+module _ (p : Problem) (limited : p .items ≤ 10) (path : List Branch) {k : Domains} {rows t : List ℕ} (s : Seen p k rows t path) where
+  size-is : (a u : ℕ) → a < 3 → u < p .items → size-at t a u ≡ p .size a u
+  unfolding wide
+  size-is a u ha hu = sym (s .rested .measured .size a u ha (omega arith)) ∙ wide-size p a u hu
 
-  -- the table of a complete path gives its packing
-  module _ (arrays : D.Arrays n sizes capacity) {k : Domains} {rows ends begins : List ℕ} (l : Looked p path k rows ends begins Complete) where
-    start-is : (a u : ℕ) → a < 3 → u < n → start-at ends sizes a u ≡ starts p k a u
-    unfolding starts
-    start-is a u ha hu = ap (λ (x : ℕ). x - size-at sizes a u) (kept-ends n sizes capacity os arrays (l .2) a u ha hu)
+  total-is : (a u : ℕ) → a < 3 → u < p .items → table t 2 a u ≡ greatest-ending (wide p) k a u
+  unfolding wide
+  total-is a u ha hu = s .rested .exact a u ha (omega arith)
 
-    pub startable : Startable n sizes capacity ends
-    startable = record {
-      limited = arrays .limited;
-      all = λ a u ha hu. record {
-        ends-long = l .2 .bounded 2 (record { least = omega arith; most = omega arith }) .long;
-        sizes-long = arrays .sizes-long;
-        capacity-long = arrays .capacity-long;
-        axis = ha;
-        item = omega (arith, arrays .limited);
-        whole = omega (arith, kept-ends n sizes capacity os arrays (l .2) a u ha hu, greatest-ending-size p k a u);
-        fits = omega (arith, start-is a u ha hu, starts-inside p k rests consistent a u ha hu, capacity-at-is capacity a ha);
-      };
-    }
-      where
-        rests : AtRest p k
-        rests = kept-rests n sizes capacity os arrays (l .2)
+  pub startable : Startable (p .items) t
+  startable = record {
+    limited = limited;
+    long = s .rested .tabled .long;
+    whole = λ a u ha hu. omega (arith, total-is a u ha hu, size-is a u ha hu, wide-size p a u hu, greatest-ending-size (wide p) k a u);
+  }
 
-        consistent : inconsistent p k ≡ false
-        consistent = rw (l .1) (look-complete p path (l .0) .0)
-
-    pub started-plan : {q : Packing} → Started n sizes ends q → length (q .positions) ≡ 10 → q ≡ packing-of p (plan p path)
-    started-plan {q} s long = plan-is p path k (l .1) q long (λ a u ha hu. s .placed a u ha hu ∙ start-is a u ha hu) (s .past)
+  pub started-plan : Untouched (p .items) k → {q : Packing} → Started (p .items) t q → length (q .positions) ≡ 10 → q ≡ packing-of p (plan p path)
+  started-plan plain {q} r long = plan-is p path k (s .is) q long (λ a u ha hu. r .placed a u ha hu ∙ start-is a u ha hu) (r .past)
+    where
+      start-is : (a u : ℕ) → a < 3 → u < p .items → start-at t a u ≡ starts p k a u
+      start-is a u ha hu = unfold starts in ap₂ _-_ (total-is a u ha hu ∙ wide-ending p limited k plain a u ha hu) (size-is a u ha hu)

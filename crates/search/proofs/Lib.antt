@@ -1,6 +1,9 @@
+pub mod Checkpoints
 pub mod Budget
 pub mod Packing
 pub mod Outcome
-pub mod Complete
-pub mod Going
 pub mod Claim
+pub mod Seeing
+pub mod Standing
+pub mod Stepping
+pub mod Complete

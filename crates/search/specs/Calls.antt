@@ -10,7 +10,7 @@ use Rattle.instance.specs.Values.{opening-checkpoint, origin-packing}
 use Rattle.instance.specs.declared.Checkpoint.{Checkpoint}
 use Rattle.instance.specs.declared.Instance.{Instance}
 use Rattle.instance.specs.declared.Packing.{Packing}
-use Rattle.replay.specs.Checkpoints.{value-of}
+use Rattle.search.specs.Checkpoints.{value-of}
 use Rattle.search.specs.Results.{answer-number, packing-of, search-result}
 
 -- what `Instance::opening` and `search::search` return

@@ -1,2 +1,4 @@
+pub mod Checkpoints
 pub mod Results
 pub mod Calls
+pub mod Standing

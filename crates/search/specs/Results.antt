@@ -19,10 +19,10 @@ use Rattle.instance.specs.declared.Instance.{Instance}
 use Rattle.instance.specs.declared.Packing.{Packing}
 use Rattle.instance.specs.declared.Position.{Position}
 use Rattle.instance.specs.declared.Status.the-variants as Status
-use Rattle.replay.specs.Checkpoints.{checkpoint-of, following, Following, value-of}
-use Rattle.search.specs.declared.Answer.{Answer}
-use Rattle.search.specs.declared.Answer.the-variants.{Packed, Infeasible, BudgetSpent, Refused}
-use Rattle.search.specs.declared.SearchResult.{SearchResult}
+use Rattle.search.specs.Checkpoints.{checkpoint-of, following, Following, value-of}
+use Rattle.search.specs.declared.results.Answer.{Answer}
+use Rattle.search.specs.declared.results.Answer.the-variants.{Packed, Infeasible, BudgetSpent, Refused}
+use Rattle.search.specs.declared.results.SearchResult.{SearchResult}
 
 -- "It returns 0 spent, 1 placed, 2 none, or a refusal as check does": "100 plus the number for a refusal"
 abbrev pub answer-number : Answer → ℕ

@@ -1,98 +1,156 @@
-// The search itself: the steps.
+// The path of a checkpoint gone along from the root, and then the steps of a call.
 ghost use mathlib.Core.Path.{_≡_};
 ghost use mathlib.Core.Bool.{true};
+ghost use mathlib.Core.List.{[]};
+ghost use Prim.Native.Nat.{ℕ};
+ghost use Rattle.model.specs.Problem.{Problem};
+ghost use Rattle.model.specs.Run as R;
 ghost use Rattle.model.specs.Search as S;
-ghost use Rattle.model.specs.Run.{search};
 ghost use Rattle.instance.specs.Valid.{valid};
 ghost use Rattle.instance.specs.Meaning.{problem-of};
-ghost use Rattle.replay.specs.Checkpoints.{path-of};
-ghost use Rattle.replay.specs.Standing.{Standing, Holds};
-ghost use Rattle.search.specs.Results.{result-of};
-use crate::SearchResult;
+ghost use Rattle.search.specs.Checkpoints.{Bits, path-of};
+ghost use Rattle.search.specs.Results.{followed};
+ghost use Rattle.nodes.specs.Nodes.{slot-of, slot-coded};
+use crate::outlook::Outlook;
+use crate::outlook::look;
+use crate::path;
 use crate::results;
-use domains::branch;
+use crate::results::Answer;
+use crate::results::SearchResult;
+use domains::Place;
+use domains::queue::code;
+use instance::Checkpoint;
 use instance::Instance;
-use replay::Outlook;
-use replay::Replay;
-use replay::Snapshot;
-use replay::path;
-use replay::walk::look;
+use nodes::branching::apply_branch;
+use nodes::branching::pair_number;
+use nodes::levels;
+use nodes::levels::MAX_LEVELS;
+use nodes::opening;
+use nodes::starts;
+use refusal::Refusal;
 
-// Steps from an open checkpoint, while the budget lasts.
-pub fn run(
-    instance: Instance,
-    start: Replay,
-    given: [u8; Instance::MAX_BRANCHES],
-    at: usize,
-    budget: u32,
-) -> SearchResult
-    requires { ⌜ valid instance ≡ true ⌝ }
-    requires { ⌜ Standing (problem-of instance) (start .levels) (start .domains) (start .rows) (start .ends) (start .starts) (start .queue) (start .top) (start .fresh) (path-of at given) × Holds (path-of at given) given at ⌝ }
-    ensures { λ r. ⌜ r ≡ result-of (problem-of instance) (search (problem-of instance) budget (S.open-at (path-of at given))) ⌝ }
+// The place of a number.
+fn place_of(number: u16) -> Place
+    ensures { λ r. ⌜ slot-of r ≡ slot-coded number ⌝ }
 {
-    let shape = domains::layout::shape_of(instance);
-    let n = shape.items;
-    let sizes = shape.sizes;
-    let capacity = shape.capacity;
-    let large = propagation::any_large(n, &sizes, &capacity);
-    let mut levels = start.levels;
-    let mut k = start.domains;
-    let mut rows = start.rows;
-    let mut ends = start.ends;
-    let mut starts = start.starts;
-    let mut queue = start.queue;
-    let mut top = start.top;
-    let mut fresh = start.fresh;
-    let mut branches = given;
-    let mut depth = at;
-    let mut taken: u32 = 0;
-    while taken < budget {
-        taken = taken + 1;
+    let pair = number as usize;
+    Place {
+        axis: pair / 256,
+        u: pair / 16 % 16,
+        v: pair % 16,
+    }
+}
+
+// The call where the opening domains are inconsistent.
+fn dead_end(checkpoint: Checkpoint, budget: u32) -> SearchResult
+    ensures { λ r. ⌜ ((p : Problem) → R.look p [] ≡ S.conflict → r ≡ followed p budget checkpoint (S.open-at (path-of (checkpoint .length) (checkpoint .branches)))) ⌝ }
+{
+    if checkpoint.length != 0 {
+        return results::refused(Refusal::NotFollowing, checkpoint);
+    }
+    if budget == 0 {
+        let branches = [0u8; Instance::MAX_BRANCHES];
+        return results::spent(0, branches, 0);
+    }
+    results::infeasible(1)
+}
+
+// The call on an open checkpoint: its path from the root on, a look a branch, then a look a step, while the budget lasts. `branches` has the
+// branch to take at each branching point: the path's, and past it 0, the first.
+pub fn run(instance: Instance, checkpoint: Checkpoint, budget: u32) -> SearchResult
+    requires { ⌜ valid instance ≡ true ⌝ }
+    requires { ⌜ Bits (checkpoint .length) (checkpoint .branches) ⌝ }
+    ensures { λ r. ⌜ r ≡ followed (problem-of instance) budget checkpoint (S.open-at (path-of (checkpoint .length) (checkpoint .branches))) ⌝ }
+{
+    let root = opening::root_of(instance);
+    if !root.consistent {
+        return dead_end(checkpoint, budget);
+    }
+    let given = checkpoint.branches;
+    let length = checkpoint.length;
+    let limit = length + budget as usize;
+    let mut k = root.domains;
+    let mut rows = root.rows;
+    let mut queue = root.queue;
+    let mut t = root.totals;
+    let mut kept_domains = [0u8; 135 * MAX_LEVELS];
+    let mut kept_rows = [0u32; 30 * MAX_LEVELS];
+    let mut kept_totals = [0u16; 60 * MAX_LEVELS];
+    let mut places = [0u16; MAX_LEVELS];
+    let mut kept: usize = 0;
+    let mut branches = path::path_branches(given, length);
+    let mut depth: usize = 0;
+    let mut from: usize = 0;
+    let mut looks: usize = 0;
+    while looks < limit {
+        looks = looks + 1;
         match look(
             &mut k,
             &mut rows,
-            &mut ends,
-            &mut starts,
             &mut queue,
-            top,
-            n,
-            &sizes,
-            &capacity,
-            fresh,
-            large,
+            &mut t,
+            instance.item_count,
+            from,
         ) {
             Outlook::Conflict => {
+                if looks <= length {
+                    return results::refused(Refusal::NotFollowing, checkpoint);
+                }
                 depth = path::drop_seconds(&mut branches, depth);
                 if depth == 0 {
-                    return results::infeasible(taken);
+                    return results::infeasible((looks - length) as u32);
                 }
                 branches[depth - 1] = 1;
-                let last = levels[depth - 1];
-                k = last.domains;
-                rows = last.rows;
-                ends = last.ends;
-                starts = last.starts;
-                top = branch::apply_branch(&mut k, &mut rows, &mut queue, n, last.place, true);
-                fresh = 0;
+                kept = kept - 1;
+                levels::load_domains(&kept_domains, kept, &mut k);
+                levels::load_rows(&kept_rows, kept, &mut rows);
+                levels::load_totals(&kept_totals, kept, &mut t);
+                let place = place_of(places[kept]);
+                from = pair_number(place.u, place.v);
+                apply_branch(&mut k, &mut rows, &mut queue, place, true);
             }
             Outlook::Complete => {
-                let packing = domains::starts::starts_of(&ends, n, &sizes, &capacity);
-                return results::packed(taken, branches, depth, packing);
+                if looks <= length {
+                    return results::refused(Refusal::NotFollowing, checkpoint);
+                }
+                let packing = starts::starts_of(&t, instance.item_count);
+                return results::packed((looks - length) as u32, branches, depth, packing);
             }
             Outlook::Fork(place) => {
-                levels[depth] = Snapshot {
-                    domains: k,
-                    rows,
-                    ends,
-                    starts,
-                    place,
-                };
-                branches[depth] = 0;
+                levels::save_domains(&mut kept_domains, kept, &k);
+                levels::save_rows(&mut kept_rows, kept, &rows);
+                levels::save_totals(&mut kept_totals, kept, &t);
+                places[kept] = code(place.axis, place.u, place.v);
+                let branch = branches[depth];
+                kept = kept + 1 - branch as usize;
                 depth = depth + 1;
-                top = branch::apply_branch(&mut k, &mut rows, &mut queue, n, place, false);
-                fresh = 0;
+                from = pair_number(place.u, place.v);
+                apply_branch(&mut k, &mut rows, &mut queue, place, branch != 0);
             }
         }
     }
-    results::spent(taken, branches, depth)
+    results::spent(budget, branches, depth)
+}
+
+// The call on a packed checkpoint: one step from its path, which is none of this call, must come to it again.
+pub fn repeat(instance: Instance, checkpoint: Checkpoint) -> SearchResult
+    requires { ⌜ valid instance ≡ true ⌝ }
+    requires { ⌜ Bits (checkpoint .length) (checkpoint .branches) ⌝ }
+    ensures { λ r. ⌜ ((budget : ℕ) → r ≡ followed (problem-of instance) budget checkpoint (S.packed-at (path-of (checkpoint .length) (checkpoint .branches)))) ⌝ }
+{
+    let again = run(instance, checkpoint, 1);
+    let answer = again.answer;
+    let end = again.checkpoint;
+    let packing = again.packing;
+    match answer {
+        Answer::Packed => SearchResult {
+            answer,
+            steps: 0,
+            checkpoint: end,
+            packing,
+        },
+        Answer::Infeasible => results::refused(Refusal::NotFollowing, checkpoint),
+        Answer::BudgetSpent => results::refused(Refusal::NotFollowing, checkpoint),
+        Answer::Refused(_) => results::refused(Refusal::NotFollowing, checkpoint),
+    }
 }

@@ -1,6 +1,6 @@
 -- `search::results::infeasible` meets its contract.
 use borrow.Author.Needs.{needs}
-use Rattle.replay.specs.Checkpoints.{value-of, branches-of}
+use Rattle.search.specs.Checkpoints.{value-of, branches-of}
 use Rattle.search.specs.Results.{infeasible-after}
 use Rattle.search.proofs.results.infeasible.Statement.{statement}
 use Rattle.search.proofs.results.infeasible.Tie as tie

@@ -1,0 +1,4 @@
+pub mod ChainMeasure
+pub mod Relaxing
+pub mod Cutting
+pub mod Linking

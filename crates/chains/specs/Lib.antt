@@ -1,0 +1,4 @@
+pub mod Totals
+pub mod NewLinks
+pub mod Links
+pub mod Cuts

@@ -1,0 +1,46 @@
+-- Totals of chains beside the measures they are made of, 93 numbers: at axis * 10 + item the total of the chains ending in the item, from 30 on
+-- that of those starting in it, from 60 on the item's measure; from 90 on the container's, by axis.
+use mathlib.Core.List.{List}
+use mathlib.Core.Path.{_≡_}
+use Prim.Native.Nat.{ℕ, zero, suc, _+_, _*_, _≤_, _<_}
+use lib.ListN.{getD, length}
+use Rattle.model.specs.Problem.{Problem}
+use Rattle.model.specs.Domains.{Domains}
+use Rattle.model.specs.Toward.{Goal, Direction, Under}
+
+-- where the table of a direction starts: 1 of the chains starting in an item, 2 of those ending in it
+abbrev pub own : ℕ → ℕ
+own zero = 30
+own (suc zero) = 30
+own (suc (suc x)) = 0
+
+abbrev pub table : List ℕ → ℕ → ℕ → ℕ → ℕ
+table t x a u = getD t (own x + a * 10 + u) 0
+
+abbrev pub size-at : List ℕ → ℕ → ℕ → ℕ
+size-at t a u = getD t (60 + a * 10 + u) 0
+
+abbrev pub capacity-at : List ℕ → ℕ → ℕ
+capacity-at t a = getD t (90 + a) 0
+
+-- 93 numbers of 16 bits, no total above the container
+pub record Tabled (t : List ℕ) : Type 0 where
+  pub long : length t ≡ 93
+  pub small : (i : ℕ) → getD t i 0 < 65536
+  pub within : (x a u : ℕ) → Direction x → a < 3 → u < 10 → table t x a u ≤ capacity-at t a
+
+-- the measures are those of the problem, which has ten items: an instance of fewer has items of measure 0 past its own
+pub record Measured (p : Problem) (t : List ℕ) : Type 0 where
+  pub ten : p .items ≡ 10
+  pub capacity : (a : ℕ) → a < 3 → p .capacity a ≡ capacity-at t a
+  pub size : (a u : ℕ) → a < 3 → u < p .items → p .size a u ≡ size-at t a u
+
+-- totals at most change, the measures stay
+pub record SameMeasures (t s : List ℕ) : Type 0 where
+  pub long : length s ≡ length t
+  pub kept : (i : ℕ) → 60 ≤ i → getD s i 0 ≡ getD t i 0
+
+-- domains that propagation may end in, and whose chains are at least as long as the totals
+pub record Fitting (p : Problem) (t : List ℕ) (f : Domains) : Type 0 where
+  pub goal : Goal p f
+  pub under : Under p (table t) f

@@ -1,0 +1,119 @@
+// Rule 5: what the totals find too long is removed.
+ghost use mathlib.Core.Path.{_≡_};
+ghost use mathlib.Core.Bool.{false, not, _&&_};
+ghost use Prim.Native.Nat.{_+_, _<_, _≤_, _^_};
+ghost use lib.Dec.{eqb, ltb};
+ghost use lib.ListN.{getD, length};
+ghost use Rattle.model.specs.Toward.{Direction};
+ghost use Rattle.domains.specs.Bits.{bit-at, Gives};
+ghost use Rattle.domains.specs.Queue.{Good};
+ghost use Rattle.domains.specs.Narrowed.{Outcome, Each};
+ghost use Rattle.chains.specs.Totals.{Tabled};
+ghost use Rattle.chains.specs.Cuts.{above-both, Comparable, EachAsked, Roomy, CutOf};
+use crate::totals::CAPACITY;
+use crate::totals::STARTS;
+use domains::Line;
+use domains::bits::ITEMS;
+use domains::bits::bit;
+use domains::bits::emptied;
+use domains::bits::lowest;
+use domains::bits::rest;
+use domains::queue::MAX_QUEUE;
+use domains::removal::remove_items;
+
+// Of the ten totals from a place on, those above a limit.
+fn above(t: &[u16; 93], at: usize, limit: u16) -> u32
+    requires { ⌜ (length (now t) ≡ 93) × (at + 10 ≤ 93) ⌝ }
+    ensures { λ r. ⌜ Gives 10 r (λ v. ltb limit (getD (now (t .entry)) (at + v) 0)) ⌝ }
+{
+    let mut found: u16 = 0;
+    let mut v: usize = 0;
+    while v < 10 {
+        if t[at + v] > limit {
+            found = found | 1u16 << v as u16;
+        }
+        v = v + 1;
+    }
+    found as u32
+}
+
+// The items with which u is too long, by its total at `own` and theirs at `other`.
+pub fn too_long(t: &[u16; 93], own: usize, other: usize, a: usize, u: usize) -> u32
+    requires { ⌜ Comparable (now t) own other a u ⌝ }
+    ensures { λ r. ⌜ Gives 10 r (λ v. above-both (now (t .entry)) own other a u v && not (eqb v u)) ⌝ }
+{
+    let limit = t[CAPACITY + a] - t[own + a * 10 + u];
+    above(t, other + a * 10, limit) & (bit(u) ^ ITEMS)
+}
+
+// An order of u, 1 or 2, is removed with the items of a set, with which it is left.
+fn cut_item(
+    k: &mut [u8; 135],
+    rows: &mut [u32; 30],
+    queue: &mut [u16; MAX_QUEUE],
+    x: usize,
+    line: Line,
+    items: u32,
+) -> bool
+    requires { ⌜ Good (now k) (now rows) (now queue) × Direction x × (line .axis < 3) × (line .item < 10) × (items < 2 ^ 10) × (bit-at items (line .item) ≡ false) ⌝ }
+    ensures { λ b. ⌜ Outcome (EachAsked x (line .axis) (line .item) items) (Each x (line .axis) (line .item) items) (now (k .entry)) (now (queue .entry)) (now (k .exit)) (now (rows .exit)) (now (queue .exit)) b ⌝ }
+{
+    let row = rows[line.axis * 10 + line.item];
+    let left = items & (row >> (x * 10) as u32 ^ ITEMS);
+    if left == 0 {
+        return true;
+    }
+    if emptied(row | left << (x * 10) as u32) != 0 {
+        return false;
+    }
+    remove_items(k, rows, queue, x, line, left);
+    true
+}
+
+// For items whose chains ending in them have grown: "u before v" is removed where they are too long together with those starting in v.
+pub fn cut_ends(
+    k: &mut [u8; 135],
+    rows: &mut [u32; 30],
+    queue: &mut [u16; MAX_QUEUE],
+    t: &[u16; 93],
+    a: usize,
+    grown: u32,
+) -> bool
+    requires { ⌜ Good (now k) (now rows) (now queue) × Tabled (now t) × (a < 3) × (grown < 2 ^ 10) ⌝ }
+    ensures { λ b. ⌜ Outcome (Roomy (now (t .entry)) 1 a) (CutOf (now (t .entry)) 1 a grown) (now (k .entry)) (now (queue .entry)) (now (k .exit)) (now (rows .exit)) (now (queue .exit)) b ⌝ }
+{
+    let mut left = grown;
+    while left != 0 {
+        let u = lowest(left);
+        left = rest(left);
+        let line = Line { axis: a, item: u };
+        if !cut_item(k, rows, queue, 1, line, too_long(t, 0, STARTS, a, u)) {
+            return false;
+        }
+    }
+    true
+}
+
+// The same for those whose chains starting in them have grown.
+pub fn cut_starts(
+    k: &mut [u8; 135],
+    rows: &mut [u32; 30],
+    queue: &mut [u16; MAX_QUEUE],
+    t: &[u16; 93],
+    a: usize,
+    grown: u32,
+) -> bool
+    requires { ⌜ Good (now k) (now rows) (now queue) × Tabled (now t) × (a < 3) × (grown < 2 ^ 10) ⌝ }
+    ensures { λ b. ⌜ Outcome (Roomy (now (t .entry)) 2 a) (CutOf (now (t .entry)) 2 a grown) (now (k .entry)) (now (queue .entry)) (now (k .exit)) (now (rows .exit)) (now (queue .exit)) b ⌝ }
+{
+    let mut left = grown;
+    while left != 0 {
+        let v = lowest(left);
+        left = rest(left);
+        let line = Line { axis: a, item: v };
+        if !cut_item(k, rows, queue, 2, line, too_long(t, STARTS, 0, a, v)) {
+            return false;
+        }
+    }
+    true
+}

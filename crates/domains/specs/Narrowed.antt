@@ -1,0 +1,74 @@
+-- What every function that removes relations promises: only what was asked for is gone, and this is done. One record for all of them.
+use mathlib.Core.Bool.{Bool, true, false}
+use mathlib.Core.List.{List}
+use mathlib.Core.Logic.{_⊎_, _≢_}
+use mathlib.Core.Path.{_≡_}
+use Prim.Native.Nat.{ℕ, _+_, _*_, _^_, _≤_, _<_}
+use lib.ListN.{getD}
+use Rattle.model.specs.Domains.{Domains}
+use Rattle.model.specs.Order.{Proper, _⊑_}
+use Rattle.model.specs.Relations.{gone, Filled}
+use Rattle.model.specs.Claims.{Claim, Holds}
+use Rattle.domains.specs.Bits.{bit-at}
+use Rattle.domains.specs.Queue.{end, Queued, Good, Long}
+
+-- from k to j relations are only removed, and each pair of which one is removed goes on the queue
+pub record Grown (k : Domains) (q : List ℕ) (j : Domains) (rows r : List ℕ) : Type 0 where
+  pub good : Good j rows r
+  pub less : j ⊑ k
+  pub up : end q ≤ end r
+  pub old : (i : ℕ) → 1 ≤ i → i < end q → getD r i 0 ≡ getD q i 0
+  pub new : (c : Claim) → Proper 10 (c .axis) (c .u) (c .v) → Holds j c → Holds k c ⊎ Queued r (end q) (end r) (c .axis) (c .u) (c .v)
+
+-- narrowed: no domains of G below k have lost anything, and D is done
+pub record Narrowed (G D : Domains → Type 0) (k : Domains) (q : List ℕ) (j : Domains) (rows r : List ℕ) : Type 0 where
+  pub grown : Grown k q j rows r
+  pub low : (f : Domains) → G f → f ⊑ k → f ⊑ j
+  pub done : D j
+
+-- there are no domains of G below k
+abbrev pub Refuted : (Domains → Type 0) → Domains → Type 0
+Refuted G k = (f : Domains) → G f → f ⊑ k → ⊥
+
+-- a function answers true where it has narrowed, and false where there is nothing to be had
+abbrev pub Outcome : (Domains → Type 0) → (Domains → Type 0) → Domains → List ℕ → Domains → List ℕ → List ℕ → Bool → Type 0
+Outcome G D k q j rows r true = Narrowed G D k q j rows r
+Outcome G D k q j rows r false = Long j rows r × Refuted G k
+
+-- a relation is removed
+abbrev pub One : ℕ → ℕ → ℕ → ℕ → Domains → Type 0
+One x a u v f = gone f x a u v ≡ true
+
+-- it is left, and so is another of the pair
+pub record Spare (k : Domains) (x a u v : ℕ) : Type 0 where
+  pub left : gone k x a u v ≡ false
+  pub other : (y : ℕ) × (y < 3) × (y ≢ x) × (gone k y a u v ≡ false)
+
+-- a relation of u is removed with each item of a set
+abbrev pub Each : ℕ → ℕ → ℕ → ℕ → Domains → Type 0
+Each x a u items f = (v : ℕ) → v < 10 → bit-at items v ≡ true → gone f x a u v ≡ true
+
+-- items with which it can be: others than u
+pub record Spares (k : Domains) (x a u items : ℕ) : Type 0 where
+  pub small : items < 2 ^ 10
+  pub spare : (v : ℕ) → v < 10 → bit-at items v ≡ true → (v ≢ u) × Spare k x a u v
+
+-- all that stands in a set, as in the row of u, is removed
+abbrev pub All : ℕ → ℕ → ℕ → Domains → Type 0
+All a u s f = (x v : ℕ) → x < 3 → v < 10 → bit-at s (x * 10 + v) ≡ true → gone f x a u v ≡ true
+
+-- .. and every pair has a relation left
+pub record Asked (a u s : ℕ) (f : Domains) : Type 0 where
+  pub all : All a u s f
+  pub filled : Filled f
+
+-- a set as in the row of u, with nothing of u itself
+pub record Askable (a u s : ℕ) : Type 0 where
+  pub axis : a < 3
+  pub item : u < 10
+  pub small : s < 2 ^ 30
+  pub other : (x : ℕ) → x < 3 → bit-at s (x * 10 + u) ≡ false
+
+-- all of it is left
+abbrev pub Left : Domains → ℕ → ℕ → ℕ → Type 0
+Left k a u s = (x v : ℕ) → x < 3 → v < 10 → bit-at s (x * 10 + v) ≡ true → gone k x a u v ≡ false

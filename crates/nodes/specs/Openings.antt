@@ -1,0 +1,39 @@
+-- The opening domains by removals.
+use mathlib.Core.Bool.{Bool, true, false}
+use mathlib.Core.List.{List}
+use mathlib.Core.Path.{_≡_}
+use Prim.Native.Nat.{ℕ, _+_, _≤_, _<_}
+use Rattle.model.specs.Problem.{Precedence}
+use Rattle.model.specs.Domains.{Domains}
+use Rattle.model.specs.Order.{Proper}
+use Rattle.model.specs.Branching.{fix-precedences}
+use Rattle.model.specs.Relations.{gone, Filled, Untouched}
+use Rattle.model.specs.Toward.{Direction}
+use Rattle.domains.specs.Queue.{Long}
+use Rattle.domains.specs.Narrowed.{Grown}
+use Rattle.chains.specs.Totals.{table, capacity-at}
+
+-- all but "u before v" on t is removed for each precedence; or that leaves a pair nothing
+abbrev pub FixedIf : List Precedence → Domains → List ℕ → Domains → List ℕ → List ℕ → Bool → Type 0
+FixedIf os k q j rows r true = (j ≡ fix-precedences os k) × Grown k q j rows r
+FixedIf os k q j rows r false = Long j rows r × (Filled (fix-precedences os k) → ⊥)
+
+-- "u before v" is removed of every two items that are too long together
+abbrev pub PairsCut : List ℕ → Domains → Type 0
+PairsCut t f = (a u v : ℕ) → Proper 10 a u v → capacity-at t a < table t 2 a u + table t 1 a v → gone f 1 a u v ≡ true
+
+pub record PairsAsked (t : List ℕ) (f : Domains) : Type 0 where
+  pub all : PairsCut t f
+  pub filled : Filled f
+
+-- the totals are 0 past n items
+abbrev pub Past : List ℕ → ℕ → Type 0
+Past t n = (x a u : ℕ) → Direction x → a < 3 → n ≤ u → u < 10 → table t x a u ≡ 0
+
+-- and nothing is removed of them
+abbrev pub Outside : List ℕ → Domains → Domains → Type 0
+Outside t k j = (n : ℕ) → n ≤ 10 → Past t n → Untouched n k → Untouched n j
+
+abbrev pub OutsideIf : List ℕ → Domains → Domains → Bool → Type 0
+OutsideIf t k j true = Outside t k j
+OutsideIf t k j false = Unit {0}

@@ -1,0 +1,24 @@
+-- The packing by greatest chains.
+use mathlib.Core.List.{List}
+use mathlib.Core.Path.{_≡_}
+use Prim.Native.Nat.{ℕ, _-_, _≤_, _<_}
+use lib.ListN.{getD, length}
+use Rattle.instance.specs.declared.Packing.{Packing}
+use Rattle.instance.specs.Meaning.{positions-of}
+use Rattle.instance.specs.Values.{origin}
+use Rattle.chains.specs.Totals.{table, size-at}
+
+-- "On each axis a piece starts at the total of the greatest chain ending in it, less its own measure"
+abbrev pub start-at : List ℕ → ℕ → ℕ → ℕ
+start-at t a u = table t 2 a u - size-at t a u
+
+-- the chains of n items have them in it
+pub record Startable (n : ℕ) (t : List ℕ) : Type 0 where
+  pub limited : n ≤ 10
+  pub long : length t ≡ 93
+  pub whole : (a u : ℕ) → a < 3 → u < n → size-at t a u ≤ table t 2 a u
+
+-- positions past the items are 0
+pub record Started (n : ℕ) (t : List ℕ) (q : Packing) : Type 0 where
+  pub placed : (a u : ℕ) → a < 3 → u < n → positions-of q a u ≡ start-at t a u
+  pub past : (u : ℕ) → n ≤ u → getD (q .positions) u origin ≡ origin

@@ -1,0 +1,36 @@
+// The packing of packed domains.
+ghost use mathlib.Core.Path.{_≡_};
+ghost use Prim.Native.Nat.{_<_, _≤_};
+ghost use lib.ListN.{length};
+ghost use Rattle.chains.specs.Totals.{table, size-at};
+ghost use Rattle.nodes.specs.Starts as T;
+ghost use Rattle.nodes.specs.Starts.{Startable, Started};
+use chains::totals::SIZES;
+use instance::Instance;
+use instance::Packing;
+use instance::Position;
+
+// Where an item starts on an axis: the greatest chain ending in it, less its own measure.
+fn start_at(t: &[u16; 93], a: usize, u: usize) -> u16
+    requires { ⌜ (length (now t) ≡ 93) × (a < 3) × (u < 10) × (size-at (now t) a u ≤ table (now t) 2 a u) ⌝ }
+    ensures { λ r. ⌜ r ≡ T.start-at (now (t .entry)) a u ⌝ }
+{
+    t[a * 10 + u] - t[SIZES + a * 10 + u]
+}
+
+// "On each axis a piece starts at the total of the greatest chain ending in it, less its own measure".
+pub fn starts_of(t: &[u16; 93], n: usize) -> Packing
+    requires { ⌜ Startable n (now t) ⌝ }
+    ensures { λ r. ⌜ Started n (now (t .entry)) r ⌝ }
+{
+    let mut positions = [Position { x: 0, y: 0, t: 0 }; Instance::MAX_ITEMS];
+    let mut u: usize = 0;
+    while u < n {
+        let x = start_at(t, 0, u);
+        let y = start_at(t, 1, u);
+        let z = start_at(t, 2, u);
+        positions[u] = Position { x, y, t: z };
+        u = u + 1;
+    }
+    Packing { positions }
+}

@@ -1,0 +1,213 @@
+-- One pair of the queue is worked off: its link, where one order of it is known, and the clauses with a premise of it.
+use mathlib.Core.Bool.{Bool, true, false, _&&_, _||_, and-false}
+use mathlib.Core.List.{List}
+use mathlib.Core.Logic.{_⊎_, inl, inr}
+use mathlib.Core.Path.{_≡_, refl, sym, _∙_, ap₂}
+use Prim.Native.Nat.{ℕ, zero, suc, _+_, _*_, _/_, _^_, _≤_, _<_}
+use native.Mathlib.Omega.{arith}
+use lib.Bits.{bitOr}
+use Rattle.model.specs.Problem.{Problem}
+use Rattle.model.specs.Domains.{Domains, fixed-before}
+use Rattle.model.specs.Order.{Proper, _⊑_}
+use Rattle.model.specs.Relations.{gone}
+use Rattle.model.specs.Claims.{overlaps, forced, says, Holds}
+use Rattle.model.specs.Clauses.{of, Lawful}
+use Rattle.model.specs.Toward.{Direction, Linked}
+use Rattle.model.proofs.Below.{and-intro, and-both, or-case, or-left, or-right, clash}
+use Rattle.model.proofs.Slots.{proper-sym}
+use Rattle.model.proofs.Order.{below-refl}
+use Rattle.model.proofs.Claims.{gone-mono, says-mono, holds-mono, forced-converse, forced-before-is, forced-after-is}
+use Rattle.model.proofs.Untouched.{goal-lawful}
+use Rattle.model.proofs.Toward.{closed-wider}
+use Rattle.domains.specs.Bits.{bit-at}
+use Rattle.domains.specs.Rows.{row, Mirror}
+use Rattle.domains.specs.Queue.{end, Queued, Good, Long}
+use Rattle.domains.specs.Narrowed.{Narrowed, Refuted, Outcome}
+use Rattle.rules.specs.Worked.{Clauses, Handled, Paths, Diagonal, Overlapping}
+use Rattle.chains.specs.Totals.{Tabled, SameMeasures, Fitting}
+use Rattle.chains.specs.NewLinks.{SamePair, Charted, Extended, ExtendedIf, KeptIf}
+use Rattle.rules.specs.Mentions.{Mentioning}
+use Rattle.propagation.specs.Events.{InOrder, Overlapped, WorkedIf}
+use Rattle.domains.proofs.BitLaws.{bit-or, bit-shr}
+use Rattle.domains.proofs.Narrowed.{good-long, narrowed-none, grown-then, outcome-as}
+use Rattle.domains.proofs.Mirror.{row-first}
+use Rattle.rules.proofs.Works.{hold-mono}
+use Rattle.propagation.proofs.Pending.{closed-on}
+use Rattle.rules.proofs.Mentions.{mentioning-handled}
+
+-- the measures stay
+pub same-none : {t : List ℕ} → SameMeasures t t
+same-none = record { long = refl; kept = λ i h. refl }
+
+pub same-then : {t s z : List ℕ} → SameMeasures t s → SameMeasures s z → SameMeasures t z
+same-then f g = record { long = g .long ∙ f .long; kept = λ i h. g .kept i h ∙ f .kept i h }
+
+-- one order of the pair is known
+abbrev pub known : Domains → ℕ → ℕ → ℕ → Bool
+known k a u v = gone k 0 a u v && (gone k 1 a u v || gone k 2 a u v)
+
+-- What a test of the row of u answers on v
+module _ {k : Domains} {rows : List ℕ} {a u v : ℕ} (m : Mirror k rows) (s : Proper 10 a u v) {r b : Bool} where
+  pub row-overlap : r ≡ bit-at (row rows a u) v → r ≡ b → gone k 0 a u v ≡ b
+  row-overlap e f = sym (row-first m (s .axis) (s .item-u) (s .item-v)) ∙ (sym e ∙ f)
+
+  pub row-order : (x : ℕ) → x < 3 → r ≡ bit-at (row rows a u) (x * 10 + v) → r ≡ b → gone k x a u v ≡ b
+  row-order x h e f = sym (m .is x a u v h (s .axis) (s .item-u) (s .item-v)) ∙ (sym e ∙ f)
+
+  -- on both orders together
+  pub row-orders : r ≡ bit-at (bitOr (row rows a u) (row rows a u / 2 ^ 10)) (10 + v) → r ≡ b → (gone k 1 a u v || gone k 2 a u v) ≡ b
+  row-orders e f = sym (bit-or (row rows a u) (row rows a u / 2 ^ 10) (10 + v) ∙ ap₂ _||_ (at 1 (omega arith)) second) ∙ (sym e ∙ f)
+    where
+      at : (x : ℕ) → x < 3 → bit-at (row rows a u) (x * 10 + v) ≡ gone k x a u v
+      at x h = m .is x a u v h (s .axis) (s .item-u) (s .item-v)
+
+      second : bit-at (row rows a u / 2 ^ 10) (10 + v) ≡ gone k 2 a u v
+      second = let e : 10 + (10 + v) ≡ 2 * 10 + v = omega arith in bit-shr (row rows a u) 10 (10 + v) ∙ (rw e (at 2 (omega arith)))
+
+-- A link of the pair is one of its orders
+module _ (k : Domains) (a u v : ℕ) where
+  forced-known : (x : ℕ) → Direction x → Holds k (of (forced x) a u v) → known k a u v ≡ true
+  unfolding says
+  forced-known zero d l = absurd (omega (arith, d .least))
+  forced-known (suc zero) d l = let (f, g) = and-both (gone k 0 a u v) (gone k 1 a u v) l in and-intro f (or-left (gone k 2 a u v) g)
+  forced-known (suc (suc zero)) d l = let (f, g) = and-both (gone k 0 a u v) (gone k 2 a u v) l in and-intro f (or-right (gone k 1 a u v) g)
+  forced-known (suc (suc (suc x))) d l = absurd (omega (arith, d .most))
+
+  turned-known : (x : ℕ) → Direction x → Holds k (of (forced x) a v u) → known k a u v ≡ true
+  turned-known zero d l = absurd (omega (arith, d .least))
+  turned-known (suc zero) d l = forced-known 2 (omega arith) (sym (forced-converse k 2 a u v (omega arith)) ∙ l)
+  turned-known (suc (suc zero)) d l = forced-known 1 (omega arith) (sym (forced-converse k 1 a u v (omega arith)) ∙ l)
+  turned-known (suc (suc (suc x))) d l = absurd (omega (arith, d .most))
+
+  linked-known : (x b y z : ℕ) → Direction x → SamePair a u v b y z → Linked x k b y z → known k a u v ≡ true
+  linked-known x b y z d (e, inl (f, g)) l = forced-known x d (rw (e, f, g) at l)
+  linked-known x b y z d (e, inr (f, g)) l = turned-known x d (rw (e, f, g) at l)
+
+-- The pair with the earlier item first, by the row
+pub turned-fixed : {k : Domains} {rows : List ℕ} {a u v : ℕ} → Mirror k rows → Proper 10 a u v → known k a u v ≡ true → {b y z : ℕ}
+    → InOrder (bit-at (row rows a u) (20 + v)) a u v b y z → Proper 10 b y z × (fixed-before k b y z ≡ true)
+unfolding says
+turned-fixed {k} {rows} {a} {u} {v} m s h {b} {y} {z} o =
+    let (f, g) = and-both (gone k 0 a u v) (gone k 1 a u v || gone k 2 a u v) h in
+    go _ (row-order m s 2 (omega arith) refl refl) f (or-case _ _ g) o
+  where
+    go : (c : Bool) → gone k 2 a u v ≡ c → gone k 0 a u v ≡ true → (gone k 1 a u v ≡ true) ⊎ (gone k 2 a u v ≡ true) → InOrder c a u v b y z
+        → Proper 10 b y z × (fixed-before k b y z ≡ true)
+    go true e f g t = rw (t .axis, t .earlier, t .later) (s, sym (forced-before-is k a u v) ∙ and-intro f e)
+    go false e f (inl g) t = rw (t .axis, t .earlier, t .later) (proper-sym s, sym (forced-after-is k a u v) ∙ and-intro f g)
+    go false e f (inr g) t = absurd (clash g e)
+
+-- Rule 5: the pair turned, and nothing to do where no order is known
+same-turned : (b : Bool) (a u v c s t : ℕ) → InOrder b a u v c s t → (d y z : ℕ) → SamePair a u v d y z → SamePair c s t d y z
+same-turned true a u v c s t o d y z h = rw (o .axis, o .earlier, o .later) h
+same-turned false a u v c s t o d y z (e, inl h) = rw (o .axis, o .earlier, o .later) (e, inr h)
+same-turned false a u v c s t o d y z (e, inr h) = rw (o .axis, o .earlier, o .later) (e, inl h)
+
+module _ {p : Problem} {k : Domains} {q t : List ℕ} {from a u v : ℕ} (c : Charted p k q t from a u v) where
+  pub charted-turned : {b : Bool} {d y z : ℕ} → InOrder b a u v d y z → Charted p k q t from d y z
+  charted-turned {b} {d} {y} {z} h = record {
+    measured = c .measured;
+    first = c .first;
+    within = c .within;
+    closed = closed-wider (λ x e i j w f l m. inr (on e i j m)) (λ e i j m. m) (c .closed);
+  }
+    where
+      on : (e i j : ℕ) → Queued q from (end q) e i j ⊎ SamePair a u v e i j → Queued q from (end q) e i j ⊎ SamePair d y z e i j
+      on e i j (inl m) = inl m
+      on e i j (inr m) = inr (same-turned b a u v d y z h e i j m)
+
+  pub extended-none : {rows : List ℕ} → Good k rows q → Tabled t → known k a u v ≡ false → Extended p k q t from k rows q t
+  extended-none good tabled none = record {
+    narrowed = narrowed-none good (closed-wider (λ x e i j d w l m. inr (on x e i j d l m)) (λ e i j m. m) (c .closed));
+    measured = c .measured;
+    tabled = tabled;
+    under = λ f h b. h .under;
+  }
+    where
+      on : (x e i j : ℕ) → Direction x → Linked x k e i j → Queued q from (end q) e i j ⊎ SamePair a u v e i j → Queued q from (end q) e i j
+      on x e i j d l (inl m) = m
+      on x e i j d l (inr m) = absurd (clash (linked-known k a u v x e i j d m l) none)
+
+  -- Rules 1 to 4 follow
+  module _ {k₁ : Domains} {rows₁ q₁ s : List ℕ} (e : Extended p k q t from k₁ rows₁ q₁ s) where
+    lawful-below : (f : Domains) → Fitting p t f → f ⊑ k → Lawful f × (f ⊑ k₁)
+    lawful-below f h b = (goal-lawful p f (h .goal), e .narrowed .low f h b)
+
+    pub extended-refuted : Refuted Lawful k₁ → Refuted (Fitting p t) k
+    extended-refuted none f h b = let (l, d) = lawful-below f h b in none f l d
+
+    pub extended-then : {D : Domains → Type 0} {j : Domains} {rows r : List ℕ} → 1 ≤ end q → Narrowed Lawful D k₁ q₁ j rows r
+        → Extended p k q t from j rows r s
+    extended-then least n = record {
+      narrowed = record {
+        grown = grown-then least (e .narrowed .grown) (n .grown);
+        low = λ f h b. let (l, d) = lawful-below f h b in n .low f l d;
+        done = closed-on (n .grown) (omega (arith, c .measured .ten)) from (c .first) (omega (arith, c .within, e .narrowed .grown .up))
+            (e .narrowed .done);
+      };
+      measured = e .measured;
+      tabled = e .tabled;
+      under = e .under;
+    }
+
+pub unordered : {k : Domains} {rows q t : List ℕ} {a u v : ℕ} → Proper 10 a u v → Good k rows q → Tabled t
+    → (gone k 0 a u v ≡ false) ⊎ ((gone k 1 a u v || gone k 2 a u v) ≡ false)
+    → (Long k rows q × SameMeasures t t × KeptIf k rows q t true)
+    × ((p : Problem) (from : ℕ) → Charted p k q t from a u v → ExtendedIf p k q t from k rows q t true)
+unordered {k} {a = a} {u} {v} s good tabled none =
+    ((good-long good, same-none, (good, tabled)), λ p from c. extended-none c good tabled (unknown none))
+  where
+    unknown : (gone k 0 a u v ≡ false) ⊎ ((gone k 1 a u v || gone k 2 a u v) ≡ false) → known k a u v ≡ false
+    unknown (inl e) = rw e refl
+    unknown (inr e) = rw e (and-false (gone k 0 a u v))
+
+-- Rules 1 and 4: a filled pair is not known both to overlap and not to
+module _ {k : Domains} {rows q : List ℕ} (good : Good k rows q) {a u v : ℕ} (w : Proper 10 a u v) where
+  pub across-all : gone k 0 a u v ≡ true → (j : Domains) (rows′ r : List ℕ) (b : Bool)
+      → Outcome Lawful (Handled (Diagonal a u v) k) k q j rows′ r b → Outcome Lawful (Overlapped a u v k) k q j rows′ r b
+  unfolding says
+  across-all e j rows′ r b =
+      outcome-as Lawful Lawful (Handled (Diagonal a u v) k) (Overlapped a u v k) k q j rows′ r b (λ f h b. h)
+      (λ less done. record { across = λ h. done; along = λ h. absurd (clash h (rw e at (good .laid .filled a u v w))) })
+
+  module _ (left : gone k 0 a u v ≡ false) where
+    pub along-all : (j : Domains) (rows′ r : List ℕ) (b : Bool) → Outcome Lawful (Handled (Overlapping a u v) k) k q j rows′ r b
+        → Outcome Lawful (Overlapped a u v k) k q j rows′ r b
+    along-all j rows′ r b =
+        outcome-as Lawful Lawful (Handled (Overlapping a u v) k) (Overlapped a u v k) k q j rows′ r b (λ f h b. h)
+        (λ less done. record { across = λ h. absurd (clash h left); along = λ h. done })
+
+    pub overlap-none : (gone k 1 a u v ≡ false) ⊎ (gone k 2 a u v ≡ false) → Narrowed Lawful (Overlapped a u v k) k q k rows q
+    unfolding says
+    overlap-none e = narrowed-none good (record { across = λ h. absurd (clash h left); along = λ h. absurd (go e (and-both _ _ h)) })
+      where
+        go : (gone k 1 a u v ≡ false) ⊎ (gone k 2 a u v ≡ false) → (gone k 1 a u v ≡ true) × (gone k 2 a u v ≡ true) → ⊥
+        go (inl e) (f, g) = clash f e
+        go (inr e) (f, g) = clash g e
+
+-- What is asked for by fewer premises and done with more left is done all the same
+handled-within : {H : Clauses} (k k₁ k₂ j : Domains) → k₁ ⊑ k → j ⊑ k₂ → Handled H k₁ k₂ → Handled H k j
+handled-within k k₁ k₂ j before after h ps c r e = holds-mono j k₂ after c (h ps c r (hold-mono k₁ k before ps e))
+
+-- All rules
+module _ {k : Domains} {q t : List ℕ} {a u v : ℕ} {k₁ : Domains} {rows₁ q₁ s : List ℕ} {k₂ : Domains} {rows₂ q₂ : List ℕ}
+    (least : 1 ≤ end q) (w : Proper 10 a u v) (tabled : Tabled s)
+    (e : (p : Problem) (from : ℕ) → Charted p k q t from a u v → Extended p k q t from k₁ rows₁ q₁ s)
+    (f : Narrowed Lawful (Handled (Paths a u v) k₁) k₁ q₁ k₂ rows₂ q₂) where
+  pub worked-all : (j : Domains) (rows r : List ℕ) (b : Bool) → Outcome Lawful (Overlapped a u v k₂) k₂ q₂ j rows r b
+      → (Long j rows r × KeptIf j rows r s b)
+      × ((p : Problem) (from : ℕ) → Charted p k q t from a u v → WorkedIf p k q t from a u v j rows r s b)
+  worked-all j rows r false (long, none) = ((long, tt), λ p from c. extended-refuted c (extended-then c (e p from c) least f) none)
+  worked-all j rows r true g = ((good-long (g .grown .good), (g .grown .good, tabled)), worked)
+    where
+      handled : k₁ ⊑ k → k₂ ⊑ k → Handled (Mentioning a u v) k j
+      handled first less =
+          mentioning-handled k j w (handled-within k k₁ k₂ j first (g .grown .less) (f .done))
+          (λ h. handled-within k k₂ j j less (below-refl j) (g .done .across (gone-mono k₂ k less 0 a u v h)))
+          (λ h. handled-within k k₂ j j less (below-refl j) (g .done .along (says-mono k₂ k less overlaps a u v h)))
+
+      worked : (p : Problem) (from : ℕ) → Charted p k q t from a u v → Extended p k q t from j rows r s × Handled (Mentioning a u v) k j
+      worked p from c =
+          let x = e p from c in
+          let y = extended-then c x least f in
+          (extended-then c y least g, handled (x .narrowed .grown .less) (y .narrowed .grown .less))

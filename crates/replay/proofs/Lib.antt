@@ -1,5 +1,0 @@
-pub mod Checkpoints
-pub mod Sound
-pub mod Root
-pub mod Standing
-pub mod Seeing

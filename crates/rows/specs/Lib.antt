@@ -1,4 +1,0 @@
-pub mod Bits
-pub mod Rows
-pub mod Claims
-pub mod Queue

@@ -1,0 +1,54 @@
+-- `rules::paths::beyond` meets its contract.
+use mathlib.Core.Logic.{⊎-elim}
+use mathlib.Core.Path.{sym, _∙_}
+use native.Mathlib.Omega.{arith}
+use lib.Bits.{or-zero-r}
+use Rattle.rules.proofs.Beyond.{only-none, only-shift, reached-known, reached-none, reached-left}
+use borrow.Author.Needs.{needs}
+use Rattle.rules.proofs.paths.beyond.Statement.{statement}
+use Rattle.rules.proofs.paths.beyond.Tie as tie
+
+returns : tie.Need-returns
+returns c =
+    let h = c .before .before .before .before in
+    reached-known (h .before .pre) (sym (h .has .ensures) ∙ c .before .before .before .if1 .taken) 2 (omega arith) (omega arith)
+    (sym (c .before .before .has2 .ensures) ∙ c .before .if2 .taken) (c .following .ensures)
+
+returns-2 : tie.Need-returns-2
+returns-2 c =
+    let h = c .before .before .before .before .before .before in
+    reached-known (h .before .pre) (sym (h .has .ensures) ∙ c .before .before .before .before .before .if1 .taken) 1 (omega arith) (omega arith)
+    (sym (c .before .before .has3 .ensures) ∙ c .before .if3 .taken) (c .leading .ensures)
+
+returns-3 : tie.Need-returns-3
+returns-3 c =
+    let h = c .before .before .before .before .before in
+    reached-none (h .before .pre) (sym (h .has .ensures) ∙ c .before .before .before .before .if1 .taken)
+    (sym (c .before .has3 .ensures) ∙ c .if3 .left) (sym (c .before .before .before .has2 .ensures) ∙ c .before .before .if2 .left)
+
+returns-4 : tie.Need-returns-4
+returns-4 c =
+    let i = c .before .before .before .before in
+    let h = i .before .before .before in
+    let e = sym (i .before .has4 .ensures) in
+    reached-left (h .before .pre) (sym (h .has .ensures) ∙ i .before .before .if1 .left) {m = i .if4 .set}
+    (⊎-elim (λ w. rw (w .2) (only-shift 1 (omega arith) (e ∙ w .0 .taken) (w .1 .ensures))) (λ w. rw (w .1) (only-none 1 (e ∙ w .0 .left)))
+    (i .if4 .came))
+    (only-shift 2 (omega arith) (sym (c .before .before .before .has5 .ensures) ∙ c .before .before .if5 .taken) (c .before .following2 .ensures))
+
+returns-5 : tie.Need-returns-5
+returns-5 c =
+    let i = c .before .before in
+    let h = i .before .before .before in
+    let e = sym (i .before .has4 .ensures) in
+    rw (← or-zero-r (i .if4 .set)) (reached-left (h .before .pre) (sym (h .has .ensures) ∙ i .before .before .if1 .left) {m = i .if4 .set}
+    (⊎-elim (λ w. rw (w .2) (only-shift 1 (omega arith) (e ∙ w .0 .taken) (w .1 .ensures))) (λ w. rw (w .1) (only-none 1 (e ∙ w .0 .left)))
+    (i .if4 .came))
+    (only-none 2 (sym (c .before .has5 .ensures) ∙ c .if5 .left)))
+
+pub beyond-spec : {M : Type 1} → statement M
+beyond-spec =
+    tie.close
+    (tie.spec (λ c κs. search needs) (λ c. search needs) (λ c κs. search needs) (λ c κs. search needs) returns (λ c. search needs)
+    (λ c κs. search needs) (λ c κs. search needs) returns-2 returns-3 (λ c. search needs) (λ c κs. search needs) (λ c κs. search needs)
+    (λ c. search needs) (λ c κs. search needs) (λ c κs. search needs) returns-4 returns-5)

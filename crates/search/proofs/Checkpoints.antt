@@ -1,0 +1,253 @@
+-- Laws of a path's branches in an array, and of checkpoints as values.
+use mathlib.Core.Bool.{Bool, true, false, _&&_}
+use mathlib.Core.List.{List, [], _∷_}
+use mathlib.Core.Path.{_≡_, refl, sym, ap, _∙_, subst}
+use Prim.Native.Nat.{ℕ, zero, suc, _+_, _-_, _≤_, _<_}
+use native.Mathlib.Decide.{ℕ-discrete, decLt}
+use native.Mathlib.Numerals.{add-one}
+use native.Mathlib.Omega.{arith}
+use lib.Dec.{leb, ltb}
+use lib.ListN.{length, getD, set, replicate, length-set, length-replicate}
+use lib.Seq.{ext-getD, getD-set-same, getD-set-other, set-getD, set-set, set-out}
+use borrow.Author.Tests.{eqb-true, le-leb, lt-ltb, le-ltb, leb-true, ltb-true}
+use Rattle.model.proofs.Below.{and-intro, and-both, all-at, all-of}
+use Rattle.model.specs.Below.{all-below}
+use Rattle.model.specs.Branching.{Branch, first, second}
+use Rattle.model.specs.Search as S
+use Rattle.instance.specs.declared.Checkpoint.{Checkpoint}
+use Rattle.instance.specs.declared.Status.{Status}
+use Rattle.instance.specs.declared.Status.the-variants.{Open, Infeasible, Packed}
+use Rattle.search.specs.Checkpoints.{branch-of, branch-number, path-of, with-status, checkpoint-of, length-allowed, all-branches, well-formed, Bits, branches-of, value-of}
+use Rattle.search.specs.Standing.{without-seconds, Holds}
+
+-- a branch and its number
+pub branch-back : (b : Branch) → branch-of (branch-number b) ≡ b
+branch-back first = refl
+branch-back second = refl
+
+pub number-back : (m : ℕ) → m < 2 → branch-number (branch-of m) ≡ m
+number-back zero h = refl
+number-back (suc zero) h = refl
+number-back (suc (suc m)) h = absurd (omega arith)
+
+number-small : (b : Branch) → branch-number b < 2
+number-small first = omega arith
+number-small second = omega arith
+
+pub path-length : (n : ℕ) (bs : List ℕ) → length (path-of n bs) ≡ n
+path-length zero bs = refl
+path-length (suc n) bs = ap suc (path-length n bs)
+
+-- what is written past the path is no part of it
+path-set : (n : ℕ) (bs : List ℕ) (i m : ℕ) → n ≤ i → path-of n (set bs i m) ≡ path-of n bs
+path-set zero bs i m h = refl
+path-set (suc n) bs i m h =
+    let d : n ≡ i → ⊥ = λ e. omega arith in
+    rw (getD-set-other bs i n m 0 d, path-set n bs i m (omega arith))
+
+pub branches-length : (path : List Branch) → length (branches-of path) ≡ 270
+unfolding branches-of
+branches-length [] = length-replicate {A = ℕ} 270 0
+branches-length (b ∷ path) = length-set (branches-of path) (length path) (branch-number b) ∙ branches-length path
+
+blank : (n i : ℕ) → getD (replicate n zero) i 0 ≡ 0
+blank zero i = refl
+blank (suc n) zero = refl
+blank (suc n) (suc i) = blank n i
+
+-- "0 past the length"
+pub branches-past : (path : List Branch) (i : ℕ) → length path ≤ i → getD (branches-of path) i 0 ≡ 0
+unfolding branches-of
+branches-past [] i h = blank 270 i
+branches-past (b ∷ path) i h =
+    let d : i ≡ length path → ⊥ = λ e. omega arith in
+    getD-set-other (branches-of path) (length path) i (branch-number b) 0 d ∙ branches-past path i (omega arith)
+
+-- the path comes back from its array
+pub path-back : (path : List Branch) → length path ≤ 270 → path-of (length path) (branches-of path) ≡ path
+unfolding branches-of
+path-back [] h = refl
+path-back (b ∷ path) h =
+    let l : length path < length (branches-of path) = omega (arith, branches-length path) in
+    rw (getD-set-same (branches-of path) (length path) (branch-number b) 0 l, branch-back, path-set (length path) (branches-of path) (length path) (branch-number b) (omega arith), path-back path (omega arith))
+
+pub branches-small : (path : List Branch) (i : ℕ) → getD (branches-of path) i 0 < 2
+unfolding branches-of
+branches-small [] i = omega (arith, blank 270 i)
+branches-small (b ∷ path) i = go (ℕ-discrete i (length path)) (branches-small path i)
+  where
+    inside : i ≡ length path → Dec (i < length (branches-of path)) → getD (branches-of path) i 0 < 2 → getD (set (branches-of path) (length path) (branch-number b)) i 0 < 2
+    inside e (yes h) g = rw (← e, getD-set-same (branches-of path) i (branch-number b) 0 h) (number-small b)
+    inside e (no h) g = rw (← e, set-out (branches-of path) i (branch-number b) (omega arith)) g
+
+    go : Dec (i ≡ length path) → getD (branches-of path) i 0 < 2 → getD (set (branches-of path) (length path) (branch-number b)) i 0 < 2
+    go (yes e) g = inside e (decLt i (length (branches-of path))) g
+    go (no d) g = rw (getD-set-other (branches-of path) (length path) i (branch-number b) 0 d) g
+
+branches-bits : (path : List Branch) (n : ℕ) → all-branches n (branches-of path) ≡ true
+unfolding all-branches
+branches-bits path n = all-of n _ (λ i h. lt-ltb _ _ (branches-small path i))
+
+-- what is asked of a checkpoint for its value to hold it
+abbrev pub Short : S.Checkpoint → Type 0
+Short (S.open-at path) = length path ≤ 270
+Short S.infeasible = Unit {0}
+Short (S.packed-at path) = length path ≤ 270
+
+pub value-short : (κ : S.Checkpoint) → Short κ → value-of κ .length ≤ 270
+unfolding value-of
+value-short (S.open-at path) h = h
+value-short S.infeasible h = omega arith
+value-short (S.packed-at path) h = h
+
+-- a checkpoint comes back from its value, which is well-formed
+pub checkpoint-back : (κ : S.Checkpoint) → Short κ → checkpoint-of (value-of κ) ≡ κ
+unfolding checkpoint-of value-of
+checkpoint-back (S.open-at path) h = ap S.open-at (path-back path h)
+checkpoint-back S.infeasible h = refl
+checkpoint-back (S.packed-at path) h = ap S.packed-at (path-back path h)
+
+pub value-well-formed : (κ : S.Checkpoint) → Short κ → well-formed (value-of κ) ≡ true
+unfolding well-formed value-of
+value-well-formed (S.open-at path) h = and-intro (le-leb _ _ h) (and-intro refl (branches-bits path (length path)))
+value-well-formed S.infeasible h = and-intro refl (and-intro refl (branches-bits [] 0))
+value-well-formed (S.packed-at path) h = and-intro (le-leb _ _ h) (and-intro refl (branches-bits path (length path)))
+
+-- a checkpoint by its status
+pub checkpoint-as : (c : Checkpoint) {s : Status} → c .status ≡ s → checkpoint-of c ≡ with-status s (path-of (c .length) (c .branches))
+unfolding checkpoint-of
+checkpoint-as c e = ap (λ (s : Status). with-status s (path-of (c .length) (c .branches))) e
+
+-- what a well-formed value says of its length and its branches
+well-formed-says : (c : Checkpoint) → well-formed c ≡ true
+    → (c .length ≤ 270) × (length-allowed (c .status) (c .length) ≡ true) × (all-branches (c .length) (c .branches) ≡ true)
+unfolding well-formed
+well-formed-says c h =
+    let rest = length-allowed (c .status) (c .length) && all-branches (c .length) (c .branches) in
+    let (l, r) = and-both (leb (c .length) 270) rest h in
+    let (a, b) = and-both (length-allowed (c .status) (c .length)) (all-branches (c .length) (c .branches)) r in
+    (leb-true _ _ l, a, b)
+
+pub well-formed-bits : (c : Checkpoint) → well-formed c ≡ true → Bits (c .length) (c .branches)
+well-formed-bits c h = let (l, a, b) = well-formed-says c h in record { within = l; bits = b }
+
+pub well-formed-length : (c : Checkpoint) → well-formed c ≡ true → length-allowed (c .status) (c .length) ≡ true
+well-formed-length c h = let (l, a, b) = well-formed-says c h in a
+
+-- the first n branches, written anew
+pub path-again : (n : ℕ) (bs : List ℕ) → n ≤ 270 → path-of n (branches-of (path-of n bs)) ≡ path-of n bs
+path-again n bs h =
+    subst (λ (m : ℕ). path-of m (branches-of (path-of n bs)) ≡ path-of n bs) (path-length n bs) (path-back (path-of n bs) (rw path-length h))
+
+-- the array of a path that was read from an array
+pub again-at : (n : ℕ) (bs : List ℕ) → n ≤ 270 → (k : ℕ) → k < n → getD (branches-of (path-of n bs)) k 0 ≡ branch-number (branch-of (getD bs k 0))
+unfolding branches-of
+again-at zero bs l k h = absurd (omega arith)
+again-at (suc n) bs l k h = rw (path-length n bs) (go (ℕ-discrete k n) (λ j. again-at n bs (omega arith) k j))
+  where
+    go : Dec (k ≡ n) → (k < n → getD (branches-of (path-of n bs)) k 0 ≡ branch-number (branch-of (getD bs k 0)))
+        → getD (set (branches-of (path-of n bs)) n (branch-number (branch-of (getD bs n 0)))) k 0 ≡ branch-number (branch-of (getD bs k 0))
+    go (yes e) ih = rw e (getD-set-same (branches-of (path-of n bs)) n _ 0 (omega (arith, branches-length (path-of n bs))))
+    go (no d) ih = getD-set-other (branches-of (path-of n bs)) n k _ 0 d ∙ ih (omega arith)
+
+module _ (n : ℕ) (bs : List ℕ) (long : length bs ≡ 270) (β : Bits n bs) (past : (k : ℕ) → n ≤ k → getD bs k 0 ≡ 0) where
+  branches-again : branches-of (path-of n bs) ≡ bs
+  unfolding all-branches
+  branches-again = ext-getD 0 (branches-of (path-of n bs)) bs (branches-length (path-of n bs) ∙ sym long) (λ k h. go k (decLt k n))
+    where
+      go : (k : ℕ) → Dec (k < n) → getD (branches-of (path-of n bs)) k 0 ≡ getD bs k 0
+      go k (yes h) = again-at n bs (β .within) k h ∙ number-back (getD bs k 0) (ltb-true _ _ (all-at n _ (β .bits) k h))
+      go k (no h) = branches-past (path-of n bs) k (rw (path-length n bs) (omega arith)) ∙ sym (past k (omega arith))
+
+  -- the value of what a value holds is that value, where it is well-formed and 0 past its length
+  pub value-again : (s : Status) → length-allowed s n ≡ true → value-of (with-status s (path-of n bs)) ≡ record { status = s; length = n; branches = bs }
+  unfolding value-of
+  value-again Open a = rw (path-length n bs, branches-again)
+  value-again Packed a = rw (path-length n bs, branches-again)
+  value-again Infeasible a =
+      let z : n ≡ 0 = eqb-true n 0 a in
+      let e : branches-of [] ≡ bs = subst (λ (m : ℕ). branches-of (path-of m bs) ≡ bs) z branches-again in
+      rw (z, e)
+
+-- The array of a path within a call
+
+pub holds-root : Holds [] (branches-of []) 0
+holds-root = record { many = refl; values = refl }
+
+pub holds-next : {path : List Branch} {bs : List ℕ} {n : ℕ} (b : Branch) → Holds path bs n → Holds (b ∷ path) (set bs n (branch-number b)) (n + 1)
+unfolding branches-of
+holds-next b h = record { many = omega (arith, h .many); values = rw (h .many, h .values) }
+
+-- one branch more of an array that is read from its start
+pub path-next : (n : ℕ) (bs : List ℕ) → path-of (n + 1) bs ≡ branch-of (getD bs n 0) ∷ path-of n bs
+path-next n bs = rw add-one
+
+-- one branch more of an array of branches
+pub bits-next : {n : ℕ} {bs : List ℕ} (i : ℕ) → Bits n bs → i < n → branch-number (branch-of (getD bs i 0)) ≡ getD bs i 0
+unfolding all-branches
+bits-next {n} {bs} i β h = number-back (getD bs i 0) (ltb-true _ _ (all-at n _ (β .bits) i h))
+
+-- the last branch of a path, turned or dropped
+module _ {bs : List ℕ} {n : ℕ} where
+  last-number : (b : Branch) (path : List Branch) → Holds (b ∷ path) bs n → n ≤ 270 → getD bs (n - 1) 0 ≡ branch-number b
+  unfolding branches-of
+  last-number b path h l =
+      let e : n - 1 ≡ length path = omega (arith, h .many) in
+      let r : length path < length (branches-of path) = omega (arith, h .many, branches-length path) in
+      rw (e, h .values) (getD-set-same (branches-of path) (length path) (branch-number b) 0 r)
+
+  pub turned : {b : Branch} {path : List Branch} (c : Branch) → Holds (b ∷ path) bs n → Holds (c ∷ path) (set bs (n - 1) (branch-number c)) n
+  unfolding branches-of
+  turned {b} {path} c h =
+      let e : n - 1 ≡ length path = omega (arith, h .many) in
+      record { many = h .many; values = rw (e, h .values) (set-set (branches-of path) (length path) (branch-number b) (branch-number c)) }
+
+  pub dropped : {b : Branch} {path : List Branch} → Holds (b ∷ path) bs n → Holds path (set bs (n - 1) 0) (n - 1)
+  unfolding branches-of
+  dropped {b} {path} h =
+      let e : n - 1 ≡ length path = omega (arith, h .many) in
+      record {
+        many = e;
+        values = rw (e, h .values) (set-set (branches-of path) (length path) (branch-number b) 0 ∙ ap (set (branches-of path) (length path)) (sym (branches-past path (length path) (omega arith))) ∙ set-getD (branches-of path) (length path) 0);
+      }
+
+  -- a last branch 0 is a first one; any other is dropped
+  pub first-stays : (path : List Branch) → Holds path bs n → 0 < n → n ≤ 270 → getD bs (n - 1) 0 ≡ 0 → without-seconds path ≡ path
+  first-stays [] h g l e = absurd (omega (arith, h .many))
+  first-stays (first ∷ path) h g l e = refl
+  first-stays (second ∷ path) h g l e = absurd (omega (arith, last-number second path h l))
+
+  pub second-dropped : (path : List Branch) → Holds path bs n → 0 < n → n ≤ 270 → (getD bs (n - 1) 0 ≡ 0 → ⊥)
+      → (rest : List Branch) × Holds rest (set bs (n - 1) 0) (n - 1) × (without-seconds path ≡ without-seconds rest)
+  second-dropped [] h g l f = absurd (omega (arith, h .many))
+  second-dropped (first ∷ path) h g l f = absurd (f (last-number first path h l))
+  second-dropped (second ∷ path) h g l f = (path, dropped h, refl)
+
+-- nothing is left of a path
+pub holds-none : {path : List Branch} {bs : List ℕ} → Holds path bs 0 → path ≡ []
+holds-none {path = path} h = go path (h .many)
+  where
+    go : (l : List Branch) → 0 ≡ length l → l ≡ []
+    go [] e = refl
+    go (b ∷ l) e = absurd (omega arith)
+
+-- the test of one branch more
+below-fail : (n : ℕ) (f : ℕ → Bool) → f n ≡ false → all-below (suc n) f ≡ false
+below-fail n f e = ap (λ (b : Bool). elim b as (λ _. Bool) [ true ↦ all-below n f | false ↦ false ]) e
+
+below-pass : (n : ℕ) (f : ℕ → Bool) → f n ≡ true → all-below (suc n) f ≡ all-below n f
+below-pass n f e = ap (λ (b : Bool). elim b as (λ _. Bool) [ true ↦ all-below n f | false ↦ false ]) e
+
+module _ (i : ℕ) (bs : List ℕ) (some-left : 0 < i) where
+  one-more : suc (i - 1) ≡ i
+  one-more = omega arith
+
+  pub branches-fail : 1 < getD bs (i - 1) 0 → all-branches i bs ≡ false
+  unfolding all-branches
+  branches-fail g =
+      subst (λ (n : ℕ). all-branches n bs ≡ false) one-more (below-fail (i - 1) (λ j. ltb (getD bs j 0) 2) (le-ltb (getD bs (i - 1) 0) 2 (omega arith)))
+
+  pub branches-pass : getD bs (i - 1) 0 ≤ 1 → all-branches i bs ≡ all-branches (i - 1) bs
+  unfolding all-branches
+  branches-pass g =
+      subst (λ (n : ℕ). all-branches n bs ≡ all-branches (i - 1) bs) one-more (below-pass (i - 1) (λ j. ltb (getD bs j 0) 2) (lt-ltb (getD bs (i - 1) 0) 2 (omega arith)))

@@ -1,0 +1,39 @@
+-- `search::path::path_branches` meets its contract. The first i branches are written: the array holds the path that they are.
+use mathlib.Core.Path.{_≡_}
+use Prim.Native.Nat.{_-_, _≤_}
+use native.Mathlib.Omega.{arith}
+use lib.ListN.{getD}
+use Rattle.search.specs.Checkpoints.{branch-of, path-of, branches-of}
+use Rattle.search.specs.Standing.{Holds}
+use Rattle.search.proofs.Checkpoints.{holds-root, holds-next, bits-next, path-next}
+use Rattle.search.proofs.path.path_branches.Statement.{statement}
+use Rattle.search.proofs.path.path_branches.Tie as tie
+
+abbrev Inv-loop : tie.InvT-loop
+Inv-loop length given branches₀ i₀ branches i = (i ≤ length) × Holds (path-of i given) branches i
+
+abbrev μ-loop : tie.MeasureT-loop
+μ-loop length given branches₀ i₀ branches i = length - i
+
+loop-holds : tie.Need-loop-holds Inv-loop μ-loop
+unfolding branches-of
+loop-holds c = (omega arith, holds-root)
+
+array-write-branches : tie.Need-array-write-branches Inv-loop μ-loop
+array-write-branches c = omega (arith, c .before .before .pre .within)
+
+loop-again : tie.Need-loop-again Inv-loop μ-loop
+loop-again c =
+    let l = c .before .loop in
+    let bs = c .before .before .args .t1 in
+    let h = holds-next (branch-of (getD bs (l .i) 0)) (l .inv .1) in
+    (omega arith, rw path-next (rw (bits-next (l .i) (c .before .before .pre) (omega arith)) at h))
+
+returns : tie.Need-returns Inv-loop μ-loop
+returns c = let e : c .before .loop .i ≡ c .before .before .args .length = omega arith in rw (← e) (c .before .loop .inv .1 .values)
+
+pub path-branches-spec : {M : Type 1} → statement M
+path-branches-spec =
+    tie.close
+    (tie.spec Inv-loop μ-loop loop-holds (λ c. omega arith) array-write-branches (λ c. omega arith) (λ c. omega arith)
+    loop-again returns)

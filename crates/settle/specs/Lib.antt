@@ -1,3 +1,0 @@
-pub mod Circle
-pub mod Pending
-pub mod Mentions

@@ -1,0 +1,94 @@
+/* Searches in a thread of 64 kB of stack. Standard input has bench/sheets.txt's lines, NAME HEX ANSWER STEPS: each sheet is searched with
+ * 1,000,000 steps, and its plan checked, in a thread whose stack is STACK_BYTES of memory filled with a pattern. What the thread did not
+ * write still has the pattern, which tells how much it used, the C library's own part included. */
+#include "hallplan.h"
+
+#include <pthread.h>
+#include <stdio.h>
+#include <stdlib.h>
+#include <string.h>
+#include <sys/mman.h>
+
+#define STACK_BYTES 65536
+#define PATTERN 0xA5
+
+static uint8_t sheet[262], note[HALLPLAN_NOTE_BYTES], steps[HALLPLAN_STEP_BYTES], plan[10 * HALLPLAN_PIECE_BYTES];
+static size_t sheet_len, plan_len;
+static uint32_t answer, fits;
+
+static void *search(void *unused)
+{
+    (void)unused;
+    memset(note, 0, sizeof note);
+    answer = hallplan_search(sheet, sheet_len, note, sizeof note, 1000000, steps, sizeof steps, plan, plan_len);
+    fits = answer == HALLPLAN_PLACED ? hallplan_check(sheet, sheet_len, plan, plan_len) : HALLPLAN_YES;
+    return NULL;
+}
+
+/* Bytes of the stack that were written. */
+static size_t used(const uint8_t *stack)
+{
+    size_t free_bytes = 0;
+    while (free_bytes < STACK_BYTES && stack[free_bytes] == PATTERN) {
+        free_bytes++;
+    }
+    return STACK_BYTES - free_bytes;
+}
+
+static void in_thread(uint8_t *stack)
+{
+    pthread_attr_t attributes;
+    pthread_t thread;
+    memset(stack, PATTERN, STACK_BYTES);
+    if (pthread_attr_init(&attributes) != 0 || pthread_attr_setstack(&attributes, stack, STACK_BYTES) != 0
+        || pthread_create(&thread, &attributes, search, NULL) != 0 || pthread_join(thread, NULL) != 0) {
+        fputs("stack: no thread\n", stderr);
+        exit(2);
+    }
+    pthread_attr_destroy(&attributes);
+}
+
+static void read_sheet(const char *hex)
+{
+    unsigned byte;
+    sheet_len = 0;
+    while (sheet_len < sizeof sheet && sscanf(hex + 2 * sheet_len, "%2x", &byte) == 1) {
+        sheet[sheet_len++] = (uint8_t)byte;
+    }
+    /* the piece count follows the map byte and the measures that it names */
+    size_t at = 1;
+    for (int bit = 0; bit < 3; bit++) {
+        at += sheet[0] >> bit & 1 ? 2 : 0;
+    }
+    plan_len = sheet[0] >> 3 & 1 ? (size_t)sheet[at] * HALLPLAN_PIECE_BYTES : 0;
+}
+
+int main(void)
+{
+    static const char *const words[] = {"spent", "placed", "none"};
+    char line[1024], name[64], hex[600], word[16];
+    unsigned count;
+    int wrong = 0, sheets = 0;
+    size_t most = 0;
+    /* a page without access below the stack ends the program where 64 kB are not enough */
+    uint8_t *memory = mmap(NULL, 4096 + STACK_BYTES, PROT_READ | PROT_WRITE, MAP_PRIVATE | MAP_ANONYMOUS, -1, 0);
+    if (memory == MAP_FAILED || mprotect(memory, 4096, PROT_NONE) != 0) {
+        return 2;
+    }
+    while (fgets(line, sizeof line, stdin) != NULL) {
+        if (line[0] == '#' || sscanf(line, "%63s %599s %15s %u", name, hex, word, &count) != 4) {
+            continue;
+        }
+        read_sheet(hex);
+        in_thread(memory + 4096);
+        unsigned taken = steps[0] | (unsigned)steps[1] << 8 | (unsigned)steps[2] << 16 | (unsigned)steps[3] << 24;
+        if (answer > 2 || strcmp(words[answer], word) != 0 || taken != count || fits != HALLPLAN_YES) {
+            printf("stack: %s: expected %s %u, got %u %u\n", name, word, count, (unsigned)answer, taken);
+            wrong = 1;
+        }
+        most = used(memory + 4096) > most ? used(memory + 4096) : most;
+        sheets++;
+    }
+    printf("stack: %d sheets in threads of %d bytes of stack, at most %zu used\n", sheets, STACK_BYTES, most);
+    return wrong || sheets == 0;
+}
