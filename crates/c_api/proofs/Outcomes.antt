@@ -26,7 +26,7 @@ use Rattle.packing.specs.Check.{check-answer, check-number}
 use Rattle.packing.specs.declared.CheckAnswer.{CheckAnswer}
 use Rattle.search.proofs.Checkpoints.{value-short}
 use Rattle.search.proofs.Claim.{short, CallIs, invalid, not-following, searched, call-is}
-use Rattle.nodes.proofs.Sound.{valid-sound}
+use Rattle.opening.proofs.Sound.{valid-sound}
 use Rattle.search.specs.Checkpoints.{checkpoint-of, value-of}
 use Rattle.search.specs.Results as R
 use Rattle.search.specs.declared.results.SearchResult.{SearchResult}

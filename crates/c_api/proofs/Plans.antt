@@ -27,7 +27,7 @@ use Rattle.instance.specs.Valid.{valid}
 use Rattle.instance.specs.declared.Instance.{Instance}
 use Rattle.packing.specs.Check.{answer-of, check-answer, check-number}
 use Rattle.search.proofs.Packing as Value
-use Rattle.nodes.proofs.Sound.{valid-sound}
+use Rattle.opening.proofs.Sound.{valid-sound}
 use Rattle.search.specs.Results.{packing-of}
 use Rattle.buffers.proofs.Bytes.{packing-length, packing-back}
 use Rattle.buffers.specs.Bytes.{packing-in}

@@ -24,7 +24,7 @@ use Rattle.packing.proofs.Decides.{decides}
 use Rattle.packing.specs.Check.{check-answer, check-number}
 use Rattle.search.proofs.Claim as Values
 use Rattle.search.proofs.Packing.{packing-back, feasible-same}
-use Rattle.nodes.proofs.Sound.{valid-sound}
+use Rattle.opening.proofs.Sound.{valid-sound}
 use Rattle.search.specs.Calls.{values}
 use Rattle.search.specs.Results.{answer-number, packing-of, search-result, nine}
 use Rattle.buffers.specs.Bytes.{packing-in}

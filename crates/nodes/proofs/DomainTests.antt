@@ -3,10 +3,10 @@ use mathlib.Core.Bool.{Bool, true, false, _||_}
 use mathlib.Core.List.{List}
 use mathlib.Core.Logic.{_⊎_, inl, inr}
 use mathlib.Core.Path.{_≡_, refl, sym}
-use Prim.Native.Nat.{ℕ, _+_, _≤_, _<_}
+use Prim.Native.Nat.{ℕ, zero, suc, _+_, _≤_, _<_}
 use native.Mathlib.Nat.{eq-or-lt-of-le}
 use native.Mathlib.Omega.{arith}
-use lib.ListN.{getD, set, length}
+use lib.ListN.{getD, set, length, replicate}
 use lib.Seq.{getD-set-same, getD-set-other}
 use Rattle.model.specs.Below.{some-below}
 use Rattle.model.proofs.Below.{some-at, some-of, clash}
@@ -60,3 +60,9 @@ some-axis f = go (f 2) (f 1) (f 0)
     go false true z = refl
     go false false true = refl
     go false false false = refl
+
+-- A list of one value
+pub blank-at : {A : Type 0} (x : A) (m i : ℕ) → getD (replicate m x) i x ≡ x
+blank-at x zero i = refl
+blank-at x (suc m) zero = refl
+blank-at x (suc m) (suc i) = blank-at x m i

@@ -2,10 +2,5 @@ pub mod DomainTests
 pub mod Snapshots
 pub mod Choosing
 pub mod BranchRemovals
-pub mod Openings
-pub mod PairCuts
-pub mod Roots
-pub mod Layouts
 pub mod Packings
-pub mod Sound
 pub mod Branches

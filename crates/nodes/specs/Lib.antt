@@ -1,6 +1,4 @@
 pub mod Choice
-pub mod Layout
 pub mod Starts
 pub mod Levels
-pub mod Openings
 pub mod Nodes

@@ -1,6 +1,6 @@
 -- Nodes of the search tree: domains of a path with their rows, queue and totals.
-use mathlib.Core.Bool.{Bool, true, false}
-use mathlib.Core.List.{List, []}
+use mathlib.Core.Bool.{false}
+use mathlib.Core.List.{List}
 use mathlib.Core.Path.{_≡_}
 use Prim.Native.Nat.{ℕ, _/_, _%_}
 use Rattle.model.specs.Branching.{Branch, path-domains, inconsistent}
@@ -8,12 +8,9 @@ use Rattle.model.specs.Domains.{Domains}
 use Rattle.model.specs.Problem.{Problem}
 use Rattle.model.specs.Propagate.{Slot, propagate}
 use Rattle.model.specs.Relations.{Untouched}
-use Rattle.model.specs.Run.{look}
-use Rattle.model.specs.Search as S
 use Rattle.model.specs.Wide.{wide}
 use Rattle.propagation.specs.Propagated.{Ready, Rested}
 use Rattle.domains.specs.declared.Place.{Place}
-use Rattle.nodes.specs.declared.opening.Root.{Root}
 
 abbrev pub slot-of : Place → Slot
 slot-of c = record { axis = c .axis; u = c .u; v = c .v }
@@ -38,8 +35,3 @@ pub record Seen (p : Problem) (k : Domains) (rows t : List ℕ) (path : List Bra
   pub is : k ≡ path-domains p path
   pub rested : Rested (wide p) k rows t
   pub consistent : inconsistent p k ≡ false
-
--- the opening domains, ready; or that they are inconsistent
-abbrev pub RootedIf : Problem → Root → Bool → Type 0
-RootedIf p r true = At p (r .domains) (r .rows) (r .queue) (r .totals) []
-RootedIf p r false = look p [] ≡ S.conflict

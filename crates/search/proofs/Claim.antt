@@ -30,7 +30,7 @@ use Rattle.search.specs.Results.{answer-number, answer-of, packing-with,
 use Rattle.search.specs.declared.results.SearchResult.{SearchResult}
 use Rattle.search.proofs.Checkpoints.{Short, checkpoint-back, value-well-formed}
 use Rattle.search.proofs.Packing.{packing-back, feasible-same}
-use Rattle.nodes.proofs.Sound.{valid-sound}
+use Rattle.opening.proofs.Sound.{valid-sound}
 
 -- the value of the opening checkpoint
 pub opening-value : value-of S.opening ≡ opening-checkpoint

@@ -25,7 +25,6 @@ use nodes::branching::apply_branch;
 use nodes::branching::pair_number;
 use nodes::levels;
 use nodes::levels::MAX_LEVELS;
-use nodes::opening;
 use nodes::starts;
 use refusal::Refusal;
 

@@ -8,8 +8,7 @@ use lib.Seq.{getD-set-other}
 use Rattle.instance.specs.declared.Position.{Position}
 use Rattle.instance.specs.Meaning.{start, positions-of}
 use Rattle.instance.specs.Values.{origin}
-use Rattle.nodes.proofs.DomainTests.{stored-more}
-use Rattle.nodes.proofs.Layouts.{blank-at}
+use Rattle.nodes.proofs.DomainTests.{blank-at, stored-more}
 use Rattle.nodes.proofs.Packings.{position-at, start-of-position}
 use Rattle.nodes.proofs.starts.starts_of.Statement.{statement}
 use Rattle.nodes.proofs.starts.starts_of.Tie as tie

@@ -29,7 +29,7 @@ use Rattle.nodes.proofs.Branches.{branchable}
 use Rattle.search.proofs.Checkpoints.{branches-length}
 use Rattle.search.proofs.Complete.{startable, started-plan}
 use Rattle.search.proofs.Seeing.{seen-untouched}
-use Rattle.nodes.proofs.Sound.{valid-sound}
+use Rattle.opening.proofs.Sound.{valid-sound}
 use Rattle.search.proofs.Standing.{Standing, storable, stand-root, same-behind, fork-rising, fork-level, fork-depth, stand-next}
 use Rattle.search.proofs.Standing.{Turn, turn-none, turn-there, turn-depth, turn-level, turn-below, turn-seen, turn-place, stand-back}
 use Rattle.search.proofs.Stepping.{Way, way-root, way-small, way-fork, way-back, not-following, result-infeasible, result-packed, result-spent}

@@ -1,4 +1,4 @@
--- `nodes::opening::fix_precedences` meets its contract. The loop's invariant: i precedences are fixed, and fixing the rest comes to fixing all.
+-- `opening::fix_precedences` meets its contract. The loop's invariant: i precedences are fixed, and fixing the rest comes to fixing all.
 -- The measure is what is left.
 use borrow.Author.Needs.{needs}
 use borrow.Author.Tests.{not-true, not-false}
@@ -6,9 +6,9 @@ use native.Mathlib.Omega.{arith}
 use mathlib.Core.Path.{_≡_}
 use Prim.Native.Nat.{_-_}
 use lib.ListN.{length}
-use Rattle.nodes.proofs.Openings.{Fixing, fixing-none, next-proper, fixable, fixing-next, fixing-fails, fixing-done}
-use Rattle.nodes.proofs.opening.fix_precedences.Statement.{statement}
-use Rattle.nodes.proofs.opening.fix_precedences.Tie as tie
+use Rattle.opening.proofs.Openings.{Fixing, fixing-none, next-proper, fixable, fixing-next, fixing-fails, fixing-done}
+use Rattle.opening.proofs.fix_precedences.Statement.{statement}
+use Rattle.opening.proofs.fix_precedences.Tie as tie
 
 abbrev Inv-loop : tie.InvT-loop
 Inv-loop k₀ rows₀ queue₀ m precedences i₀ k rows queue i = Fixing m precedences k₀ queue₀ i k rows queue

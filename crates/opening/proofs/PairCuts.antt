@@ -22,8 +22,8 @@ use Rattle.domains.specs.Queue.{end, Good}
 use Rattle.domains.specs.Narrowed.{Narrowed, Outcome, Refuted, All, Asked, Askable}
 use Rattle.chains.specs.Totals.{table, capacity-at, Tabled}
 use Rattle.chains.specs.Cuts.{above-both}
-use Rattle.nodes.specs.Openings.{PairsCut, PairsAsked, Past, Outside}
+use Rattle.opening.specs.Openings.{PairsCut, PairsAsked, Past, Outside}
 use Rattle.nodes.proofs.BranchRemovals.{filled-more}
 use Rattle.domains.proofs.BitLaws.{bit-shl, shl-small}
 use Rattle.domains.proofs.Narrowed.{narrowed-none, narrowed-as, narrowed-then, refuted-later, outcome-as}
 

@@ -1,4 +1,4 @@
--- `nodes::opening::cut_pairs` meets its contract. The first `i` places of axis and item are dealt with; those left are ever fewer.
+-- `opening::cut_pairs` meets its contract. The first `i` places of axis and item are dealt with; those left are ever fewer.
 use mathlib.Core.Bool.{true, false}
 use mathlib.Core.Path.{_≡_, refl, sym, subst}
 use Prim.Native.Nat.{ℕ, _+_, _*_, _/_, _%_, _-_, _≤_, _<_}
@@ -6,10 +6,10 @@ use native.Mathlib.Omega.{arith}
 use borrow.Author.Needs.{needs}
 use borrow.Author.Tests.{not-true, not-false}
 use Rattle.domains.specs.Narrowed.{Narrowed}
-use Rattle.nodes.specs.Openings.{PairsAsked, Outside}
-use Rattle.nodes.proofs.PairCuts.{CutTo, cut-start, cut-end, pairs-askable, pairs-refuted, pairs-next, pairs-outside}
-use Rattle.nodes.proofs.opening.cut_pairs.Statement.{statement}
-use Rattle.nodes.proofs.opening.cut_pairs.Tie as tie
+use Rattle.opening.specs.Openings.{PairsAsked, Outside}
+use Rattle.opening.proofs.PairCuts.{CutTo, cut-start, cut-end, pairs-askable, pairs-refuted, pairs-next, pairs-outside}
+use Rattle.opening.proofs.cut_pairs.Statement.{statement}
+use Rattle.opening.proofs.cut_pairs.Tie as tie
 
 abbrev Inv-loop : tie.InvT-loop
 Inv-loop k₀ rows₀ queue₀ t i₀ k rows queue i = (i ≤ 30) × Narrowed (PairsAsked t) (CutTo t i) k₀ queue₀ k rows queue × Outside t k₀ k

@@ -1,13 +1,13 @@
--- `nodes::layout::totals_of` meets its contract. Invariant: the first u items are laid out. Measure: the items left.
+-- `opening::layout::totals_of` meets its contract. Invariant: the first u items are laid out. Measure: the items left.
 use borrow.Author.Needs.{needs}
 use native.Mathlib.Omega.{arith}
 use Prim.Native.Nat.{_-_, _≤_, _<_}
 use mir.Syntax.{w16}
 use mir.Val.{Fits}
-use Rattle.nodes.specs.Layout.{LaidOut}
-use Rattle.nodes.proofs.Layouts.{first-items, small-of, held, laid-none, laid-next, laid-all}
-use Rattle.nodes.proofs.layout.totals_of.Statement.{statement}
-use Rattle.nodes.proofs.layout.totals_of.Tie as tie
+use Rattle.opening.specs.Layout.{LaidOut}
+use Rattle.opening.proofs.Layouts.{first-items, small-of, held, laid-none, laid-next, laid-all}
+use Rattle.opening.proofs.layout.totals_of.Statement.{statement}
+use Rattle.opening.proofs.layout.totals_of.Tie as tie
 
 abbrev Inv-loop : tie.InvT-loop
 Inv-loop n items t₀ u₀ t u = (u ≤ n) × LaidOut (first-items items t₀ u) t

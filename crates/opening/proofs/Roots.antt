@@ -3,7 +3,7 @@ use mathlib.Core.Bool.{Bool, true, false, not, _&&_}
 use mathlib.Core.List.{List, [], _∷_}
 use mathlib.Core.Logic.{_⊎_, inl, inr}
 use mathlib.Core.Path.{_≡_, refl, sym, _∙_, ap, subst}
-use Prim.Native.Nat.{ℕ, zero, suc, _+_, _*_, _≤_, _<_}
+use Prim.Native.Nat.{ℕ, _+_, _*_, _≤_, _<_}
 use native.Mathlib.Decide.{ℕ-discrete, decLt}
 use native.Mathlib.Omega.{arith}
 use lib.Dec.{ltb, eqb}
@@ -43,21 +43,17 @@ use Rattle.domains.specs.Queue.{end, Queued, Good}
 use Rattle.domains.specs.Narrowed.{Grown, Narrowed, Refuted}
 use Rattle.chains.specs.Totals.{table, size-at, capacity-at, Tabled, Measured}
 use Rattle.propagation.specs.Propagated.{Ready}
-use Rattle.nodes.specs.Layout.{LaidOut, LargeIf}
-use Rattle.nodes.specs.Openings.{PairsCut, PairsAsked, Past, Outside}
+use Rattle.opening.specs.Layout.{LaidOut, LargeIf}
+use Rattle.opening.specs.Openings.{PairsCut, PairsAsked, Past, Outside}
 use Rattle.nodes.specs.Nodes.{Leads, At}
 use Rattle.domains.proofs.BitLaws.{bit-zero}
+use Rattle.nodes.proofs.DomainTests.{blank-at}
 use Rattle.domains.proofs.Narrowed.{grown-then}
 use Rattle.domains.proofs.Rooms.{good-start}
 use Rattle.propagation.proofs.Pending.{pending-start}
 use Rattle.nodes.proofs.BranchRemovals.{filled-more}
 
 -- Nothing is removed yet
-same-at : (x m i : ℕ) → getD (replicate m x) i x ≡ x
-same-at x zero i = refl
-same-at x (suc m) zero = refl
-same-at x (suc m) (suc i) = same-at x m i
-
 full-not : (c : Claim) → Proper 10 (c .axis) (c .u) (c .v) → Holds full-domains c → ⊥
 unfolding says
 full-not c s h = by (c .saying) h
@@ -84,8 +80,8 @@ full-laid = record {
   filled = λ a u v s. ap (λ (b : Bool). b && (gone full-domains 1 a u v && gone full-domains 2 a u v)) (full-left 0 s);
   mirror = record {
     long = refl;
-    small = λ i. rw (same-at 0 30 i) (omega arith);
-    is = λ x a u v hx ha hu hv. ap (λ (m : ℕ). bit-at m (x * 10 + v)) (same-at 0 30 (a * 10 + u)) ∙ (bit-zero (x * 10 + v) ∙ sym (none x a u v ha hu hv (ℕ-discrete u v)));
+    small = λ i. rw (blank-at {A = ℕ} 0 30 i) (omega arith);
+    is = λ x a u v hx ha hu hv. ap (λ (m : ℕ). bit-at m (x * 10 + v)) (blank-at {A = ℕ} 0 30 (a * 10 + u)) ∙ (bit-zero (x * 10 + v) ∙ sym (none x a u v ha hu hv (ℕ-discrete u v)));
   };
 }
   where

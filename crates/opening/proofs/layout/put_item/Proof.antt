@@ -1,12 +1,12 @@
--- `nodes::layout::put_item` meets its contract.
+-- `opening::layout::put_item` meets its contract.
 use borrow.Author.Needs.{needs}
 use native.Mathlib.Omega.{arith}
 use mathlib.Core.Path.{refl}
 use lib.ListN.{length-set}
 use mir.Syntax.{w16}
 use mir.Val.{Fits}
-use Rattle.nodes.proofs.layout.put_item.Statement.{statement}
-use Rattle.nodes.proofs.layout.put_item.Tie as tie
+use Rattle.opening.proofs.layout.put_item.Statement.{statement}
+use Rattle.opening.proofs.layout.put_item.Tie as tie
 
 put-size-requires-2 : tie.Need-put-size-requires-2
 put-size-requires-2 c κs = (rw (c .before .put-size .ensures) (simp length-set (c .before .before .before .pre .0)), omega (arith, c .before .before .before .pre .1))

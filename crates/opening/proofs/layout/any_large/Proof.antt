@@ -1,4 +1,4 @@
--- `nodes::layout::any_large` meets its contract. No item at a place below i is above the container's measure; the places left are ever fewer.
+-- `opening::layout::any_large` meets its contract. No item at a place below i is above the container's measure; the places left are ever fewer.
 use mathlib.Core.List.{List}
 use mathlib.Core.Path.{_≡_, subst}
 use Prim.Native.Nat.{ℕ, _+_, _*_, _/_, _%_, _-_, _≤_, _<_}
@@ -7,8 +7,8 @@ use native.Mathlib.Omega.{arith}
 use lib.ListN.{getD}
 use borrow.Author.Needs.{needs}
 use Rattle.chains.specs.Totals.{size-at, capacity-at}
-use Rattle.nodes.proofs.layout.any_large.Statement.{statement}
-use Rattle.nodes.proofs.layout.any_large.Tie as tie
+use Rattle.opening.proofs.layout.any_large.Statement.{statement}
+use Rattle.opening.proofs.layout.any_large.Tie as tie
 
 abbrev Inv-loop : tie.InvT-loop
 Inv-loop t i₀ i = (i ≤ 30) × ((a u : ℕ) → a < 3 → u < 10 → a * 10 + u < i → size-at t a u ≤ capacity-at t a)

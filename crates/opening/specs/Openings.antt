@@ -1,17 +1,21 @@
 -- The opening domains by removals.
 use mathlib.Core.Bool.{Bool, true, false}
-use mathlib.Core.List.{List}
+use mathlib.Core.List.{List, []}
 use mathlib.Core.Path.{_≡_}
 use Prim.Native.Nat.{ℕ, _+_, _≤_, _<_}
-use Rattle.model.specs.Problem.{Precedence}
+use Rattle.model.specs.Problem.{Problem, Precedence}
 use Rattle.model.specs.Domains.{Domains}
 use Rattle.model.specs.Order.{Proper}
 use Rattle.model.specs.Branching.{fix-precedences}
 use Rattle.model.specs.Relations.{gone, Filled, Untouched}
 use Rattle.model.specs.Toward.{Direction}
+use Rattle.model.specs.Run.{look}
+use Rattle.model.specs.Search as S
 use Rattle.domains.specs.Queue.{Long}
 use Rattle.domains.specs.Narrowed.{Grown}
 use Rattle.chains.specs.Totals.{table, capacity-at}
+use Rattle.nodes.specs.Nodes.{At}
+use Rattle.opening.specs.declared.Root.{Root}
 
 -- all but "u before v" on t is removed for each precedence; or that leaves a pair nothing
 abbrev pub FixedIf : List Precedence → Domains → List ℕ → Domains → List ℕ → List ℕ → Bool → Type 0
@@ -37,3 +41,8 @@ Outside t k j = (n : ℕ) → n ≤ 10 → Past t n → Untouched n k → Untouc
 abbrev pub OutsideIf : List ℕ → Domains → Domains → Bool → Type 0
 OutsideIf t k j true = Outside t k j
 OutsideIf t k j false = Unit {0}
+
+-- the opening domains, ready; or that they are inconsistent
+abbrev pub RootedIf : Problem → Root → Bool → Type 0
+RootedIf p r true = At p (r .domains) (r .rows) (r .queue) (r .totals) []
+RootedIf p r false = look p [] ≡ S.conflict

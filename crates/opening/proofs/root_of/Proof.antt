@@ -1,4 +1,4 @@
--- `nodes::opening::root_of` meets its contract.
+-- `opening::root_of` meets its contract.
 use borrow.Author.Needs.{needs}
 use borrow.Author.Tests.{not-true, not-false}
 use mathlib.Core.Bool.{Bool, true, false}
@@ -10,14 +10,14 @@ use Rattle.model.specs.Domains.{full-domains}
 use Rattle.model.specs.Branching.{opening-domains}
 use Rattle.instance.proofs.Arrays.{length-mapped}
 use Rattle.instance.specs.Meaning.{problem-of}
-use Rattle.nodes.specs.Layout.{LargeIf}
+use Rattle.opening.specs.Layout.{LargeIf}
 use Rattle.domains.specs.Narrowed.{Outcome}
-use Rattle.nodes.specs.Openings.{FixedIf, PairsAsked, PairsCut, OutsideIf}
+use Rattle.opening.specs.Openings.{FixedIf, PairsAsked, PairsCut, OutsideIf}
 use Rattle.model.proofs.Propagate.{propagate-less}
-use Rattle.nodes.proofs.Sound.{valid-sound, valid-parts}
-use Rattle.nodes.proofs.Roots.{no-queue, full-good, large-conflict, root-conflict, root-filled, root-asked, root-tabled, rooted, stands-wide}
-use Rattle.nodes.proofs.opening.root_of.Statement.{statement}
-use Rattle.nodes.proofs.opening.root_of.Tie as tie
+use Rattle.opening.proofs.Sound.{valid-sound, valid-parts}
+use Rattle.opening.proofs.Roots.{no-queue, full-good, large-conflict, root-conflict, root-filled, root-asked, root-tabled, rooted, stands-wide}
+use Rattle.opening.proofs.root_of.Statement.{statement}
+use Rattle.opening.proofs.root_of.Tie as tie
 
 sound : (c : tie.Start) → Sound (problem-of (c .args .instance))
 sound c = valid-sound (c .args .instance) (c .pre) (search length-mapped)

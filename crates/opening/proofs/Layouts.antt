@@ -16,14 +16,9 @@ use Rattle.parts.specs.declared.Item.{Item}
 use Rattle.parts.specs.declared.Size.{Size}
 use Rattle.instance.specs.declared.Instance.{Instance}
 use Rattle.instance.specs.Meaning.{measure, problem-of}
+use Rattle.nodes.proofs.DomainTests.{blank-at}
 use Rattle.chains.specs.Totals.{table, size-at, capacity-at}
-use Rattle.nodes.specs.Layout.{put, put-item, LaidOut}
-
--- a list of one value
-pub blank-at : {A : Type 0} (x : A) (m i : ℕ) → getD (replicate m x) i x ≡ x
-blank-at x zero i = refl
-blank-at x (suc m) zero = refl
-blank-at x (suc m) (suc i) = blank-at x m i
+use Rattle.opening.specs.Layout.{put, put-item, LaidOut}
 
 -- A measure at its three places
 module _ (t : List ℕ) (i m : ℕ) (long : length t ≡ 93) (h : i < 30) where

@@ -27,9 +27,9 @@ use Rattle.model.proofs.Order.{below-refl, below-trans}
 use Rattle.model.proofs.Removal.{fix-before-less}
 use Rattle.domains.specs.Queue.{end, Good}
 use Rattle.domains.specs.Narrowed.{Grown, Outcome, All, Asked, Askable}
-use Rattle.nodes.specs.Openings.{FixedIf}
+use Rattle.opening.specs.Openings.{FixedIf}
 use Rattle.domains.proofs.Narrowed.{grown-none, grown-then}
 use Rattle.nodes.proofs.BranchRemovals.{taken-one, taken-more, SetOf, set-one, set-more, askable, filled-more, Exact, exact}
 
 stands-at : (n : ℕ) (last : Previous) (l : List Precedence) → all-stand n last l ≡ true → (i : ℕ) → i < length l
     → names-items n (getD l i no-precedence) ≡ true

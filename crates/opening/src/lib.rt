@@ -12,9 +12,7 @@ ghost use Rattle.instance.specs.Meaning.{problem-of, precedence-of};
 ghost use Rattle.domains.specs.Queue.{Good};
 ghost use Rattle.chains.specs.Totals.{Tabled};
 ghost use Rattle.domains.specs.Narrowed.{Outcome};
-ghost use Rattle.nodes.specs.Openings.{FixedIf, PairsAsked, PairsCut, OutsideIf};
-ghost use Rattle.nodes.specs.Nodes.{RootedIf};
-use crate::layout;
+ghost use Rattle.opening.specs.Openings.{FixedIf, PairsAsked, PairsCut, OutsideIf, RootedIf};
 use chains::cuts::too_long;
 use chains::totals::STARTS;
 use domains::bits::bit;
@@ -22,6 +20,8 @@ use domains::queue::MAX_QUEUE;
 use domains::removal::remove;
 use instance::Instance;
 use parts::Precedence;
+
+mod layout;
 
 // The opening domains with their rows, queue and totals; or that they are inconsistent.
 pub struct Root {

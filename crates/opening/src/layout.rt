@@ -3,7 +3,7 @@ ghost use mathlib.Core.Path.{_≡_};
 ghost use Prim.Native.Nat.{_≤_, _<_};
 ghost use lib.ListN.{length};
 ghost use Rattle.instance.specs.Meaning.{problem-of};
-ghost use Rattle.nodes.specs.Layout.{put, put-item, LaidOut, LargeIf};
+ghost use Rattle.opening.specs.Layout.{put, put-item, LaidOut, LargeIf};
 use chains::totals::CAPACITY;
 use chains::totals::SIZES;
 use chains::totals::STARTS;

@@ -1,0 +1,5 @@
+pub mod Openings
+pub mod PairCuts
+pub mod Roots
+pub mod Layouts
+pub mod Sound
