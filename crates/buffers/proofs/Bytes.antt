@@ -1,13 +1,7 @@
 -- Laws of words, positions and steps as bytes.
-use mathlib.Core.List.{List, [], _∷_, _++_, map, append-nil}
-use mathlib.Core.Path.{_≡_, refl, sym, ap, _∙_}
-use Prim.Native.Nat.{ℕ, zero, suc, _+_, _*_, _/_, _%_, _≤_, _<_}
-use native.Mathlib.Decide.{ℕ-discrete, decLt}
-use native.Mathlib.Omega.{arith}
-use native.Mathlib.Nat.{add-zero}
-use native.Mathlib.Numerals.{add-one}
-use lib.ListN.{length, getD, take, drop, set, replicate, length-set, drop-of-length-le, List·getD-eq-default}
-use lib.Seq.{sets, ext-getD, length-take-le, take-suc, getD-set-same, getD-set-other, getD-append-add, getD-take}
+use Rattle.prelude.specs.Names.{List, [], _∷_, _++_, map, append-nil, _≡_, refl, sym, ap, _∙_, ℕ, zero, suc, _+_, _*_, _/_, _%_, _≤_, _<_, ℕ-discrete}
+use Rattle.prelude.specs.Names.{decLt, arith, add-zero, length, getD, take, set, replicate, length-set, drop-of-length-le, List·getD-eq-default, sets}
+use Rattle.prelude.specs.Names.{ext-getD, length-take-le, getD-set-same, getD-set-other, getD-append-add, getD-take}
 use Rattle.formats.specs.Formats.{row-bytes}
 use Rattle.formats.proofs.Stores.{sets-front, sets-append, row-next}
 use Rattle.instance.specs.declared.Packing.{Packing}
@@ -32,13 +26,6 @@ pub fills : (bs out : List ℕ) → length out ≡ length bs → sets out 0 bs �
 fills bs out h =
     let l : length out ≤ length bs = omega arith in
     sets-front bs out (omega arith) ∙ rw (drop-of-length-le out l) (append-nil bs)
-
--- one byte more of a row that is stored from a place on
-pub sets-next : (l s : List ℕ) (at i : ℕ) → i < length s → set (sets l at (take i s)) (at + i) (getD s i 0) ≡ sets l at (take (i + 1) s)
-sets-next l s at i h =
-    let e : at + length (take i s) ≡ at + i = rw (length-take-le i s (omega arith)) in
-    let a = sets-append (take i s) (getD s i 0 ∷ []) l at in
-    rw (add-one, take-suc s i 0 h, ← a, e)
 
 pub steps-fill : (m : ℕ) (out : List ℕ) → length out ≡ 4 → sets out 0 (m % 256 ∷ m / 256 % 256 ∷ m / 65536 % 256 ∷ m / 16777216 ∷ []) ≡ step-bytes m
 unfolding step-bytes

@@ -1,23 +1,17 @@
 -- Laws of checkpoints as bytes.
-use mathlib.Core.Bool.{Bool, true, false, _&&_}
-use mathlib.Core.List.{List, [], _∷_, _++_}
-use mathlib.Core.Path.{_≡_, refl, sym, ap, _∙_}
-use Prim.Native.Nat.{ℕ, zero, suc, _+_, _*_, _/_, _%_, _≤_, _<_}
-use native.Mathlib.Omega.{arith}
-use native.Mathlib.Numerals.{add-one}
-use borrow.Author.Tests.{eq-eqb, ne-eqb, eqb-true}
-use lib.Dec.{ltb, eqb}
-use lib.ListN.{length, getD, take, drop, set, length-drop, drop-of-length-le}
-use lib.Seq.{sets, drop-cons, drop-append-add, getD-drop, take-all}
+use Rattle.prelude.specs.Names.{true, false, _&&_, List, [], _∷_, _≡_, refl, sym, _∙_, ℕ, zero, suc, _+_, _*_, _/_, _%_, _≤_, _<_, arith, add-one}
+use Rattle.prelude.specs.Names.{eq-eqb, ne-eqb, eqb-true, ltb, eqb, length, getD, take, drop, set, length-drop, drop-of-length-le, sets, drop-cons}
+use Rattle.prelude.specs.Names.{getD-drop, take-all}
+use lib.Seq.{drop-append-add}
 use Rattle.model.proofs.Below.{and-both}
 use Rattle.formats.specs.Reading.{Bytes}
-use Rattle.formats.proofs.Stores.{sets-append}
+use Rattle.formats.proofs.Stores.{sets-next, sets-append}
 use Rattle.instance.specs.declared.Checkpoint.{Checkpoint}
 use Rattle.instance.specs.declared.Status.{Status}
 use Rattle.instance.specs.declared.Status.the-variants.{Open, Infeasible, Packed}
-use Rattle.buffers.specs.Bytes.{word-bytes, word-at}
+use Rattle.buffers.specs.Bytes.{word-bytes}
 use Rattle.buffers.specs.Checkpoints.{status-byte, status-of, checkpoint-bytes, checkpoint-in, all-zero, is-checkpoint}
-use Rattle.buffers.proofs.Bytes.{word-back, fills, sets-next}
+use Rattle.buffers.proofs.Bytes.{word-back, fills}
 
 -- 0 from a place on
 zero-next : (s : List ℕ) (i : ℕ) → i < length s → all-zero (drop i s) ≡ (eqb (getD s i 0) 0 && all-zero (drop (i + 1) s))

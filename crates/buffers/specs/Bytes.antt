@@ -1,7 +1,5 @@
 -- Positions and steps as bytes (document 01, "Refusals": "The planning screen, written in C, ..").
-use mathlib.Core.List.{List, [], _∷_, _++_, map}
-use Prim.Native.Nat.{ℕ, _+_, _*_, _/_, _%_}
-use lib.ListN.{getD, take}
+use Rattle.prelude.specs.Names.{List, [], _∷_, _++_, map, ℕ, _+_, _*_, _/_, _%_, getD, take}
 use Rattle.formats.specs.Formats.{row-bytes}
 use Rattle.instance.specs.declared.Packing.{Packing}
 use Rattle.instance.specs.declared.Position.{Position}

@@ -1,9 +1,5 @@
 -- Checkpoints as bytes; a note is a checkpoint, a turn a branch, the row's length that of its path (document 01, "Refusals").
-use mathlib.Core.Bool.{Bool, true, _&&_}
-use mathlib.Core.List.{List, [], _∷_, _++_}
-use Prim.Native.Nat.{ℕ, zero, suc, _+_}
-use lib.Dec.{ltb, eqb}
-use lib.ListN.{getD, drop}
+use Rattle.prelude.specs.Names.{Bool, true, _&&_, List, [], _∷_, _++_, ℕ, zero, suc, _+_, ltb, eqb, getD, drop}
 use Rattle.instance.specs.declared.Checkpoint.{Checkpoint}
 use Rattle.instance.specs.declared.Status.{Status}
 use Rattle.instance.specs.declared.Status.the-variants.{Open, Infeasible, Packed}

@@ -1,5 +1,5 @@
 -- How long the buffers of a C program are.
-use Prim.Native.Nat.{ℕ}
+use Rattle.prelude.specs.Names.{ℕ}
 
 -- "A note is 273 bytes"
 abbrev pub note-length : ℕ

@@ -1,24 +1,15 @@
 -- What one call and every list of calls come to, on bytes, from the contract of `hallplan_search`: the number that it returns and what it
 -- leaves in the note, the step bytes and the plan bytes.
-use mathlib.Core.Bool.{Bool, true, false}
-use mathlib.Core.List.{List}
-use mathlib.Core.Path.{_≡_, refl, sym, ap, _∙_}
-use Prim.Native.Nat.{ℕ, _+_, _≤_}
-use native.Mathlib.Omega.{arith}
-use lib.ListN.{length}
-use borrow.Author.Tests.{ne-eqb}
+use Rattle.prelude.specs.Names.{Bool, true, false, List, _≡_, refl, sym, ap, ℕ, _+_, _≤_, arith, length, ne-eqb}
 use Rattle.model.proofs.Lists.{all-refused}
-use Rattle.model.specs.Calls as C
 use Rattle.model.specs.Lists.{Reaches, call-refused, call-served, Served, Serves, AllRefused}
 use Rattle.model.specs.Machine.{steps, taken}
 use Rattle.model.specs.Admits.{Sound}
 use Rattle.model.specs.Problem.{Problem}
 use Rattle.model.specs.Run.{look, machine, plan-at, search}
-use Rattle.model.specs.Search as S
 use Rattle.refusal.specs.Numbers.{number-of}
 use Rattle.refusal.specs.declared.Refusal.{Refusal}
 use Rattle.formats.specs.Reading.{Bytes}
-use Rattle.formats.specs.Reading as Reading
 use Rattle.instance.specs.Sheets.{decode}
 use Rattle.instance.specs.Meaning.{problem-of}
 use Rattle.instance.specs.Reads.{Reads}
@@ -26,8 +17,7 @@ use Rattle.instance.specs.declared.Instance.{Instance}
 use Rattle.search.proofs.Checkpoints.{checkpoint-back}
 use Rattle.search.proofs.Claim.{following-so, short, held-follows}
 use Rattle.search.specs.Checkpoints.{value-of}
-use Rattle.search.specs.Results as R
-use Rattle.search.specs.declared.results.SearchResult.{SearchResult}
+use Rattle.search.specs.declared.answer.SearchResult.{SearchResult}
 use Rattle.buffers.proofs.Bytes.{steps-back}
 use Rattle.c_api.specs.Calls.{lengths-fit, note-follows, instance-searched, searched, note-of, search-call, search-code}
 use Rattle.c_api.specs.Lists.{Lent, Call, own, other, on-bytes}
@@ -35,6 +25,10 @@ use Rattle.c_api.specs.Notes.{note-bytes}
 use Rattle.c_api.proofs.Faults.{untouched}
 use Rattle.c_api.proofs.Notes.{opening-zeros, note-length, note-holds, note-back}
 use Rattle.c_api.proofs.Plans.{reads-sound}
+use Rattle.model.specs.Calls as C
+use Rattle.model.specs.Search as S
+use Rattle.formats.specs.Reading as Reading
+use Rattle.search.specs.Results as R
 
 module _ (sheet : List ℕ) (bytes : Bytes sheet) (r : Reads sheet) where
   abbrev i : Instance

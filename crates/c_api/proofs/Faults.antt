@@ -1,18 +1,8 @@
 -- What search refuses of the bytes that it is lent: exactly what the table does, and then it leaves the buffers.
-use mathlib.Core.Bool.{Bool, true, false}
-use mathlib.Core.List.{List}
-use mathlib.Core.Logic.{_↔_, _⊎_, inl, inr}
-use mathlib.Core.Path.{_≡_, refl, sym, ap, _∙_, subst}
-use Prim.Native.Nat.{ℕ, _+_, _≤_, _<_}
-use native.Mathlib.Omega.{arith}
-use lib.ListN.{length}
+use Rattle.prelude.specs.Names.{Bool, true, false, List, _↔_, _⊎_, inl, inr, _≡_, refl, sym, ap, _∙_, ℕ, _+_, _≤_, _<_, arith, length}
 use Rattle.model.proofs.Below.{and-both, clash, not-so}
-use Rattle.model.proofs.Theorems as T
-use Rattle.model.specs.Calls as C
-use Rattle.model.specs.Machine as Machine
 use Rattle.model.specs.Problem.{Problem, Positions}
 use Rattle.model.specs.Run.{look, machine, plan-at, search}
-use Rattle.model.specs.Search as S
 use Rattle.refusal.specs.Numbers.{number-of}
 use Rattle.refusal.specs.declared.Refusal.{Refusal}
 use Rattle.formats.specs.Reading.{Bytes, refused}
@@ -22,20 +12,25 @@ use Rattle.instance.specs.Meaning.{problem-of}
 use Rattle.instance.specs.Reads.{Reads}
 use Rattle.search.proofs.Claim.{following-so, answered-small, zero-is-spent}
 use Rattle.search.specs.Checkpoints.{checkpoint-of, following}
-use Rattle.search.specs.Results as R
-use Rattle.search.specs.declared.results.Answer.{Answer}
-use Rattle.search.specs.declared.results.Answer.the-variants.{Packed, Infeasible, BudgetSpent, Refused}
-use Rattle.search.specs.declared.results.SearchResult.{SearchResult}
+use Rattle.search.specs.declared.answer.Answer.{Answer}
+use Rattle.search.specs.declared.answer.Answer.the-variants.{Packed, Infeasible, BudgetSpent, Refused}
+use Rattle.search.specs.declared.answer.SearchResult.{SearchResult}
 use Rattle.buffers.proofs.Bytes.{steps-back}
 use Rattle.buffers.specs.Bytes.{packing-bytes, steps-in}
 use Rattle.buffers.specs.Checkpoints.{checkpoint-in, is-checkpoint}
-use Rattle.c_api.specs.Calls.{check-code, lengths-fit, note-follows, searched-if, instance-searched, rewritten, when-packed}
-use Rattle.c_api.specs.Calls.{search-call, search-code, note-after, steps-after, plan-after}
+use Rattle.c_api.specs.Calls.{check-code, lengths-fit, note-follows, searched-if, instance-searched, rewritten, when-packed, search-call}
+use Rattle.c_api.specs.Calls.{search-code, note-after, steps-after, plan-after}
 use Rattle.c_api.specs.Faults.{SearchBytesFault}
 use Rattle.c_api.specs.Notes.{Lengths, NoteFollows}
+use Rattle.c_api.proofs.Tables.{refuses-by-table, served-by-table}
 use Rattle.c_api.proofs.Notes.{note-so}
 use Rattle.c_api.proofs.Outcomes.{lengths-so}
 use Rattle.c_api.proofs.Plans.{reads-sound, placed-checks}
+use Rattle.model.proofs.Theorems as T
+use Rattle.model.specs.Calls as C
+use Rattle.model.specs.Machine as Machine
+use Rattle.model.specs.Search as S
+use Rattle.search.specs.Results as R
 
 -- the checkpoint that a note holds follows, where the test says so
 in-follows : (p : Problem) (note : List ℕ) → note-follows p note ≡ true → S.Follows (look p) (checkpoint-of (checkpoint-in note))
@@ -120,22 +115,15 @@ module _ (sheet note steps plan : List ℕ) (allowance : ℕ) where
         go (inl r) = read r _ _ refl refl
         go (inr (e, d)) = inl (number-of e, SearchBytesFault.unread e (decode-refuses sheet e .0 d) refl)
 
-    -- what holds of a call with a number below 100 is what holds of the search's
-    served : {A : Type 0} → code < 100 → (Searched sheet allowance call → A) → A
-    served {A} l f = go by-table
-      where
-        go : ((n : ℕ) × Fault n) ⊎ Searched sheet allowance call → A
-        go (inl (n, φ)) = absurd (omega (arith, fault-code φ))
-        go (inr σ) = f σ
+    small : Searched sheet allowance call → code < 100
+    small σ = let p = problem (σ .reads) in omega (arith, ap number (σ .is), answered-small p (search p allowance (σ .start)))
+
+    abbrev served : {A : Type 0} → code < 100 → (Searched sheet allowance call → A) → A
+    served = served-by-table code Fault by-table (λ n φ. fault-code φ) small
 
     -- "A call that meets no condition of the table is not refused", and any other gets its number
     pub search-refuses : (n : ℕ) → (code ≡ 100 + n) ↔ Fault n
-    search-refuses n = ((λ e. fore e by-table), fault-code)
-      where
-        fore : code ≡ 100 + n → ((m : ℕ) × Fault m) ⊎ Searched sheet allowance call → Fault n
-        fore e (inl (m, φ)) = let same : m ≡ n = omega (arith, fault-code φ) in subst Fault same φ
-        fore e (inr σ) =
-            let p = problem (σ .reads) in absurd (omega (arith, ap number (σ .is), answered-small p (search p allowance (σ .start))))
+    search-refuses = refuses-by-table code Fault by-table (λ n φ. fault-code φ) small
 
     -- placed leaves a plan to which check says yes, whatever note was lent
     pub placed-fits : code ≡ 1 → check-code sheet (plan-after sheet note allowance steps plan) ≡ 1

@@ -1,3 +1,4 @@
+pub mod Tables
 pub mod Notes
 pub mod Outcomes
 pub mod Plans

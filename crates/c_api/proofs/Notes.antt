@@ -1,27 +1,19 @@
 -- Note bytes and checkpoints: the bytes of a checkpoint hold it, and bytes that get no 10 are those of a checkpoint that follows.
-use mathlib.Core.Bool.{true}
-use mathlib.Core.List.{List, []}
-use mathlib.Core.Logic.{_↔_}
-use mathlib.Core.Path.{_≡_, refl, sym, ap, _∙_}
-use Prim.Native.Nat.{ℕ, _+_, _-_, _≤_}
-use native.Mathlib.Omega.{arith}
-use lib.Dec.{ltb}
-use lib.ListN.{length, getD, drop, replicate, length-drop}
-use lib.Seq.{getD-drop}
-use borrow.Author.Tests.{ltb-true}
+use Rattle.prelude.specs.Names.{true, List, [], _↔_, _≡_, refl, sym, ap, _∙_, ℕ, _+_, _-_, _≤_, arith, ltb, length, getD, drop, replicate}
+use Rattle.prelude.specs.Names.{length-drop, getD-drop, ltb-true}
 use Rattle.model.proofs.Below.{and-both, and-intro}
 use Rattle.model.specs.Admits.{Sound}
 use Rattle.model.specs.Problem.{Problem}
-use Rattle.model.specs.Search as S
 use Rattle.formats.specs.Reading.{Bytes}
 use Rattle.search.proofs.Checkpoints.{branches-length, branches-past, well-formed-bits, well-formed-length, value-again}
 use Rattle.search.proofs.Claim.{following-so, held-follows}
 use Rattle.search.specs.Checkpoints.{checkpoint-of, well-formed, following, branches-of, value-of}
-use Rattle.buffers.proofs.CheckpointBytes as B
 use Rattle.buffers.specs.Bytes.{word-at}
 use Rattle.buffers.specs.Checkpoints.{status-of, checkpoint-bytes, checkpoint-in, all-zero, is-checkpoint}
 use Rattle.c_api.specs.Calls.{note-follows}
 use Rattle.c_api.specs.Notes.{note-bytes, NoteFollows}
+use Rattle.model.specs.Search as S
+use Rattle.buffers.proofs.CheckpointBytes as B
 
 -- "A search opens with 273 zeros"
 pub opening-zeros : note-bytes S.opening ≡ replicate 273 0

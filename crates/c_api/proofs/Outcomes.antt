@@ -1,21 +1,10 @@
 -- What a call comes to, case by case, and that a path that is to be written has room in a note.
-use mathlib.Core.Bool.{Bool, true, false}
-use mathlib.Core.List.{List}
-use mathlib.Core.Logic.{_↔_}
-use mathlib.Core.Path.{_≡_, refl, sym, subst}
-use Prim.Native.Nat.{ℕ, _*_, _≤_}
-use native.Mathlib.Omega.{arith}
-use lib.Dec.{eqb}
-use lib.ListN.{length}
-use borrow.Author.Tests.{eqb-true, eq-eqb}
+use Rattle.prelude.specs.Names.{true, false, List, _↔_, _≡_, sym, subst, ℕ, _*_, _≤_, eqb, length, eqb-true, eq-eqb}
 use Rattle.model.proofs.Below.{and-both}
-use Rattle.model.proofs.Theorems as T
 use Rattle.model.specs.Branching.{plan}
-use Rattle.model.specs.Calls as C
 use Rattle.model.specs.Problem.{Positions}
 use Rattle.model.specs.Machine.{steps}
-use Rattle.model.specs.Run.{look, machine, plan-at}
-use Rattle.model.specs.Search as S
+use Rattle.model.specs.Run.{machine, plan-at}
 use Rattle.refusal.specs.declared.Refusal.the-variants.{BadArgument, NotFollowing}
 use Rattle.instance.specs.Meaning.{problem-of}
 use Rattle.instance.specs.Valid.{valid}
@@ -28,12 +17,15 @@ use Rattle.search.proofs.Checkpoints.{value-short}
 use Rattle.search.proofs.Claim.{short, CallIs, invalid, not-following, searched, call-is}
 use Rattle.opening.proofs.Sound.{valid-sound}
 use Rattle.search.specs.Checkpoints.{checkpoint-of, value-of}
-use Rattle.search.specs.Results as R
-use Rattle.search.specs.declared.results.SearchResult.{SearchResult}
+use Rattle.search.specs.declared.answer.SearchResult.{SearchResult}
 use Rattle.buffers.specs.Bytes.{packing-in}
 use Rattle.buffers.specs.Checkpoints.{checkpoint-in, is-checkpoint}
 use Rattle.c_api.specs.Calls.{plan-fits, lengths-fit, checked-if, note-follows, instance-searched, PathFits}
 use Rattle.c_api.specs.Notes.{Lengths}
+use Rattle.model.proofs.Theorems as T
+use Rattle.model.specs.Calls as C
+use Rattle.model.specs.Search as S
+use Rattle.search.specs.Results as R
 
 -- buffers of the right lengths: the test and the record agree
 pub lengths-so : (i : Instance) (note steps plan : List ℕ)

@@ -1,40 +1,32 @@
 -- What check says of sheet and plan bytes, and that it says yes to the plan bytes of a packing that fits.
-use mathlib.Core.Bool.{Bool, true, false}
-use mathlib.Core.List.{List}
-use mathlib.Core.Logic.{_↔_, _⊎_, inl, inr, ⊎-elim}
-use mathlib.Core.Path.{_≡_, refl, sym, ap, _∙_, subst}
-use Prim.Native.Nat.{ℕ, _+_, _*_, _≤_, _<_}
-use native.Mathlib.Omega.{arith}
-use lib.ListN.{length}
-use borrow.Author.Tests.{eq-eqb, ne-eqb, eqb-true}
+use Rattle.prelude.specs.Names.{Bool, true, false, List, _↔_, _⊎_, inl, inr, ⊎-elim, _≡_, refl, ap, _∙_, ℕ, _+_, _≤_, _<_, arith, length, eq-eqb}
+use Rattle.prelude.specs.Names.{ne-eqb, eqb-true}
 use Rattle.model.proofs.Below.{clash}
-use Rattle.model.proofs.Theorems as T
 use Rattle.model.specs.Admits.{Sound}
 use Rattle.model.specs.Problem.{Positions, Feasible, feasible}
 use Rattle.model.specs.Run.{plan-at}
-use Rattle.model.specs.Search as S
 use Rattle.refusal.specs.Numbers.{number-of}
 use Rattle.refusal.specs.declared.Refusal.{Refusal}
-use Rattle.formats.specs.Reading.{Bytes}
-use Rattle.formats.specs.Reading.{refused}
-use Rattle.instance.proofs.RoundTrips.{read-valid}
-use Rattle.instance.proofs.RoundTrips.{read-full}
+use Rattle.formats.specs.Reading.{Bytes, refused}
+use Rattle.instance.proofs.RoundTrips.{read-valid, read-full}
 use Rattle.instance.proofs.Readings.{read-or-refused, decode-refuses}
 use Rattle.instance.specs.Sheets.{decode}
 use Rattle.instance.specs.Meaning.{start, problem-of, positions-of}
 use Rattle.instance.specs.Reads.{Reads}
 use Rattle.instance.specs.Valid.{valid}
-use Rattle.instance.specs.declared.Instance.{Instance}
 use Rattle.packing.specs.Check.{answer-of, check-answer, check-number}
-use Rattle.search.proofs.Packing as Value
 use Rattle.opening.proofs.Sound.{valid-sound}
 use Rattle.search.specs.Results.{packing-of}
 use Rattle.buffers.proofs.Bytes.{packing-length, packing-back}
 use Rattle.buffers.specs.Bytes.{packing-in}
-use Rattle.c_api.specs.Calls.{plan-fits, checked-if, checked, check-code}
+use Rattle.c_api.proofs.Tables.{refuses-by-table, served-by-table}
+use Rattle.c_api.specs.Calls.{plan-fits, check-code}
 use Rattle.c_api.specs.Faults.{CheckBytesFault}
 use Rattle.c_api.specs.Lists.{plan-bytes}
 use Rattle.c_api.specs.Plans.{Checkable, Fits}
+use Rattle.model.proofs.Theorems as T
+use Rattle.model.specs.Search as S
+use Rattle.search.proofs.Packing as Value
 
 -- A sheet reads as one instance, which is valid
 
@@ -90,21 +82,15 @@ module _ (sheet plan : List ℕ) where
         go true e = inl (T.feasible-test _ _ .0 e, by-test c ∙ rw e)
         go false e = inr ((λ f. clash (T.feasible-test _ _ .1 f) e), by-test c ∙ rw e)
 
+    small : Checkable sheet plan → code < 100
+    small c = ⊎-elim (λ (f, k). omega arith) (λ (f, k). omega arith) (decided c)
+
     -- "nothing else is refused"
     pub check-refuses : (n : ℕ) → (code ≡ 100 + n) ↔ Fault n
-    check-refuses n = ((λ e. fore e by-table), fault-code)
-      where
-        fore : code ≡ 100 + n → ((m : ℕ) × Fault m) ⊎ Checkable sheet plan → Fault n
-        fore e (inl (m, φ)) = let same : m ≡ n = omega (arith, fault-code φ) in subst Fault same φ
-        fore e (inr c) = absurd (⊎-elim (λ (f, k). omega arith) (λ (f, k). omega arith) (decided c))
+    check-refuses = refuses-by-table code Fault by-table (λ n φ. fault-code φ) small
 
-    -- a number below 100 is no fault's
-    said : {A : Type 0} → code < 100 → (Checkable sheet plan → A) → A
-    said {A} l f = go by-table
-      where
-        go : ((m : ℕ) × Fault m) ⊎ Checkable sheet plan → A
-        go (inl (m, φ)) = absurd (omega (arith, fault-code φ))
-        go (inr c) = f c
+    abbrev said : {A : Type 0} → code < 100 → (Checkable sheet plan → A) → A
+    said = served-by-table code Fault by-table (λ n φ. fault-code φ) small
 
     -- "Check returns 0 no, 1 yes": yes exactly when the plan fits
     pub yes-exactly : (code ≡ 1) ↔ ((c : Checkable sheet plan) × Fits c)

@@ -1,9 +1,5 @@
 -- What check and search return and leave in the lent buffers (document 01, "Refusals": "The planning screen, written in C, ..").
-use mathlib.Core.Bool.{Bool, true, false, _&&_}
-use mathlib.Core.List.{List}
-use Prim.Native.Nat.{ℕ, _*_, _≤_}
-use lib.Dec.{eqb}
-use lib.ListN.{length}
+use Rattle.prelude.specs.Names.{Bool, true, false, _&&_, List, ℕ, _*_, _≤_, eqb, length}
 use Rattle.model.specs.Problem.{Problem}
 use Rattle.refusal.specs.declared.Refusal.the-variants.{BadArgument}
 use Rattle.formats.specs.Reading.{Read, got, refused}
@@ -12,16 +8,16 @@ use Rattle.instance.specs.Meaning.{problem-of}
 use Rattle.instance.specs.declared.Instance.{Instance}
 use Rattle.packing.specs.Check.{check-answer, check-number}
 use Rattle.packing.specs.declared.CheckAnswer.{CheckAnswer}
-use Rattle.packing.specs.declared.CheckAnswer.the-variants as K
 use Rattle.search.specs.Checkpoints.{checkpoint-of, following}
-use Rattle.search.specs.Results as R
-use Rattle.search.specs.declared.results.Answer.{Answer}
-use Rattle.search.specs.declared.results.Answer.the-variants.{Packed, Infeasible, BudgetSpent, Refused}
-use Rattle.search.specs.declared.results.SearchResult.{SearchResult}
+use Rattle.search.specs.declared.answer.Answer.{Answer}
+use Rattle.search.specs.declared.answer.Answer.the-variants.{Packed, Infeasible, BudgetSpent, Refused}
+use Rattle.search.specs.declared.answer.SearchResult.{SearchResult}
 use Rattle.buffers.specs.Bytes.{packing-bytes, packing-in, step-bytes}
 use Rattle.buffers.specs.Checkpoints.{checkpoint-bytes, checkpoint-in, is-checkpoint}
 use Rattle.sheet.specs.Sheet.{max-branches}
 use Rattle.buffers.specs.Lengths.{note-length, steps-length, position-length}
+use Rattle.packing.specs.declared.CheckAnswer.the-variants as K
+use Rattle.search.specs.Results as R
 
 -- 8: "plan bytes not 6 for each piece"
 abbrev pub plan-fits : Instance → ℕ → Bool

@@ -1,9 +1,6 @@
 -- The table's conditions for check and search on bytes, in their order (document 01, "Refusals": "the sheet's refusals come first",
 -- "8 before 10").
-use mathlib.Core.List.{List}
-use mathlib.Core.Path.{_≡_}
-use Prim.Native.Nat.{ℕ, _*_}
-use lib.ListN.{length}
+use Rattle.prelude.specs.Names.{List, _≡_, ℕ, _*_, length}
 use Rattle.refusal.specs.Numbers.{number-of}
 use Rattle.refusal.specs.declared.Refusal.{Refusal}
 use Rattle.sheet.specs.Faults.{FirstFault}

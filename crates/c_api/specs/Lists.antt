@@ -1,11 +1,7 @@
 -- A list of calls on bytes (document 01, "The search": "A list is all in values or all on the screen").
-use mathlib.Core.Bool.{Bool, true, false}
-use mathlib.Core.List.{List}
-use Prim.Native.Nat.{ℕ, _≤_}
-use lib.ListN.{length, replicate}
+use Rattle.prelude.specs.Names.{Bool, false, List, ℕ, _≤_, length, replicate}
 use Rattle.model.specs.Lists.{Service}
 use Rattle.model.specs.Run.{plan-at}
-use Rattle.model.specs.Search as S
 use Rattle.instance.specs.Meaning.{problem-of}
 use Rattle.instance.specs.declared.Instance.{Instance}
 use Rattle.search.specs.Results.{packing-of}
@@ -13,6 +9,7 @@ use Rattle.buffers.specs.Bytes.{packing-bytes, steps-in}
 use Rattle.c_api.specs.Calls.{lengths-fit, search-code, note-after, steps-after, plan-after}
 use Rattle.c_api.specs.Notes.{note-bytes}
 use Rattle.buffers.specs.Lengths.{note-length}
+use Rattle.model.specs.Search as S
 
 -- what a call is handed beside the sheet and the note: its allowance, and what the step bytes and the plan bytes hold before it
 pub record Lent : Type 0 where

@@ -1,15 +1,12 @@
 -- What the bytes lent to the search hold (document 01, "Refusals": "A note is 273 bytes ..").
-use mathlib.Core.List.{List}
-use mathlib.Core.Path.{_≡_}
-use Prim.Native.Nat.{ℕ, _*_}
-use lib.ListN.{length}
+use Rattle.prelude.specs.Names.{List, _≡_, ℕ, _*_, length}
 use Rattle.model.specs.Problem.{Problem}
 use Rattle.model.specs.Run.{look}
-use Rattle.model.specs.Search as S
 use Rattle.instance.specs.declared.Instance.{Instance}
 use Rattle.search.specs.Checkpoints.{value-of}
 use Rattle.buffers.specs.Checkpoints.{checkpoint-bytes}
 use Rattle.buffers.specs.Lengths.{note-length, steps-length, position-length}
+use Rattle.model.specs.Search as S
 
 -- none of "plan bytes not 6 for each piece; note bytes not 273; step bytes not 4"
 pub record Lengths (i : Instance) (note steps plan : List ℕ) : Type 0 where

@@ -1,8 +1,5 @@
 -- What check looks at: a sheet that reads and plan bytes of the right length (document 01, "Fit").
-use mathlib.Core.List.{List}
-use mathlib.Core.Path.{_≡_}
-use Prim.Native.Nat.{ℕ, _*_}
-use lib.ListN.{length}
+use Rattle.prelude.specs.Names.{List, _≡_, ℕ, _*_, length}
 use Rattle.model.specs.Problem.{Feasible}
 use Rattle.instance.specs.Meaning.{problem-of, positions-of}
 use Rattle.instance.specs.Reads.{Reads}

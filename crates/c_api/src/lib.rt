@@ -18,8 +18,8 @@ use instance::Instance;
 use instance::ReadAnswer;
 use packing::CheckAnswer;
 use refusal::Refusal;
-use search::results::Answer;
-use search::results::SearchResult;
+use search::answer::Answer;
+use search::answer::SearchResult;
 
 // Whether the plan fits the sheet: 0 no, 1 yes, 100 plus the number of a refusal.
 #[no_mangle]

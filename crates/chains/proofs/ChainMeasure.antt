@@ -1,11 +1,5 @@
 -- Why following links ends: totals only grow, up to the container's measure, and where none grows the set of items to go on from loses one.
-use mathlib.Core.List.{List}
-use mathlib.Core.Logic.{_⊎_, inl, inr}
-use mathlib.Core.Path.{_≡_}
-use Prim.Native.Nat.{ℕ, zero, suc, _+_, _-_, _*_, _≤_, _<_}
-use native.Mathlib.Nat.{eq-or-lt-of-le}
-use native.Mathlib.Omega.{arith}
-use lib.ListN.{getD}
+use Rattle.prelude.specs.Names.{List, _⊎_, inl, inr, ⊎-elim, _≡_, ℕ, zero, suc, _+_, _-_, _*_, _≤_, _<_, eq-or-lt-of-le, arith, getD}
 use Rattle.chains.specs.Totals.{capacity-at}
 use Rattle.chains.specs.Links.{at}
 
@@ -23,15 +17,9 @@ module _ (o a : ℕ) (t s : List ℕ) (same : capacity-at s a ≡ capacity-at t 
   room-lt : (n u : ℕ) → u < n → at t o a u < at s o a u → at s o a u ≤ capacity-at s a → room n o a s < room n o a t
   unfolding room
   room-lt zero u l less small = absurd (omega arith)
-  room-lt (suc n) u l less small = go (eq-or-lt-of-le {n = u} {m = n} (omega arith)) (room-lt n u)
-    where
-      go : (u ≡ n) ⊎ (u < n) → (u < n → at t o a u < at s o a u → at s o a u ≤ capacity-at s a → room n o a s < room n o a t)
-          → room n o a s + (capacity-at s a - at s o a n) < room n o a t + (capacity-at t a - at t o a n)
-      go (inl e) ih =
-          let b : at t o a n < at s o a n = rw e at less in
-          let c : at s o a n ≤ capacity-at s a = rw e at small in
-          omega (arith, room-le n)
-      go (inr b) ih = omega (arith, ih b less small, up (o + a * 10 + n))
+  room-lt (suc n) u l less small = ⊎-elim
+      (λ e. let b : at t o a n < at s o a n = rw e at less in let c : at s o a n ≤ capacity-at s a = rw e at small in omega (arith, room-le n))
+      (λ b. omega (arith, room-lt n u b less small, up (o + a * 10 + n))) (eq-or-lt-of-le {n = u} {m = n} (omega arith))
 
   -- items grow, and the set may gain all of them; or none grows, and it loses one
   pub measure-falls : (n todo next : ℕ) → next < 1024

@@ -1,30 +1,23 @@
 -- What the totals find too long: the set of items, and removing it for the items of a set.
-use mathlib.Core.Bool.{Bool, true, false, not, _&&_, or-false, and-false}
-use mathlib.Core.List.{List}
-use mathlib.Core.Logic.{_≢_}
-use mathlib.Core.Path.{_≡_, refl, sym, _∙_, ap, ap₂}
-use Prim.Native.Nat.{ℕ, _+_, _-_, _*_, _/_, _%_, _^_, _≤_, _<_}
-use native.Mathlib.Decide.{ℕ-discrete}
-use native.Mathlib.Omega.{arith}
-use lib.Bits.{bitAnd, bitOr, bitXor, or-lt}
-use lib.Dec.{eqb, ltb}
-use lib.Pow.{pow-lt}
-use borrow.Author.Tests.{eqb-true, lt-ltb, le-ltb, ltb-true, ltb-false, eq-eqb, ne-eqb, eqb-false, not-true}
+use Rattle.prelude.specs.Names.{Bool, true, false, not, _&&_, or-false, and-false, List, ⊎-elim, _≢_, _≡_, refl, sym, _∙_, ap, ℕ, _+_, _-_, _*_, _/_}
+use Rattle.prelude.specs.Names.{_%_, _^_, _≤_, _<_, eq-or-lt-of-le, arith, bitAnd, bitOr, bitXor, or-lt, eqb, ltb, pow-lt, eqb-true, lt-ltb, le-ltb}
+use Rattle.prelude.specs.Names.{ltb-true, ltb-false, eq-eqb, ne-eqb, eqb-false, not-true}
 use Rattle.model.specs.Domains.{Domains}
 use Rattle.model.specs.Order.{Proper, _⊑_}
-use Rattle.model.specs.Relations.{gone}
+use Rattle.model.specs.Relations.{gone, converse}
 use Rattle.model.specs.Toward.{Direction}
-use Rattle.model.proofs.Below.{and-both, and-intro, clash}
+use Rattle.model.proofs.Below.{and-both, and-intro, clash, fails, stays}
 use Rattle.model.proofs.Claims.{gone-mono}
 use Rattle.model.proofs.Order.{below-refl}
+use Rattle.model.proofs.Toward.{by-direction}
 use Rattle.domains.specs.Bits.{bit-at, Gives, lowest-bit, TakenOut}
 use Rattle.domains.specs.Rows.{row}
 use Rattle.domains.specs.Queue.{end, Good}
 use Rattle.domains.specs.Narrowed.{Grown, Narrowed, Refuted, Each, Spares, All, Askable}
-use Rattle.chains.specs.Totals.{capacity-at}
-use Rattle.chains.specs.Links.{at, Linkable}
+use Rattle.chains.specs.Totals.{own, capacity-at, Tabled}
+use Rattle.chains.specs.Links.{at}
 use Rattle.chains.specs.Cuts.{above-both, exceeds, Comparable, EachAsked, Roomy, CutOf}
-use Rattle.domains.proofs.BitLaws.{bit-and, bit-or, bit-not, bit-power, bit-above, bit-below, bit-zero, bit-shr, bit-shl, shl-small, and-small, gives-in}
+use Rattle.domains.proofs.BitLaws.{bit-and, bit-or, bit-not, bit-power, bit-above, bit-below, bit-zero, bit-shr, bit-shl, shl-small, and-small}
 use Rattle.domains.proofs.Narrowed.{grown-none, grown-then, narrowed-none, narrowed-as}
 use Rattle.domains.proofs.Each.{Emptied, nothing-left, next-spares}
 use Rattle.domains.proofs.Through.{Through, through-none, through-one, through-all}
@@ -38,45 +31,40 @@ module _ (f : ℕ → Bool) (n m : ℕ) (g : Gives n m f) where
   up-one : 2 ^ n < 2 ^ (n + 1)
   up-one = pow-lt (omega arith)
 
-  pub gives-put : f n ≡ true → Gives (n + 1) (bitOr m (2 ^ n)) f
-  gives-put e = record { small = or-lt (n + 1) m (2 ^ n) (omega (arith, g .small, up-one)) up-one; is = λ i h. is i h (ℕ-discrete i n) }
-    where
-      is : (i : ℕ) → i < n + 1 → Dec (i ≡ n) → bit-at (bitOr m (2 ^ n)) i ≡ f i
-      is i h (yes q) = rw (q, bit-or m (2 ^ n) n, bit-above n m n (g .small) (omega arith), bit-power n n, eq-eqb n n refl, e) refl
-      is i h (no q) = rw (bit-or m (2 ^ n) i, bit-power n i, ne-eqb i n q, or-false) (g .is i (omega arith))
+  next : (r : ℕ) → r < 2 ^ (n + 1) → bit-at r n ≡ f n → ((i : ℕ) → i < n → bit-at r i ≡ bit-at m i) → Gives (n + 1) r f
+  next r h top old = record {
+    small = h;
+    is = λ i l. ⊎-elim (λ e. rw e top) (λ l. old i l ∙ g .is i l) (eq-or-lt-of-le {n = i} {m = n} (omega arith));
+  }
+
+  gives-put : f n ≡ true → Gives (n + 1) (bitOr m (2 ^ n)) f
+  gives-put e = next (bitOr m (2 ^ n)) (or-lt (n + 1) m (2 ^ n) (omega (arith, g .small, up-one)) up-one)
+      (rw (bit-or m (2 ^ n) n, bit-above n m n (g .small) (omega arith), bit-power n n, eq-eqb n n refl, e) refl)
+      (λ i l. rw (bit-or m (2 ^ n) i, bit-power n i, ne-eqb i n (λ e. omega arith), or-false) refl)
 
   -- as the code has it in 16 bits
   pub gives-shifted : n < 16 → f n ≡ true → Gives (n + 1) (bitOr m (1 * 2 ^ n % 65536)) f
   gives-shifted h e = let q : 1 * 2 ^ n % 65536 ≡ 2 ^ n = omega (arith, pow-lt {i = n} {j = 16} h) in rw q (gives-put e)
 
   pub gives-skip : f n ≡ false → Gives (n + 1) m f
-  gives-skip e = record { small = omega (arith, g .small, up-one); is = λ i h. is i h (ℕ-discrete i n) }
-    where
-      is : (i : ℕ) → i < n + 1 → Dec (i ≡ n) → bit-at m i ≡ f i
-      is i h (yes q) = rw (q, bit-above n m n (g .small) (omega arith), e) refl
-      is i h (no q) = g .is i (omega arith)
+  gives-skip e = next m (omega (arith, g .small, up-one)) (bit-above n m n (g .small) (omega arith) ∙ sym e) (λ i l. refl)
 
 -- the items too long with u
 pub compared : {t : List ℕ} {o r a u : ℕ} → Comparable t o r a u → at t o a u ≤ capacity-at t a
-compared {t} {o} {r} {a} {u} c = total-within linkable u (c .item)
-  where
-    linkable : Linkable t o a
-    linkable = record { tabled = c .tabled; table = c .table; most = omega (arith, c .other); axis = c .axis }
+compared {t} {o} {r} {a} {u} c =
+    total-within {t = t} {o = o} {a = a} (record { tabled = c .tabled; table = c .table; most = omega (arith, c .other); axis = c .axis }) u (c .item)
 
 pub too-long : {t : List ℕ} {o r a u m : ℕ} → Comparable t o r a u
     → Gives 10 m (λ v. ltb (capacity-at t a - at t o a u) (at t r a v))
     → Gives 10 (bitAnd m (bitXor (2 ^ u) 1023)) (λ v. above-both t o r a u v && not (eqb v u))
 too-long {t} {o} {r} {a} {u} {m} c g = record {
   small = and-small 10 m (bitXor (2 ^ u) 1023) (g .small);
-  is = λ v h. bit-and m (bitXor (2 ^ u) 1023) v ∙ ap₂ _&&_ (g .is v h ∙ moved v) (bit-not 10 (2 ^ u) v h ∙ ap not (bit-power u v));
+  is = λ v h. simp (bit-and, g .is v h, moved v (above-both t o r a u v) refl, bit-not 10 (2 ^ u) v h, bit-power);
 }
   where
-    moved : (v : ℕ) → ltb (capacity-at t a - at t o a u) (at t r a v) ≡ above-both t o r a u v
-    moved v = go (capacity-at t a) (at t o a u) (at t r a v) (compared c) (ltb (capacity-at t a) (at t o a u + at t r a v)) refl
-      where
-        go : (k x y : ℕ) → x ≤ k → (b : Bool) → ltb k (x + y) ≡ b → ltb (k - x) y ≡ b
-        go k x y l true e = lt-ltb (k - x) y (omega (arith, ltb-true k (x + y) e))
-        go k x y l false e = le-ltb (k - x) y (omega (arith, ltb-false k (x + y) e))
+    moved : (v : ℕ) (b : Bool) → above-both t o r a u v ≡ b → ltb (capacity-at t a - at t o a u) (at t r a v) ≡ b
+    moved v true e = lt-ltb (capacity-at t a - at t o a u) (at t r a v) (omega (arith, compared c, ltb-true (capacity-at t a) _ e))
+    moved v false e = le-ltb (capacity-at t a - at t o a u) (at t r a v) (omega (arith, compared c, ltb-false (capacity-at t a) _ e))
 
 -- The relation x of u is removed with the items of a set: with those that are left of it
 module _ {k : Domains} {rows q : List ℕ} (g : Good k rows q) {x a u items : ℕ} (d : Direction x) (ha : a < 3) (hu : u < 10)
@@ -93,10 +81,7 @@ module _ {k : Domains} {rows q : List ℕ} (g : Good k rows q) {x a u items : �
   hx = omega (arith, d .most)
 
   left-at : (v : ℕ) → v < 10 → bit-at left-of v ≡ (bit-at items v && not (gone k x a u v))
-  left-at v hv =
-      bit-and items (bitXor (row rows a u / 2 ^ (x * 10)) 1023) v
-      ∙ ap (λ (b : Bool). bit-at items v && b)
-      (bit-not 10 (row rows a u / 2 ^ (x * 10)) v hv ∙ ap not (bit-shr (row rows a u) (x * 10) v ∙ g .laid .mirror .is x a u v hx ha hu hv))
+  left-at v hv = simp (bit-and, bit-not 10 (row rows a u / 2 ^ (x * 10)) v hv, bit-shr, g .laid .mirror .is x a u v hx ha hu hv)
 
   pub left-small : left-of < 2 ^ 10
   left-small = and-small 10 items (bitXor (row rows a u / 2 ^ (x * 10)) 1023) small
@@ -120,11 +105,8 @@ module _ {k : Domains} {rows q : List ℕ} (g : Good k rows q) {x a u items : �
 
   -- all of them are gone where those left are
   each-left : (j : Domains) → j ⊑ k → Each x a u left-of j → Each x a u items j
-  each-left j b h v hv e = go (gone k x a u v) refl
-    where
-      go : (c : Bool) → gone k x a u v ≡ c → gone j x a u v ≡ true
-      go true p = gone-mono j k b x a u v p
-      go false p = h v hv (left-at v hv ∙ rw (e, p) refl)
+  each-left j b h v hv e =
+      stays (gone j x a u v) (λ n. clash (h v hv (left-at v hv ∙ rw (e, fails (gone-mono j k b x a u v) n) refl)) n)
 
   pub cut-none : left-of ≡ 0 → Narrowed (EachAsked x a u items) (Each x a u items) k q k rows q
   cut-none z = narrowed-none g (each-left k (below-refl k) (λ v hv e. absurd (clash e (rw z (bit-zero v)))))
@@ -149,14 +131,18 @@ module _ {k : Domains} {rows q : List ℕ} (g : Good k rows q) {x a u items : �
 
 -- For the items of a set: those of `left` are still to be dealt with
 pub record Cutting (t : List ℕ) (x a items : ℕ) (k : Domains) (q : List ℕ) (j : Domains) (rows r : List ℕ) (left : ℕ) : Type 0 where
+  pub tabled : Tabled t
+  pub direction : Direction x
+  pub axis : a < 3
   pub first : 1 ≤ end q
   pub grown : Grown k q j rows r
   pub low : (f : Domains) → Roomy t x a f → f ⊑ k → f ⊑ j
   pub through : Through 10 items left (λ u. (v : ℕ) → Proper 10 a u v → exceeds t x a u v ≡ true → gone j x a u v ≡ true)
 
 module _ {t : List ℕ} {x a items : ℕ} {k : Domains} {q : List ℕ} where
-  pub cutting-start : {rows : List ℕ} → Good k rows q → items < 2 ^ 10 → Cutting t x a items k q k rows q items
-  cutting-start g h = record { first = g .least; grown = grown-none g; low = λ f w b. b; through = through-none h }
+  pub cutting-start : {rows : List ℕ} → Direction x → Good k rows q × Tabled t × (a < 3) × (items < 2 ^ 10) → Cutting t x a items k q k rows q items
+  cutting-start d (g, s, ha, h) =
+      record { tabled = s; direction = d; axis = ha; first = g .least; grown = grown-none g; low = λ f w b. b; through = through-none h }
 
   pub cutting-end : {j : Domains} {rows r : List ℕ} {left : ℕ} → Cutting t x a items k q j rows r left → left ≡ 0
       → Narrowed (Roomy t x a) (CutOf t x a items) k q j rows r
@@ -165,21 +151,30 @@ module _ {t : List ℕ} {x a items : ℕ} {k : Domains} {q : List ℕ} where
   -- u, the lowest of `left`, is taken out, and the relation removed with the items that are too long with it
   module _ {j : Domains} {rows r : List ℕ} {left : ℕ} (h : Cutting t x a items k q j rows r left)
       {u : ℕ} (low : (u ≡ lowest-bit left) × (u < 30) × (bit-at left u ≡ true)) where
-    pub cutting-item : u < 10
-    cutting-item = bit-below 10 left u (h .through .small) (low .2)
+    item : u < 10
+    item = bit-below 10 left u (h .through .small) (low .2)
 
-    module _ (ha : a < 3) {m : ℕ} (g : Gives 10 m (λ v. exceeds t x a u v && not (eqb v u))) where
-      pub cutting-self : bit-at m u ≡ false
-      cutting-self = g .is u cutting-item ∙ rw (eq-eqb u u refl, and-false) refl
+    pub cutting-compared : Comparable t (own (converse x)) (own x) a u
+    cutting-compared = record {
+      tabled = h .tabled;
+      table = by-direction (λ x. own (converse x) % 30 ≡ 0) refl refl x (h .direction);
+      other = by-direction (λ x. own (converse x) + own x ≡ 30) refl refl x (h .direction);
+      axis = h .axis;
+      item = item;
+    }
+
+    module _ {m : ℕ} (g : Gives 10 m (λ v. exceeds t x a u v && not (eqb v u))) where
+      pub cutting-given : Good j rows r × Direction x × (a < 3) × (u < 10) × (m < 2 ^ 10) × (bit-at m u ≡ false)
+      cutting-given = (h .grown .good, h .direction, h .axis, item, g .small, g .is u item ∙ rw (eq-eqb u u refl, and-false) refl)
 
       asked : (f : Domains) → Roomy t x a f → EachAsked x a u m f
       asked f w = record { each = each; filled = w .filled }
         where
           each : Each x a u m f
           each v hv i =
-              let (b, c) = and-both (exceeds t x a u v) (not (eqb v u)) (gives-in g v i .1) in
+              let (b, c) = and-both (exceeds t x a u v) (not (eqb v u)) (sym (g .is v hv) ∙ i) in
               let ne = eqb-false v u (not-true (eqb v u) c) in
-              w .cut u v (record { axis = ha; item-u = cutting-item; item-v = hv; distinct = λ e. ne (sym e) }) b
+              w .cut u v (record { axis = h .axis; item-u = item; item-v = hv; distinct = λ e. ne (sym e) }) b
 
       pub cutting-refuted : Refuted (EachAsked x a u m) j → Refuted (Roomy t x a) k
       cutting-refuted none f w b = none f (asked f w) (h .low f w b)
@@ -187,6 +182,9 @@ module _ {t : List ℕ} {x a items : ℕ} {k : Domains} {q : List ℕ} where
       pub cutting-next : {l : Domains} {rows′ s : List ℕ} {rest : ℕ} → TakenOut left (lowest-bit left) rest
           → Narrowed (EachAsked x a u m) (Each x a u m) j r l rows′ s → Cutting t x a items k q l rows′ s rest
       cutting-next {l} w n = record {
+        tabled = h .tabled;
+        direction = h .direction;
+        axis = h .axis;
         first = h .first;
         grown = grown-then (h .first) (h .grown) (n .grown);
         low = λ f y b. n .low f (asked f y) (h .low f y b);

@@ -1,9 +1,5 @@
 -- What the totals find too long, and removing it.
-use mathlib.Core.Bool.{Bool, true}
-use mathlib.Core.List.{List}
-use mathlib.Core.Path.{_≡_}
-use Prim.Native.Nat.{ℕ, _+_, _%_, _<_}
-use lib.Dec.{ltb}
+use Rattle.prelude.specs.Names.{Bool, true, List, _≡_, ℕ, _+_, _%_, _<_, ltb}
 use Rattle.model.specs.Domains.{Domains}
 use Rattle.model.specs.Order.{Proper}
 use Rattle.model.specs.Relations.{gone, converse, Filled}

@@ -1,11 +1,5 @@
 -- Totals extended along links, on the axis a and in the table that starts at o: 0 of the chains ending in an item, 30 of those starting in it.
-use mathlib.Core.Bool.{Bool, true, false, _&&_}
-use mathlib.Core.List.{List}
-use mathlib.Core.Logic.{_⊎_}
-use mathlib.Core.Path.{_≡_}
-use Prim.Native.Nat.{ℕ, _+_, _*_, _%_, _^_, _≤_, _<_}
-use lib.Bits.{bitOr}
-use lib.ListN.{getD, length, set}
+use Rattle.prelude.specs.Names.{Bool, true, false, _&&_, List, _⊎_, _≡_, ℕ, _+_, _*_, _%_, _^_, _≤_, _<_, bitOr, getD, length, set}
 use Rattle.domains.specs.Bits.{bit-at}
 use Rattle.domains.specs.Rows.{row}
 use Rattle.chains.specs.Totals.{size-at, capacity-at, Tabled}

@@ -1,9 +1,5 @@
 -- Rule 5 where a link is new: totals extended along it and on from there, and what they find too long removed.
-use mathlib.Core.Bool.{Bool, true, false}
-use mathlib.Core.List.{List}
-use mathlib.Core.Logic.{_⊎_}
-use mathlib.Core.Path.{_≡_}
-use Prim.Native.Nat.{ℕ, _≤_}
+use Rattle.prelude.specs.Names.{Bool, true, false, List, _⊎_, _≡_, ℕ, _≤_}
 use Rattle.model.specs.Problem.{Problem}
 use Rattle.model.specs.Domains.{Domains}
 use Rattle.model.specs.Order.{_⊑_}

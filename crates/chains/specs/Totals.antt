@@ -1,9 +1,6 @@
 -- Totals of chains beside the measures they are made of, 93 numbers: at axis * 10 + item the total of the chains ending in the item, from 30 on
 -- that of those starting in it, from 60 on the item's measure; from 90 on the container's, by axis.
-use mathlib.Core.List.{List}
-use mathlib.Core.Path.{_≡_}
-use Prim.Native.Nat.{ℕ, zero, suc, _+_, _*_, _≤_, _<_}
-use lib.ListN.{getD, length}
+use Rattle.prelude.specs.Names.{List, _≡_, ℕ, zero, suc, _+_, _*_, _≤_, _<_, getD, length}
 use Rattle.model.specs.Problem.{Problem}
 use Rattle.model.specs.Domains.{Domains}
 use Rattle.model.specs.Toward.{Goal, Direction, Under}

@@ -10,8 +10,8 @@ ghost use Rattle.chains.specs.Totals.{Tabled, SameMeasures};
 ghost use Rattle.chains.specs.NewLinks.{Charted, ExtendedIf, KeptIf};
 use crate::cuts::cut_ends;
 use crate::cuts::cut_starts;
-use crate::totals::link_ends;
-use crate::totals::link_starts;
+use crate::totals::STARTS;
+use crate::totals::link_on;
 use domains::Place;
 use domains::queue::MAX_QUEUE;
 
@@ -28,11 +28,16 @@ pub fn apply_link(
     ensures { λ b. ⌜ ((p : Problem) (from : ℕ) → Charted p (now (k .entry)) (now (queue .entry)) (now (t .entry)) from (place .axis) (place .u) (place .v) → ExtendedIf p (now (k .entry)) (now (queue .entry)) (now (t .entry)) from (now (k .exit)) (now (rows .exit)) (now (queue .exit)) (now (t .exit)) b) ⌝ }
 {
     let a = place.axis;
-    let ends = link_ends(rows, t, place);
+    let ends = link_on(rows, t, 0, 2, place);
     if !ends.fits {
         return false;
     }
-    let starts = link_starts(rows, t, place);
+    let turned = Place {
+        axis: a,
+        u: place.v,
+        v: place.u,
+    };
+    let starts = link_on(rows, t, STARTS, 1, turned);
     if !starts.fits {
         return false;
     }

@@ -1,15 +1,15 @@
 // The totals of greatest chains, beside the measures they are made of: at axis * 10 + item the total of the chains ending in the item, from
 // STARTS on that of those starting in it, from SIZES on the item's measure; at CAPACITY + axis the container's.
 ghost use mathlib.Core.Path.{_≡_};
-ghost use mathlib.Core.Bool.{false};
+ghost use mathlib.Core.Bool.{false, _&&_};
 ghost use mathlib.Core.Logic.{_≢_};
-ghost use Prim.Native.Nat.{_<_, _^_};
-ghost use Rattle.domains.specs.Bits.{bit-at};
+ghost use Prim.Native.Nat.{_+_, _*_, _<_, _^_};
+ghost use Rattle.model.specs.Toward.{Direction};
+ghost use Rattle.domains.specs.Bits.{bit-at, Gives};
 ghost use Rattle.chains.specs.Links.{Linkable, Raising, Only, From, Told, On, Plain};
 use domains::Place;
+use domains::bits::ITEMS;
 use domains::bits::bit;
-use domains::bits::following;
-use domains::bits::leading;
 use domains::bits::lowest;
 use domains::bits::rest;
 
@@ -20,38 +20,38 @@ pub const SIZES: usize = 60;
 pub const CAPACITY: usize = 90;
 
 // Items whose totals have grown, and whether all totals are within the container.
-pub struct Grown {
+pub struct Growth {
     pub fits: bool,
     pub items: u32,
 }
 
 // The chains of an item go on from those of v, in the table at `own`: the set of z where its total grows.
-fn link(t: &mut [u16; 93], own: usize, a: usize, v: usize, z: usize) -> Grown
+fn link(t: &mut [u16; 93], own: usize, a: usize, v: usize, z: usize) -> Growth
     requires { ⌜ Linkable (now t) own a × (v < 10) × (z < 10) × (v ≢ z) ⌝ }
     ensures { λ r. ⌜ Raising (Only v z) (Only v z) own a (now (t .entry)) (now (t .exit)) (r .fits) (r .items) ⌝ }
 {
     let total = t[own + a * 10 + v] as u32 + t[SIZES + a * 10 + z] as u32;
     if total <= t[own + a * 10 + z] as u32 {
-        return Grown {
+        return Growth {
             fits: true,
             items: 0,
         };
     }
     if total > t[CAPACITY + a] as u32 {
-        return Grown {
+        return Growth {
             fits: false,
             items: 0,
         };
     }
     t[own + a * 10 + z] = total as u16;
-    Grown {
+    Growth {
         fits: true,
         items: bit(z),
     }
 }
 
 // The same of each item of a set.
-fn link_each(t: &mut [u16; 93], own: usize, a: usize, v: usize, items: u32) -> Grown
+fn link_each(t: &mut [u16; 93], own: usize, a: usize, v: usize, items: u32) -> Growth
     requires { ⌜ Linkable (now t) own a × (v < 10) × (items < 2 ^ 10) × (bit-at items v ≡ false) ⌝ }
     ensures { λ r. ⌜ Raising (From v items) (From v items) own a (now (t .entry)) (now (t .exit)) (r .fits) (r .items) ⌝ }
 {
@@ -66,67 +66,45 @@ fn link_each(t: &mut [u16; 93], own: usize, a: usize, v: usize, items: u32) -> G
         }
         grown = grown | more.items;
     }
-    Grown {
+    Growth {
         fits: true,
         items: grown,
     }
 }
 
-// The link from u to v: the totals of the chains ending in v, and of all that go on from there.
-pub fn link_ends(rows: &[u32; 30], t: &mut [u16; 93], place: Place) -> Grown
-    requires { ⌜ Plain (now rows) × Linkable (now t) 0 (place .axis) × Told (now rows) 2 (place .axis) (place .u) (place .v) ⌝ }
-    ensures { λ r. ⌜ Raising (Told (now (rows .entry)) 2 (place .axis)) (On (Told (now (rows .entry)) 2 (place .axis)) (place .u) (place .v) (r .items)) 0 (place .axis) (now (t .entry)) (now (t .exit)) (r .fits) (r .items) ⌝ }
+// The items to which the row of an item tells links in the direction x: 1 to those before it, 2 to those after it.
+fn linked(row: u32, x: usize) -> u32
+    requires { ⌜ Direction x ⌝ }
+    ensures { λ r. ⌜ Gives 10 r (λ z. bit-at row z && bit-at row (x * 10 + z)) ⌝ }
+{
+    row & row >> (x * 10) as u32 & ITEMS
+}
+
+// The link from u to v in the direction x: the total of v in the table at `own`, and those of all that go on from there.
+pub fn link_on(rows: &[u32; 30], t: &mut [u16; 93], own: usize, x: usize, place: Place) -> Growth
+    requires { ⌜ Plain (now rows) × Linkable (now t) own (place .axis) × Direction x × Told (now rows) x (place .axis) (place .u) (place .v) ⌝ }
+    ensures { λ r. ⌜ Raising (Told (now (rows .entry)) x (place .axis)) (On (Told (now (rows .entry)) x (place .axis)) (place .u) (place .v) (r .items)) own (place .axis) (now (t .entry)) (now (t .exit)) (r .fits) (r .items) ⌝ }
 {
     let a = place.axis;
     let u = place.u;
     let v = place.v;
-    let first = link(t, 0, a, u, v);
+    let first = link(t, own, a, u, v);
     if !first.fits {
         return first;
     }
     let mut todo = first.items;
     let mut grown = first.items;
     while todo != 0 {
-        let x = lowest(todo);
+        let w = lowest(todo);
         todo = rest(todo);
-        let more = link_each(t, 0, a, x, following(rows[a * 10 + x]));
+        let more = link_each(t, own, a, w, linked(rows[a * 10 + w], x));
         if !more.fits {
             return more;
         }
         todo = todo | more.items;
         grown = grown | more.items;
     }
-    Grown {
-        fits: true,
-        items: grown,
-    }
-}
-
-// The same of the chains starting in u.
-pub fn link_starts(rows: &[u32; 30], t: &mut [u16; 93], place: Place) -> Grown
-    requires { ⌜ Plain (now rows) × Linkable (now t) 30 (place .axis) × Told (now rows) 1 (place .axis) (place .v) (place .u) ⌝ }
-    ensures { λ r. ⌜ Raising (Told (now (rows .entry)) 1 (place .axis)) (On (Told (now (rows .entry)) 1 (place .axis)) (place .v) (place .u) (r .items)) 30 (place .axis) (now (t .entry)) (now (t .exit)) (r .fits) (r .items) ⌝ }
-{
-    let a = place.axis;
-    let u = place.u;
-    let v = place.v;
-    let first = link(t, STARTS, a, v, u);
-    if !first.fits {
-        return first;
-    }
-    let mut todo = first.items;
-    let mut grown = first.items;
-    while todo != 0 {
-        let x = lowest(todo);
-        todo = rest(todo);
-        let more = link_each(t, STARTS, a, x, leading(rows[a * 10 + x]));
-        if !more.fits {
-            return more;
-        }
-        todo = todo | more.items;
-        grown = grown | more.items;
-    }
-    Grown {
+    Growth {
         fits: true,
         items: grown,
     }

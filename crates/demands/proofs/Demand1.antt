@@ -1,9 +1,5 @@
 -- The mission's first demand holds.
-use mathlib.Core.List.{List}
-use mathlib.Core.Logic.{_⊎_, inl, inr}
-use mathlib.Core.Path.{_≡_}
-use Prim.Native.Nat.{_≤_, _+_}
-use native.Mathlib.Omega.{arith}
+use Rattle.prelude.specs.Names.{_⊎_, inl, inr, _≤_, arith}
 use Rattle.instance.proofs.Readings.{read-refuses, read-answers}
 use Rattle.item_record.proofs.Records.{record-is-read}
 use Rattle.item_record.proofs.Refusing.{record-refuses, record-serves, record-empty}
@@ -13,16 +9,16 @@ use Rattle.packing.proofs.Answers.{answers}
 use Rattle.packing.proofs.Decides.{decides}
 use Rattle.packing.specs.Check.{check-answer, check-number}
 use Rattle.packing.specs.declared.CheckAnswer.{CheckAnswer}
-use Rattle.packing.specs.declared.CheckAnswer.the-variants as Checking
 use Rattle.search.proofs.Claim.{refuses, handed-back}
 use Rattle.search.specs.Results.{answer-number, search-result}
-use Rattle.search.specs.declared.results.Answer.{Answer}
-use Rattle.search.specs.declared.results.Answer.the-variants as Searching
+use Rattle.search.specs.declared.answer.Answer.{Answer}
 use Rattle.c_api.proofs.Faults.{search-refuses, untouched}
 use Rattle.c_api.proofs.Plans.{check-refuses}
 use Rattle.c_api.specs.Calls.{checked, check-code, search-call}
 use Rattle.demands.specs.Demand1.{Demand1}
 use Rattle.demands.proofs.Functions.{functions}
+use Rattle.packing.specs.declared.CheckAnswer.the-variants as Checking
+use Rattle.search.specs.declared.answer.Answer.the-variants as Searching
 
 -- what a number tells
 check-answers : (a : CheckAnswer) → (check-number a ≤ 1) ⊎ (100 ≤ check-number a)

@@ -1,19 +1,10 @@
 -- The mission's third demand holds: for whoever serves calls by the search, so in values and on bytes.
-use mathlib.Core.Bool.{Bool, true, false}
-use mathlib.Core.List.{List, [], _∷_, _++_}
-use mathlib.Core.Logic.{_↔_}
-use mathlib.Core.Path.{_≡_, refl, sym, ap, _∙_}
-use Prim.Native.Nat.{ℕ, _+_, _≤_, _<_}
-use native.Mathlib.Decide.{decLt}
-use native.Mathlib.Omega.{arith}
-use lib.ListN.{length}
-use Rattle.model.proofs.Theorems as T
+use Rattle.prelude.specs.Names.{Bool, true, false, List, [], _∷_, _++_, _↔_, _≡_, refl, sym, ap, _∙_, ℕ, _+_, _<_, decLt, arith}
 use Rattle.model.specs.Admits.{Sound}
 use Rattle.model.specs.Lists.{Service, status-number, budget-sum, returned-code, returned-plan, plan-by, Right, Serves}
 use Rattle.model.specs.Machine.{steps}
 use Rattle.model.specs.Problem.{Problem, Positions, Feasible}
 use Rattle.model.specs.Run.{look, machine, plan-at, run, step-count}
-use Rattle.model.specs.Search as S
 use Rattle.formats.specs.Reading.{Bytes}
 use Rattle.instance.specs.Meaning.{problem-of, positions-of}
 use Rattle.instance.specs.Reads.{Reads, Full}
@@ -22,19 +13,21 @@ use Rattle.instance.specs.declared.Checkpoint.{Checkpoint}
 use Rattle.instance.specs.declared.Instance.{Instance}
 use Rattle.packing.proofs.Decides.{decides}
 use Rattle.packing.specs.Check.{check-answer, check-number}
-use Rattle.search.proofs.Claim as Values
 use Rattle.search.proofs.Packing.{packing-back, feasible-same}
 use Rattle.opening.proofs.Sound.{valid-sound}
 use Rattle.search.specs.Calls.{values}
 use Rattle.search.specs.Results.{answer-number, packing-of, search-result, nine}
 use Rattle.buffers.specs.Bytes.{packing-in}
-use Rattle.c_api.proofs.Claim as OnBytes
-use Rattle.c_api.proofs.Faults as Faults
 use Rattle.c_api.proofs.Plans.{reads-one, reads-sound, yes-exactly, placed-checks}
 use Rattle.c_api.specs.Calls.{check-code}
 use Rattle.c_api.specs.Lists.{on-bytes}
 use Rattle.demands.specs.Demand3.{run-number, Holds, Demand3}
 use Rattle.instance.proofs.Readings.{decode-refuses}
+use Rattle.model.proofs.Theorems as T
+use Rattle.model.specs.Search as S
+use Rattle.search.proofs.Claim as Values
+use Rattle.c_api.proofs.Claim as OnBytes
+use Rattle.c_api.proofs.Faults as Faults
 
 two-is-none : (κ : S.Checkpoint) → status-number (S.status κ) ≡ 2 → κ ≡ S.infeasible
 two-is-none (S.open-at path) e = absurd (omega arith)

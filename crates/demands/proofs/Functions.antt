@@ -1,4 +1,5 @@
 -- Each function open to callers meets its contract, which asks nothing and says these definitions.
+use Rattle.demands.specs.Functions.{Functions}
 use Rattle.c_api.proofs.hallplan_check.Met as CheckBytes
 use Rattle.c_api.proofs.hallplan_search.Met as SearchBytes
 use Rattle.instance.proofs.Instance.is_valid.Met as IsValid
@@ -12,9 +13,8 @@ use Rattle.packing.proofs.check.Met as Check
 use Rattle.packing.proofs.clearance.Met as Clearance
 use Rattle.refusal.proofs.Refusal.number.Met as Number
 use Rattle.refusal.proofs.Refusal.place.Met as Place
-use Rattle.search.proofs.results.Answer.number.Met as AnswerNumber
+use Rattle.search.proofs.answer.Answer.number.Met as AnswerNumber
 use Rattle.search.proofs.search.Met as Search
-use Rattle.demands.specs.Functions.{Functions}
 
 pub functions : (M : Type 1) → Functions M
 functions M = record {

@@ -1,16 +1,9 @@
 -- The mission's first demand, as one theorem: that every function answers, what is refused and with which number, and what a refusal
 -- leaves. The table's conditions stand beside the definitions that test them: c_api Faults (check and search in bytes), search Results
 -- (`SearchFault`), sheet Faults (reading), writer and item_record Refusing, packing Clearance.
-use mathlib.Core.Bool.{true, false}
-use mathlib.Core.List.{List, []}
-use mathlib.Core.Logic.{_↔_, _⊎_, inl, inr}
-use mathlib.Core.Path.{_≡_}
-use Prim.Native.Nat.{ℕ, _+_, _≤_, _<_}
-use lib.IntN.{ℤ}
-use lib.ListN.{length, getD}
+use Rattle.prelude.specs.Names.{true, false, List, [], _↔_, _⊎_, inl, inr, _≡_, ℕ, _+_, _≤_, _<_, ℤ, length, getD}
 use Rattle.refusal.specs.Numbers.{number-of, place-of}
 use Rattle.refusal.specs.declared.Refusal.{Refusal}
-use Rattle.formats.specs.Formats.{Format}
 use Rattle.formats.specs.Reading.{Bytes}
 use Rattle.parts.specs.Parts.{item}
 use Rattle.parts.specs.Sizes.{no-item}

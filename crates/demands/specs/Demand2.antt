@@ -1,10 +1,5 @@
 -- The mission's second demand, as one theorem: the plan check, and reading and writing sheets.
-use mathlib.Core.Bool.{true}
-use mathlib.Core.List.{List, _++_}
-use mathlib.Core.Logic.{_↔_, inl}
-use mathlib.Core.Path.{_≡_}
-use Prim.Native.Nat.{ℕ, _≤_}
-use lib.ListN.{length, take, drop}
+use Rattle.prelude.specs.Names.{true, List, _++_, _↔_, inl, _≡_, ℕ, _≤_, length, take, drop}
 use Rattle.model.specs.Problem.{Feasible}
 use Rattle.formats.specs.Reading.{Bytes}
 use Rattle.instance.specs.Sheets.{decode}

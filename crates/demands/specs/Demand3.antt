@@ -1,15 +1,9 @@
 -- The mission's third demand, as one theorem: the search, for every list of calls, in values and on bytes.
-use mathlib.Core.Bool.{true, false}
-use mathlib.Core.List.{List}
-use mathlib.Core.Logic.{_↔_}
-use mathlib.Core.Path.{_≡_}
-use Prim.Native.Nat.{ℕ, _+_, _≤_, _<_}
-use lib.ListN.{length}
+use Rattle.prelude.specs.Names.{true, false, List, _↔_, _≡_, ℕ, _+_, _≤_, _<_, length}
 use Rattle.model.specs.Lists.{Service, status-number, budget-sum, returned-code, returned-plan, Claim, AllRefused}
 use Rattle.model.specs.Machine.{Count, steps}
 use Rattle.model.specs.Problem.{Problem, Positions, Feasible}
 use Rattle.model.specs.Run.{machine, step-count}
-use Rattle.model.specs.Search as S
 use Rattle.refusal.specs.Numbers.{number-of}
 use Rattle.refusal.specs.declared.Refusal.{Refusal}
 use Rattle.formats.specs.Reading.{Bytes}
@@ -26,6 +20,7 @@ use Rattle.buffers.specs.Bytes.{steps-in}
 use Rattle.c_api.specs.Calls.{check-code, search-code, steps-after, plan-after}
 use Rattle.c_api.specs.Lists.{Lent, Call, on-bytes}
 use Rattle.buffers.specs.Lengths.{note-length}
+use Rattle.model.specs.Search as S
 
 -- what the one run answers: "0 spent, 1 placed, 2 none"
 abbrev pub run-number : Problem → ℕ

@@ -2,15 +2,25 @@
 -- stays inside its memory, ends, and returns and leaves what its contract says. `asks`: the contract asks nothing of these values. `says`:
 -- what the contract promises, by the definitions that the demands are about; where these need it, also what the types say of the arguments
 -- (`Bytes`, `Full`). κs are lifetimes, a the arguments, r the result, s the parameters at exit.
-use mathlib.Core.Path.{_≡_}
+use Rattle.prelude.specs.Names.{_≡_, length}
 use contract.Lifetimes.{Lfts}
-use lib.ListN.{length}
+use Rattle.refusal.specs.Numbers.{number-of, place-of}
+use Rattle.formats.specs.Reading.{Bytes}
+use Rattle.instance.specs.Sheets.{decode}
+use Rattle.instance.specs.Answers.{read-result}
+use Rattle.writer.specs.Answers.{write-answer, written-room}
+use Rattle.instance.specs.Reads.{Full}
+use Rattle.item_record.specs.Record.{item-record, item-record-code}
+use Rattle.instance.specs.Valid.{valid}
+use Rattle.instance.specs.Values.{opening-checkpoint, origin-packing}
+use Rattle.packing.specs.Check.{check-answer}
+use Rattle.packing.specs.Clearance.{clearance-answer}
+use Rattle.search.specs.Results.{answer-number, search-result}
+use Rattle.c_api.specs.Calls.{check-code, search-code, note-after, steps-after, plan-after}
 use Rattle.refusal.proofs.Refusal.number.Reads as Number
 use Rattle.refusal.proofs.Refusal.number.Statement as NumberRuns
 use Rattle.refusal.proofs.Refusal.place.Reads as Place
 use Rattle.refusal.proofs.Refusal.place.Statement as PlaceRuns
-use Rattle.refusal.specs.Numbers.{number-of, place-of}
-use Rattle.formats.specs.Reading.{Bytes}
 use Rattle.instance.proofs.Instance.is_valid.Reads as IsValid
 use Rattle.instance.proofs.Instance.is_valid.Statement as IsValidRuns
 use Rattle.instance.proofs.Instance.opening.Reads as Opening
@@ -25,29 +35,18 @@ use Rattle.item_record.proofs.item_record.Reads as Record
 use Rattle.item_record.proofs.item_record.Statement as RecordRuns
 use Rattle.item_record.proofs.item_record_refusal.Reads as RecordRefusal
 use Rattle.item_record.proofs.item_record_refusal.Statement as RecordRefusalRuns
-use Rattle.instance.specs.Sheets.{decode}
-use Rattle.instance.specs.Answers.{read-result}
-use Rattle.writer.specs.Answers.{write-answer, written-room}
-use Rattle.instance.specs.Reads.{Full}
-use Rattle.item_record.specs.Record.{item-record, item-record-code}
-use Rattle.instance.specs.Valid.{valid}
-use Rattle.instance.specs.Values.{opening-checkpoint, origin-packing}
 use Rattle.packing.proofs.check.Reads as Check
 use Rattle.packing.proofs.check.Statement as CheckRuns
 use Rattle.packing.proofs.clearance.Reads as Clearance
 use Rattle.packing.proofs.clearance.Statement as ClearanceRuns
-use Rattle.packing.specs.Check.{check-answer}
-use Rattle.packing.specs.Clearance.{clearance-answer}
-use Rattle.search.proofs.results.Answer.number.Reads as AnswerNumber
-use Rattle.search.proofs.results.Answer.number.Statement as AnswerNumberRuns
+use Rattle.search.proofs.answer.Answer.number.Reads as AnswerNumber
+use Rattle.search.proofs.answer.Answer.number.Statement as AnswerNumberRuns
 use Rattle.search.proofs.search.Reads as Search
 use Rattle.search.proofs.search.Statement as SearchRuns
-use Rattle.search.specs.Results.{answer-number, search-result}
 use Rattle.c_api.proofs.hallplan_check.Reads as CheckBytes
 use Rattle.c_api.proofs.hallplan_check.Statement as CheckBytesRuns
 use Rattle.c_api.proofs.hallplan_search.Reads as SearchBytes
 use Rattle.c_api.proofs.hallplan_search.Statement as SearchBytesRuns
-use Rattle.c_api.specs.Calls.{check-code, search-code, note-after, steps-after, plan-after}
 
 -- M is the program logic's own: the theorems hold for every one
 pub record Functions (M : Type 1) : Type 2 where

@@ -1,10 +1,8 @@
 pub mod BitLaws
-pub mod DomainBits
 pub mod Through
 pub mod Narrowed
 pub mod Mirror
 pub mod Rooms
 pub mod Single
-pub mod Items
+pub mod ItemByItem
 pub mod Each
-pub mod Rest

@@ -1,23 +1,14 @@
 -- Rows that say what the domains say: read, and kept so after one removal by two bits marked.
-use mathlib.Core.Bool.{Bool, true, false, _&&_, _||_, or-true, or-false}
-use mathlib.Core.List.{List, [], _∷_}
-use mathlib.Core.Path.{_≡_, refl, sym, _∙_, ap}
-use Prim.Native.Nat.{ℕ, zero, suc, _+_, _*_, _^_, _<_}
-use native.Mathlib.Decide.{ℕ-discrete}
-use native.Mathlib.Omega.{arith}
-use lib.Bits.{bitOr, or-lt}
-use lib.Dec.{eqb}
-use lib.ListN.{getD, length, set, length-set}
-use lib.Pow.{pow-lt}
-use lib.Seq.{getD-set-same, getD-set-other}
-use borrow.Author.Tests.{eqb-true, eq-eqb, ne-eqb}
+use Rattle.prelude.specs.Names.{true, _&&_, or-true, or-false, List, [], _∷_, _≡_, refl, sym, _∙_, ℕ, zero, suc, _+_, _*_, _^_, _<_, ℕ-discrete}
+use Rattle.prelude.specs.Names.{arith, bitOr, or-lt, getD, length, set, length-set, pow-lt, getD-set-same, getD-set-other, eq-eqb, ne-eqb}
+use mathlib.Core.Logic.{Dec·and}
 use Rattle.model.specs.Domains.{Domains}
 use Rattle.model.specs.Order.{Proper, WellFormed}
 use Rattle.model.specs.Relations.{gone, without, converse}
-use Rattle.model.proofs.Below.{and-intro, and-both, clash}
+use Rattle.model.specs.Claims.{overlaps, says}
 use Rattle.model.proofs.Claims.{gone-converse, gone-self, converse-small}
-use Rattle.model.proofs.Without.{without-gone, without-other}
-use Rattle.domains.specs.Bits.{bit-at}
+use Rattle.model.proofs.Without.{Other, without-gone, without-other}
+use Rattle.domains.specs.Bits.{bit-at, Gives}
 use Rattle.domains.specs.Rows.{row, Mirror}
 use Rattle.domains.proofs.BitLaws.{bit-or, bit-power, bit-first}
 
@@ -29,16 +20,24 @@ parts-same hv hw e = (omega arith, omega arith)
 pub row-first : {k : Domains} {rows : List ℕ} → Mirror k rows → {a u v : ℕ} → a < 3 → u < 10 → v < 10 → bit-at (row rows a u) v ≡ gone k 0 a u v
 row-first {rows = rows} m {a} {u} {v} ha hu hv = sym (bit-first (row rows a u) v) ∙ m .is 0 a u v (omega arith) ha hu hv
 
+-- known to overlap
+pub row-overlaps : {k : Domains} {rows : List ℕ} → Mirror k rows → {a u v s : ℕ} → a < 3 → u < 10 → v < 10
+    → Gives 10 s (λ v. bit-at (row rows a u) (10 + v) && bit-at (row rows a u) (20 + v)) → bit-at s v ≡ says overlaps k a u v
+unfolding says
+row-overlaps m {a} {u} {v} ha hu hv g = cc (g .is v hv, m .is 1 a u v (omega arith) ha hu hv, m .is 2 a u v (omega arith) ha hu hv)
+
 -- the bit b of the row at i is set
 abbrev pub mark : List ℕ → ℕ → ℕ → List ℕ
 mark rows i b = set rows i (bitOr (getD rows i 0) (2 ^ b))
 
-mark-at : (rows : List ℕ) (i b j c : ℕ) → i < length rows → bit-at (getD (mark rows i b) j 0) c ≡ (bit-at (getD rows j 0) c || (eqb j i && eqb c b))
-mark-at rows i b j c h = go (ℕ-discrete j i)
-  where
-    go : Dec (j ≡ i) → bit-at (getD (mark rows i b) j 0) c ≡ (bit-at (getD rows j 0) c || (eqb j i && eqb c b))
-    go (yes e) = rw (e, getD-set-same rows i (bitOr (getD rows i 0) (2 ^ b)) 0 h, eq-eqb i i refl, bit-or, bit-power) refl
-    go (no d) = rw (getD-set-other rows i j (bitOr (getD rows i 0) (2 ^ b)) 0 d, ne-eqb j i d) (sym (or-false _))
+mark-here : (rows : List ℕ) (i b : ℕ) → i < length rows → bit-at (getD (mark rows i b) i 0) b ≡ true
+mark-here rows i b h = rw (getD-set-same rows i (bitOr (getD rows i 0) (2 ^ b)) 0 h, bit-or, bit-power, eq-eqb b b refl, or-true)
+
+mark-kept : (rows : List ℕ) (i b j c : ℕ) → i < length rows → (j ≡ i → c ≡ b → ⊥) → bit-at (getD (mark rows i b) j 0) c ≡ bit-at (getD rows j 0) c
+mark-kept rows i b j c h d = elim (ℕ-discrete j i) [
+  | yes e ↦ rw (e, getD-set-same rows i (bitOr (getD rows i 0) (2 ^ b)) 0 h, bit-or, bit-power, ne-eqb c b (d e), or-false)
+  | no n ↦ rw (getD-set-other rows i j (bitOr (getD rows i 0) (2 ^ b)) 0 n) refl
+]
 
 set-small : (l : List ℕ) (i x n : ℕ) → x < n → ((j : ℕ) → getD l j 0 < n) → (j : ℕ) → getD (set l i x) j 0 < n
 set-small [] i x n hx h j = h j
@@ -50,6 +49,10 @@ set-small (m ∷ l) (suc i) x n hx h (suc j) = set-small l i x n hx (λ y. h (su
 mark-small : (rows : List ℕ) (i b : ℕ) → b < 30 → ((j : ℕ) → getD rows j 0 < 2 ^ 30) → (j : ℕ) → getD (mark rows i b) j 0 < 2 ^ 30
 mark-small rows i b hb h = set-small rows i _ (2 ^ 30) (or-lt 30 (getD rows i 0) (2 ^ b) (h i) (pow-lt hb)) h
 
+-- whether one relation of two items on an axis is the other
+pub same-relation : (y b s t x a u v : ℕ) → Dec ((y ≡ x) × ((b ≡ a) × ((s ≡ u) × (t ≡ v))))
+same-relation y b s t x a u v = Dec·and (ℕ-discrete y x) (Dec·and (ℕ-discrete b a) (Dec·and (ℕ-discrete s u) (ℕ-discrete t v)))
+
 -- both rows of a removed relation
 abbrev pub marked : List ℕ → ℕ → ℕ → ℕ → ℕ → List ℕ
 marked rows x a u v = mark (mark rows (a * 10 + u) (x * 10 + v)) (a * 10 + v) (converse x * 10 + u)
@@ -58,59 +61,25 @@ module _ {k : Domains} {rows : List ℕ} (f : WellFormed k) (m : Mirror k rows) 
   abbrev after : Domains
   after = without k x a u v
 
-  -- row b of the item s, bit y of the item t
-  module _ (y b s t : ℕ) (hy : y < 3) (hb : b < 3) (hs : s < 10) (ht : t < 10) where
-    abbrev was : Bool
-    was = bit-at (getD rows (b * 10 + s) 0) (y * 10 + t)
-
-    abbrev near : Bool
-    near = eqb (b * 10 + s) (a * 10 + u) && eqb (y * 10 + t) (x * 10 + v)
-
-    abbrev far : Bool
-    far = eqb (b * 10 + s) (a * 10 + v) && eqb (y * 10 + t) (converse x * 10 + u)
-
-    both-marked : bit-at (getD (marked rows x a u v) (b * 10 + s) 0) (y * 10 + t) ≡ ((was || near) || far)
-    both-marked =
-        let hn : a * 10 + u < length rows = rw (m .long) (omega (arith, w .axis, w .item-u)) in
-        let hf : a * 10 + v < length (mark rows (a * 10 + u) (x * 10 + v)) = rw (length-set, m .long) (omega (arith, w .axis, w .item-v)) in
-        mark-at (mark rows (a * 10 + u) (x * 10 + v)) (a * 10 + v) (converse x * 10 + u) (b * 10 + s) (y * 10 + t) hf
-        ∙ ap (λ (c : Bool). c || far) (mark-at rows (a * 10 + u) (x * 10 + v) (b * 10 + s) (y * 10 + t) hn)
-
-    -- the same place where row and bit are the same
-    same : {z p q : ℕ} → p < 10 → q < 10 → (eqb (b * 10 + s) (a * 10 + p) && eqb (y * 10 + t) (z * 10 + q)) ≡ true
-        → (y ≡ z) × (b ≡ a) × (s ≡ p) × (t ≡ q)
-    same {z} {p} {q} hp hq e =
-        let d = and-both (eqb (b * 10 + s) (a * 10 + p)) (eqb (y * 10 + t) (z * 10 + q)) e in
-        let i = parts-same {x = a} {y = b} hp hs (eqb-true _ _ (d .0)) in
-        let j = parts-same {x = z} {y = y} hq ht (eqb-true _ _ (d .1)) in
-        (j .0, i .0, i .1, j .1)
-
-    here : {z p q : ℕ} → y ≡ z → b ≡ a → s ≡ p → t ≡ q → (eqb (b * 10 + s) (a * 10 + p) && eqb (y * 10 + t) (z * 10 + q)) ≡ true
-    here {z} {p} {q} e0 e1 e2 e3 =
-        and-intro (eq-eqb (b * 10 + s) (a * 10 + p) (rw (e1, e2) refl)) (eq-eqb (y * 10 + t) (z * 10 + q) (rw (e0, e3) refl))
-
-    stays : near ≡ false → far ≡ false → gone after y b s t ≡ gone k y b s t
-    stays p q = go (ℕ-discrete t s)
-      where
-        go : Dec (t ≡ s) → gone after y b s t ≡ gone k y b s t
-        go (yes e) = rw e (gone-self after y b s ∙ sym (gone-self k y b s))
-        go (no e) =
-            without-other k x y hx hy f w (record { axis = hb; item-u = hs; item-v = ht; distinct = λ d. e (sym d) }) record {
-              near = λ e0 e1 e2 e3. clash (here e0 e1 e2 e3) p;
-              far = λ e0 e1 e2 e3. clash (here e0 e1 e2 e3) q;
-            }
-
-    mirrored : bit-at (getD (marked rows x a u v) (b * 10 + s) 0) (y * 10 + t) ≡ gone after y b s t
-    mirrored = both-marked ∙ go near refl far refl
-      where
-        go : (p : Bool) → near ≡ p → (q : Bool) → far ≡ q → ((was || p) || q) ≡ gone after y b s t
-        go p d true e =
-            let (e0, e1, e2, e3) = same (w .item-v) (w .item-u) e in
-            or-true (was || p) ∙ sym (rw (e0, e1, e2, e3) (gone-converse after x a u v hx ∙ without-gone k x f w))
-        go true d false e =
-            let (e0, e1, e2, e3) = same (w .item-u) (w .item-v) d in
-            or-false (was || true) ∙ (or-true was ∙ sym (rw (e0, e1, e2, e3) (without-gone k x f w)))
-        go false d false e = or-false (was || false) ∙ (or-false was ∙ (m .is y b s t hy hb hs ht ∙ sym (stays d e)))
+  mirrored : (y b s t : ℕ) → y < 3 → b < 3 → s < 10 → t < 10 → bit-at (getD (marked rows x a u v) (b * 10 + s) 0) (y * 10 + t) ≡ gone after y b s t
+  mirrored y b s t hy hb hs ht =
+      let near = mark rows (a * 10 + u) (x * 10 + v) in
+      let hn : a * 10 + u < length rows = rw (m .long) (omega arith) in
+      let hf : a * 10 + v < length near = rw (length-set, m .long) (omega arith) in
+      elim (same-relation y b s t (converse x) a v u) [
+        | yes (e0, (e1, (e2, e3))) ↦ rw (e0, e1, e2, e3) (mark-here near (a * 10 + v) (converse x * 10 + u) hf
+            ∙ sym (gone-converse after x a u v hx ∙ without-gone k x f w))
+        | no far ↦ mark-kept near (a * 10 + v) (converse x * 10 + u) (b * 10 + s) (y * 10 + t) hf (λ p q. far (omega arith))
+            ∙ elim (same-relation y b s t x a u v) [
+              | yes (e0, (e1, (e2, e3))) ↦ rw (e0, e1, e2, e3) (mark-here rows (a * 10 + u) (x * 10 + v) hn ∙ sym (without-gone k x f w))
+              | no d ↦ mark-kept rows (a * 10 + u) (x * 10 + v) (b * 10 + s) (y * 10 + t) hn (λ p q. d (omega arith)) ∙ (m .is y b s t hy hb hs ht
+                  ∙ sym (elim (ℕ-discrete t s) [
+                    | yes e ↦ rw e (gone-self after y b s ∙ sym (gone-self k y b s))
+                    | no n ↦ let o : Other x a u v y b s t = record { near = λ p q r z. d (p, (q, (r, z))); far = λ p q r z. far (p, (q, (r, z))) } in
+                        without-other k x y hx hy f w (omega arith) o
+                  ]))
+            ]
+      ]
 
   pub mirror-one : Mirror after (marked rows x a u v)
   mirror-one = record {

@@ -1,17 +1,9 @@
 -- The algebra of removing: nothing done, one after another, asked for in other words. Stated once for all functions that remove relations.
-use mathlib.Core.Bool.{Bool, true, false}
-use mathlib.Core.List.{List}
-use mathlib.Core.Logic.{_⊎_, inl, inr}
-use mathlib.Core.Path.{_≡_, refl, _∙_}
-use Prim.Native.Nat.{ℕ, _≤_}
-use native.Mathlib.Nat.{le-refl}
-use native.Mathlib.Omega.{arith}
-use lib.ListN.{getD}
+use Rattle.prelude.specs.Names.{Bool, true, false, List, inl, inr, ⊎-map, refl, _∙_, ℕ, _≤_, le-refl, arith}
 use Rattle.model.specs.Domains.{Domains}
-use Rattle.model.specs.Order.{Proper, _⊑_}
-use Rattle.model.specs.Claims.{Claim, Holds}
+use Rattle.model.specs.Order.{_⊑_}
 use Rattle.model.proofs.Order.{below-refl, below-trans}
-use Rattle.domains.specs.Queue.{code, end, Queued, Good, Long}
+use Rattle.domains.specs.Queue.{end, Queued, Good, Long}
 use Rattle.domains.specs.Narrowed.{Grown, Narrowed, Refuted, Outcome}
 
 pub good-long : {k : Domains} {rows q : List ℕ} → Good k rows q → Long k rows q
@@ -28,11 +20,8 @@ module _ {k : Domains} {rows q : List ℕ} (g : Good k rows q) where
 -- One after another
 pub queued-on : {j : Domains} {r : List ℕ} {l : Domains} {rows s : List ℕ} → Grown j r l rows s → (from a u v : ℕ) → 1 ≤ from
     → Queued r from (end r) a u v → Queued s from (end s) a u v
-queued-on {r = r} {s = s} f from a u v h (i, low, high, e) = (i, low, omega (arith, f .up), on e)
-  where
-    on : (getD r i 0 ≡ code a u v) ⊎ (getD r i 0 ≡ code a v u) → (getD s i 0 ≡ code a u v) ⊎ (getD s i 0 ≡ code a v u)
-    on (inl p) = inl (f .old i (omega arith) high ∙ p)
-    on (inr p) = inr (f .old i (omega arith) high ∙ p)
+queued-on f from a u v h (i, low, high, e) =
+    let old = f .old i (omega arith) high in (i, low, omega (arith, f .up), ⊎-map (λ p. old ∙ p) (λ p. old ∙ p) e)
 
 module _ {k : Domains} {q : List ℕ} {j : Domains} {rows r : List ℕ} {l : Domains} {rows′ s : List ℕ} where
   pub grown-then : 1 ≤ end q → Grown k q j rows r → Grown j r l rows′ s → Grown k q l rows′ s
@@ -41,18 +30,11 @@ module _ {k : Domains} {q : List ℕ} {j : Domains} {rows r : List ℕ} {l : Dom
     less = below-trans l j k (f .less) (g .less);
     up = omega (arith, g .up, f .up);
     old = λ i b h. f .old i b (omega (arith, g .up)) ∙ g .old i b h;
-    new = λ c w h. later c w (f .new c w h);
+    new = λ c w h. elim (f .new c w h) [
+      | inl h ↦ ⊎-map (λ h. h) (λ h. queued-on f (end q) (c .axis) (c .u) (c .v) least h) (g .new c w h)
+      | inr (i, low, high, e) ↦ inr (i, omega (arith, g .up), high, e)
+    ];
   }
-    where
-      first : (c : Claim) → Holds k c ⊎ Queued r (end q) (end r) (c .axis) (c .u) (c .v)
-          → Holds k c ⊎ Queued s (end q) (end s) (c .axis) (c .u) (c .v)
-      first c (inl h) = inl h
-      first c (inr h) = inr (queued-on f (end q) (c .axis) (c .u) (c .v) least h)
-
-      later : (c : Claim) → Proper 10 (c .axis) (c .u) (c .v) → Holds j c ⊎ Queued s (end r) (end s) (c .axis) (c .u) (c .v)
-          → Holds k c ⊎ Queued s (end q) (end s) (c .axis) (c .u) (c .v)
-      later c w (inl h) = first c (g .new c w h)
-      later c w (inr (i, low, high, e)) = inr (i, omega (arith, g .up), high, e)
 
   pub narrowed-then : {G D E F : Domains → Type 0} → 1 ≤ end q → Narrowed G D k q j rows r → Narrowed G E j r l rows′ s → (l ⊑ j → D j → E l → F l)
       → Narrowed G F k q l rows′ s

@@ -1,9 +1,5 @@
 -- Going through the bits of a number from the lowest on: each is taken out of those that are left, until none is.
-use mathlib.Core.Bool.{true, false}
-use mathlib.Core.Path.{_≡_, sym, _∙_}
-use Prim.Native.Nat.{ℕ, _^_, _<_}
-use native.Mathlib.Decide.{ℕ-discrete}
-use native.Mathlib.Omega.{arith}
+use Rattle.prelude.specs.Names.{true, false, _≡_, sym, _∙_, ℕ, _^_, _<_, ℕ-discrete, arith}
 use Rattle.model.proofs.Below.{clash}
 use Rattle.domains.specs.Bits.{bit-at, TakenOut}
 use Rattle.domains.proofs.BitLaws.{bit-zero, taken-rest, taken-in}
@@ -23,12 +19,8 @@ pub through-one : {n items left i r : ℕ} {P Q : ℕ → Type 0} → Through n 
 through-one {n} {items} {left} {i} {r} {P} {Q} g w f q = record {
   small = omega (arith, g .small, w .less);
   within = λ j e. g .within j (taken-in w j e .0);
-  dealt = λ j e o. go j e o (ℕ-discrete j i);
+  dealt = λ j e o. elim (ℕ-discrete j i) [ yes p ↦ rw p q | no d ↦ f j e (g .dealt j e (sym (taken-rest w j d) ∙ o)) ];
 }
-  where
-    go : (j : ℕ) → bit-at items j ≡ true → bit-at r j ≡ false → Dec (j ≡ i) → Q j
-    go j e o (yes p) = rw p q
-    go j e o (no d) = f j e (g .dealt j e (sym (taken-rest w j d) ∙ o))
 
 pub through-all : {n items left : ℕ} {P : ℕ → Type 0} → Through n items left P → left ≡ 0 → (i : ℕ) → bit-at items i ≡ true → P i
 through-all g z i e = g .dealt i e (rw z (bit-zero i))

@@ -1,7 +1,5 @@
 -- What removing asks of its caller.
-use mathlib.Core.Path.{_≡_}
-use Prim.Native.Nat.{ℕ}
-use lib.ListN.{length}
+use Rattle.prelude.specs.Names.{_≡_, ℕ, length}
 use Rattle.model.specs.Domains.{Domains}
 use Rattle.model.specs.Order.{Proper}
 

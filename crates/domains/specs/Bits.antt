@@ -1,9 +1,5 @@
 -- Rows of bits and sets of items as numbers. A row has bit 10 * x + v for the relation x with the item v; a set of items the bits below 10.
-use mathlib.Core.Bool.{Bool, not, _&&_}
-use mathlib.Core.Path.{_≡_}
-use Prim.Native.Nat.{ℕ, _+_, _*_, _/_, _%_, _^_, _<_}
-use lib.Dec.{eqb}
-use lib.Count.{trailingZeros}
+use Rattle.prelude.specs.Names.{Bool, not, _&&_, _≡_, ℕ, _/_, _%_, _^_, _<_, eqb, trailingZeros}
 
 unfoldable pub bit-at : ℕ → ℕ → Bool
 bit-at m i = eqb (m / 2 ^ i % 2) 1

@@ -1,10 +1,5 @@
 -- What every function that removes relations promises: only what was asked for is gone, and this is done. One record for all of them.
-use mathlib.Core.Bool.{Bool, true, false}
-use mathlib.Core.List.{List}
-use mathlib.Core.Logic.{_⊎_, _≢_}
-use mathlib.Core.Path.{_≡_}
-use Prim.Native.Nat.{ℕ, _+_, _*_, _^_, _≤_, _<_}
-use lib.ListN.{getD}
+use Rattle.prelude.specs.Names.{Bool, true, false, List, _⊎_, _≢_, _≡_, ℕ, _+_, _*_, _^_, _≤_, _<_, getD}
 use Rattle.model.specs.Domains.{Domains}
 use Rattle.model.specs.Order.{Proper, _⊑_}
 use Rattle.model.specs.Relations.{gone, Filled}

@@ -1,9 +1,5 @@
 -- The queue of pairs that changed: place 0 has where it ends, the pairs stand from place 1 on.
-use mathlib.Core.List.{List}
-use mathlib.Core.Logic.{_⊎_}
-use mathlib.Core.Path.{_≡_}
-use Prim.Native.Nat.{ℕ, _+_, _*_, _/_, _%_, _≤_, _<_}
-use lib.ListN.{getD, length, set}
+use Rattle.prelude.specs.Names.{List, _⊎_, _≡_, ℕ, _+_, _*_, _/_, _%_, _≤_, _<_, getD, length, set}
 use Rattle.model.specs.Domains.{Domains}
 use Rattle.model.specs.Propagate.{sum}
 use Rattle.model.specs.Order.{Proper}

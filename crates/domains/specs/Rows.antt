@@ -1,8 +1,5 @@
 -- Domains laid out as rows of bits: for each axis and item one row, at axis * 10 + item.
-use mathlib.Core.List.{List}
-use mathlib.Core.Path.{_≡_}
-use Prim.Native.Nat.{ℕ, _+_, _*_, _^_, _<_}
-use lib.ListN.{getD, length}
+use Rattle.prelude.specs.Names.{List, _≡_, ℕ, _+_, _*_, _^_, _<_, getD, length}
 use Rattle.model.specs.Domains.{Domains}
 use Rattle.model.specs.Order.{WellFormed}
 use Rattle.model.specs.Relations.{gone, Filled}

@@ -1,11 +1,5 @@
 -- The answers as single numbers, 0 in place of what an answer does not hold.
-use mathlib.Core.Bool.{cond}
-use mathlib.Core.List.{List}
-use mathlib.Core.Logic.{_⊎_, inl, inr}
-use Prim.Native.Nat.{ℕ}
-use lib.Dec.{ltb}
-use lib.ListN.{length, getD}
-use lib.IntN.{ℤ, pos}
+use Rattle.prelude.specs.Names.{cond, List, _⊎_, inl, inr, ℕ, ltb, length, getD, ℤ, pos}
 use Rattle.instance.specs.declared.Instance.{Instance}
 use Rattle.instance.specs.Answers.{read-result, read-values}
 use Rattle.instance.specs.Sheets.{decode}

@@ -1,11 +1,6 @@
 -- Laws of running a reading.
-use mathlib.Core.Path.{_≡_, refl, sym, ap, _∙_, subst}
-use mathlib.Core.Bool.{Bool, true, false, cond}
-use mathlib.Core.List.{List, [], _∷_}
-use mathlib.Core.Logic.{_↔_}
-use Prim.Native.Nat.{ℕ, _+_, _-_, _≤_}
-use native.Mathlib.Omega.{arith}
-use lib.ListN.{length, drop, length-drop}
+use Rattle.prelude.specs.Names.{_≡_, refl, sym, ap, _∙_, Bool, true, false, cond, List, [], _∷_, _↔_, ℕ, _+_, _-_, _≤_, arith, length, drop}
+use Rattle.prelude.specs.Names.{length-drop}
 use Rattle.refusal.specs.declared.Refusal.{Refusal}
 use Rattle.formats.specs.Reading.{Reading, done, due, at-place, refuse-if, end, _>>=_, Read, got, refused, run, read-as}
 
@@ -13,6 +8,10 @@ use Rattle.formats.specs.Reading.{Reading, done, due, at-place, refuse-i
 abbrev pub after : {A B : Type 0} → Read A → (A → ℕ → List ℕ → Read B) → Read B
 after (got x at rest) next = next x at rest
 after (refused e) next = refused e
+
+pub after-same : {A : Type 0} (z : Read A) → after z got ≡ z
+after-same (got x at rest) = refl
+after-same (refused e) = refl
 
 pub cond-after : {A B : Type 0} (c : Bool) (e : Refusal) (r : Read A) (next : A → ℕ → List ℕ → Read B) → after (cond c (refused e) r) next ≡ cond c (refused e) (after r next)
 cond-after true e r next = refl
@@ -52,36 +51,24 @@ cond-got false e r h = (refl, h)
 
 -- a value of another type was read: what it was made of
 pub read-as-got : {A B : Type 0} (f : A → B) (r : Read A) {y : B} {at : ℕ} {rest : List ℕ} → read-as f r ≡ got y at rest → (x : A) × (r ≡ got x at rest) × (f x ≡ y)
-read-as-got f (got x at₁ rest₁) {y} {at} {rest} h =
-    let p : at₁ ≡ at = cc in
-    let l : rest₁ ≡ rest = cc in
-    (x, rw (p, l), cc)
+read-as-got f (got x at₁ rest₁) h = (x, cc, cc)
 read-as-got f (refused e) h = absurd (never-both h)
 
 pub read-as-refused : {A B : Type 0} (f : A → B) (r : Read A) (e : Refusal) → (read-as f r ≡ refused e) ↔ (r ≡ refused e)
-read-as-refused f (got x at rest) e = ((λ h. absurd (never-both (sym h))), (λ h. absurd (never-both (sym h))))
-read-as-refused f (refused d) e = ((λ h. let q : d ≡ e = cc in rw q), (λ h. let q : d ≡ e = cc in rw q))
+read-as-refused f (got x at rest) e = (λ h. absurd (never-both (sym h)), λ h. absurd (never-both (sym h)))
+read-as-refused f (refused d) e = (λ h. cc, λ h. cc)
+
+-- a part was read, and what follows gave the value
+pub after-got : {A B : Type 0} (r : Read A) (next : A → ℕ → List ℕ → Read B) {y : B} {at : ℕ} {rest : List ℕ} → after r next ≡ got y at rest
+    → (x : A) × (place : ℕ) × (left : List ℕ) × (r ≡ got x place left) × (next x place left ≡ got y at rest)
+after-got (got x place left) next h = (x, place, left, refl, h)
+after-got (refused e) next h = absurd (never-both h)
 
 module _ {A : Type 0} where
-  -- a part was read, and what follows gave the value
-  pub record First {B : Type 0} (r : Read A) (next : A → ℕ → List ℕ → Read B) (y : B) (at : ℕ) (rest : List ℕ) : Type 0 where
-    pub value : A
-    pub place : ℕ
-    pub left : List ℕ
-    pub was : r ≡ got value place left
-    pub then : next value place left ≡ got y at rest
-
-  pub after-got : {B : Type 0} (r : Read A) (next : A → ℕ → List ℕ → Read B) {y : B} {at : ℕ} {rest : List ℕ} → after r next ≡ got y at rest → First r next y at rest
-  after-got (got x at₁ rest₁) next h = record { value = x; place = at₁; left = rest₁; was = refl; then = h }
-  after-got (refused e) next h = absurd (never-both h)
-
   -- a place and what is left after it are the length
   pub run-length : (r : Reading A) (at : ℕ) (rest : List ℕ) {x : A} {at′ : ℕ} {rest′ : List ℕ} → run r at rest ≡ got x at′ rest′ → at′ + length rest′ ≡ at + length rest
   unfolding run
-  run-length (done y) at rest {at′ = at′} {rest′ = rest′} h =
-      let p : at ≡ at′ = cc in
-      let l : rest ≡ rest′ = cc in
-      rw (p, l)
+  run-length (done y) at rest h = cc
   run-length (due next) at [] h = absurd (never-both h)
   run-length (due next) at (b ∷ rest) h = omega (arith, run-length (next b) (at + 1) rest h)
   run-length (at-place next) at rest h = run-length (next at) at rest h

@@ -1,17 +1,8 @@
 -- The faults of some bytes told by places: over bytes s, what a reading from a place on reads, how far, and which faults it meets on the way,
 -- if it reads on after each as if there were none. How each combinator puts these together.
-use mathlib.Core.Path.{_≡_, refl, sym, ap, _∙_}
-use mathlib.Core.Bool.{Bool, true, false, cond, _||_, false≢true}
-use mathlib.Core.List.{List, [], _∷_}
-use mathlib.Core.Logic.{_⊎_, inl, inr, _↔_}
-use Prim.Native.Nat.{ℕ, zero, suc, _+_, _≤_, _<_}
-use native.Mathlib.Omega.{arith}
-use native.Mathlib.Nat.{eq-or-lt-of-le}
-use native.Mathlib.Numerals.{add-one}
-use lib.Dec.{eqb, ltb, leb}
-use lib.ListN.{length, getD, drop, drop-of-length-le}
-use lib.Seq.{drop-cons}
-use borrow.Author.Tests.{eqb-true, eq-eqb, ltb-true, lt-ltb, leb-true, le-leb}
+use Rattle.prelude.specs.Names.{_≡_, refl, sym, ap, _∙_, Bool, true, false, cond, _||_, false≢true, List, [], _∷_, _⊎_, inl, inr, _↔_, ℕ, zero, suc}
+use Rattle.prelude.specs.Names.{_+_, _≤_, _<_, arith, eq-or-lt-of-le, add-one, eqb, ltb, leb, length, getD, drop, drop-of-length-le, drop-cons}
+use Rattle.prelude.specs.Names.{eqb-true, eq-eqb, ltb-true, lt-ltb, leb-true, le-leb}
 use Rattle.refusal.specs.declared.Refusal.{Refusal}
 use Rattle.refusal.specs.declared.Refusal.the-variants.{EndsEarly, UnknownBit, BadCount, TrailingBytes}
 use Rattle.refusal.specs.Numbers.{place-of}
@@ -19,14 +10,11 @@ use Rattle.formats.specs.Reading.{Reading, done, due, end, _>>=_, Read, 
 use Rattle.formats.specs.Formats.{up-to, Format, byte, Test, testing, tested, row-reading, count, whole}
 use Rattle.formats.specs.Fields.{maps, map-byte}
 use Rattle.formats.proofs.Run.{run-then, after, never-both}
+use Rattle.formats.proofs.Laws.{untested}
 
 or-true : (a b : Bool) {A B : Type 0} → ((a ≡ true) ↔ A) → ((b ≡ true) ↔ B) → ((a || b) ≡ true) ↔ (A ⊎ B)
 or-true true b p q = (λ _. inl (p .0 refl), λ _. refl)
 or-true false b p q = (λ h. inr (q .0 h), elim [ inl x ↦ absurd (false≢true (p .1 x)) | inr y ↦ q .1 y ])
-
-after-same : {A : Type 0} (z : Read A) → after z got ≡ z
-after-same (got x at rest) = refl
-after-same (refused e) = refl
 
 pub length-up-to : {A : Type 0} (n : ℕ) (x : ℕ → A) → length (up-to n x) ≡ n
 length-up-to zero x = refl
@@ -44,10 +32,8 @@ From e f = (f ≡ e) ⊎ Before e f
 from-both : {e f : Refusal} → From e f → From f e → e ≡ f
 from-both (inl q) h = sym q
 from-both (inr b) (inl q) = q
-from-both (inr (inl l)) (inr (inl m)) = absurd (omega arith)
-from-both (inr (inl l)) (inr (inr (q, _))) = absurd (omega arith)
-from-both (inr (inr (q, _))) (inr (inl m)) = absurd (omega arith)
-from-both (inr (inr (_, l))) (inr (inr (_, m))) = absurd (omega arith)
+from-both (inr (inl l)) (inr b) = absurd (elim b [ inl m ↦ omega arith | inr (q, _) ↦ omega arith ])
+from-both (inr (inr (q, l))) (inr b) = absurd (elim b [ inl m ↦ omega arith | inr (_, m) ↦ omega arith ])
 
 module _ (s : List ℕ) where
   -- of the faults M the first is given; where there is none, x was read, and s is left from `stop` on
@@ -105,14 +91,12 @@ module _ (s : List ℕ) where
     spans-due {next} σ = record {
       onward = omega arith;
       within = λ e w. omega (arith, σ .within e w);
-      gives = λ l. elim (eq-or-lt-of-le l) [ inl q ↦ over q | inr h ↦ rw (drop-cons s at 0, ← (add-one at)) (σ .gives (omega arith)) ];
-    }
-      where
-        over : at ≡ length s → Gives x stop (OrEarly W stop) (run (due next) at (drop at s))
-        over q =
-            rw (drop-of-length-le s {i = at} (omega arith), q)
-            (refuses (EndsEarly (length s)) (inr (omega arith, refl))
+      gives = λ l. elim (eq-or-lt-of-le l) [
+        | inl q ↦ rw (drop-of-length-le s {i = at} (omega arith), q) (refuses (EndsEarly (length s)) (inr (omega arith, refl))
             (λ f. elim [ inl w ↦ absurd (omega (arith, σ .within f w)) | inr (_, p) ↦ inl p ]))
+        | inr h ↦ rw (drop-cons s at 0, ← (add-one at)) (σ .gives (omega arith))
+      ];
+    }
 
   pub spans-done : {A : Type 0} (x : A) (at : ℕ) → Spans (done x) at x at (λ e. ⊥)
   unfolding run
@@ -182,8 +166,7 @@ module _ (s : List ℕ) where
         (λ e. (λ (l, w). elim w [ inl (t, q) ↦ (l, t, q) | inr w ↦ absurd w ], λ (l, t, q). (l, inl (t, q))))
 
     pub spans-untested : {W : Refusal → Type 0} → Spans (f .reading) at x stop W → Spans (tested f (λ _. []) .reading) at x stop W
-    unfolding tested testing run
-    spans-untested σ = record { onward = σ .onward; within = σ .within; gives = λ l. rw (run-then, after-same) (σ .gives l) }
+    spans-untested σ = record { onward = σ .onward; within = σ .within; gives = λ l. rw untested (σ .gives l) }
 
   -- 2 at a map byte of n bits
   abbrev pub Unknown : ℕ → ℕ → Refusal → Type 0
@@ -232,7 +215,10 @@ module _ (s : List ℕ) where
 
     pub gives-whole : Gives x stop OrTrailing (run (whole f) 0 s)
     unfolding whole run
-    gives-whole = rw run-then (gives-then _ (σ .gives (omega arith)) (λ l. elim (eq-or-lt-of-le l) [ inl q ↦ over q | inr h ↦ left h ]) across)
+    gives-whole = rw run-then (gives-then _ (σ .gives (omega arith)) (λ l. elim (eq-or-lt-of-le l) [ inl q ↦ over q | inr h ↦ left h ]) (λ e f. elim [
+      | inl w ↦ λ (l, q). inr (inl (rw q (σ .within e w .1)))
+      | inr (m, _) ↦ λ (l, q). absurd (omega arith)
+    ]))
       where
         over : stop ≡ length s → Gives x stop Trailing (run (end (done x)) stop (drop stop s))
         over q =
@@ -242,7 +228,3 @@ module _ (s : List ℕ) where
 
         left : stop < length s → Gives x stop Trailing (run (end (done x)) stop (drop stop s))
         left h = rw (drop-cons s stop 0) (refuses (TrailingBytes stop) (h, refl) (λ f (_, q). inl q))
-
-        across : (e f : Refusal) → OrEarly W stop e → Trailing f → From e f
-        across e f (inl w) (l, q) = inr (inl (rw q (σ .within e w .1)))
-        across e f (inr (m, _)) (l, q) = absurd (omega arith)

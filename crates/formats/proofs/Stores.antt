@@ -1,12 +1,8 @@
 -- Laws of runs of stores into a list, and of the bytes of a row of parts: what the writers' proofs cite.
-use mathlib.Core.Path.{_≡_, refl, _∙_}
-use mathlib.Core.List.{List, [], _∷_, _++_, append-assoc, append-nil}
-use Prim.Native.Nat.{ℕ, suc, _+_, _-_, _≤_, _<_}
-use native.Mathlib.Omega.{arith}
-use native.Mathlib.Nat.{add-zero, add-suc, suc-add}
-use native.Mathlib.Numerals.{add-one}
-use lib.ListN.{length, take, drop, set, getD, length-append}
-use lib.Seq.{sets, sets-eq, take-suc, take-add}
+use Rattle.prelude.specs.Names.{_≡_, refl, _∙_, List, [], _∷_, _++_, append-assoc, append-nil, ℕ, suc, _+_, _-_, _≤_, _<_, arith, add-zero, zero-add}
+use Rattle.prelude.specs.Names.{suc-add, add-one, length, take, drop, set, getD, length-append, sets, take-suc, length-take-le}
+use native.Mathlib.Nat.{add-suc}
+use lib.Seq.{sets-eq, take-add}
 use Rattle.formats.specs.Formats.{row-bytes}
 
 module _ {A : Type 0} where
@@ -17,9 +13,13 @@ module _ {A : Type 0} where
 
   -- a run from the start is a new front
   pub sets-front : (bs d : List A) → length bs ≤ length d → sets d 0 bs ≡ bs ++ drop (length bs) d
-  sets-front bs d h =
-      let z : 0 + length bs ≡ length bs = omega arith in
-      sets-eq bs d 0 (omega arith) ∙ rw z
+  sets-front bs d h = sets-eq bs d 0 (omega arith) ∙ rw zero-add
+
+-- one byte more of a run
+pub sets-next : (l s : List ℕ) (at i : ℕ) → i < length s → set (sets l at (take i s)) (at + i) (getD s i 0) ≡ sets l at (take (i + 1) s)
+sets-next l s at i h =
+    let e : at + length (take i s) ≡ at + i = rw (length-take-le i s (omega arith)) in
+    rw (add-one, take-suc s i 0 h, ← (sets-append (take i s) (getD s i 0 ∷ []) l at), e)
 
 -- runs of stores, each right after the one before
 abbrev pub stores : List ℕ → ℕ → List (List ℕ) → List ℕ
@@ -46,24 +46,17 @@ module _ {A : Type 0} (bytes : A → List ℕ) where
   unfolding row-bytes
   row-none l = refl
 
-  row-one : (x : A) → row-bytes bytes (x ∷ []) ≡ bytes x
-  unfolding row-bytes
-  row-one x = append-nil (bytes x)
-
   -- one part more
   pub row-next : (l : List A) (j : ℕ) (d : A) → j < length l → row-bytes bytes (take (j + 1) l) ≡ row-bytes bytes (take j l) ++ bytes (getD l j d)
-  row-next l j d h = rw (add-one, take-suc l j d h, row-append, row-one)
+  unfolding row-bytes
+  row-next l j d h = rw (add-one, take-suc l j d h, row-append, append-nil)
 
   -- the bytes of fewer parts are no more
   pub row-mono : (l : List A) (j n : ℕ) → j ≤ n → length (row-bytes bytes (take j l)) ≤ length (row-bytes bytes (take n l))
   row-mono l j n h =
-      let e : n ≡ j + (n - j) = omega arith in
-      rw (e, take-add, row-append, length-append) (omega arith)
+      let e : n ≡ j + (n - j) = omega arith in rw (e, take-add, row-append, length-append) (omega arith)
 
   -- the next part has room where the whole row has
   pub row-room : (l : List A) (j n : ℕ) (d : A) → j < n → n ≤ length l
       → length (row-bytes bytes (take j l)) + length (bytes (getD l j d)) ≤ length (row-bytes bytes (take n l))
-  row-room l j n d h k =
-      let m = row-mono l (j + 1) n (omega arith) in
-      let e = rw (row-next l j d (omega arith), length-append) at m in
-      e
+  row-room l j n d h k = rw (row-next l j d (omega arith), length-append) at (row-mono l (j + 1) n (omega arith))

@@ -1,8 +1,5 @@
 -- "A map byte comes first, then only the fields whose bit stands, by rising bit."
-use Prim.Native.Nat.{ℕ, zero, suc, _+_, _*_, _/_, _%_}
-use mathlib.Core.Bool.{Bool, true, false, cond, _&&_, _||_}
-use mathlib.Core.List.{List, [], _∷_, _++_}
-use lib.Dec.{eqb, leb}
+use Rattle.prelude.specs.Names.{ℕ, zero, suc, _+_, _*_, _/_, _%_, Bool, true, false, cond, _&&_, _||_, List, [], _∷_, _++_, eqb, leb}
 use Rattle.refusal.specs.declared.Refusal.the-variants.{UnknownBit}
 use Rattle.formats.specs.Reading.{Reading, done, _>>=_}
 use Rattle.formats.specs.Formats.{Format, Test, byte, tested, keyed}

@@ -1,9 +1,5 @@
 -- Formats: how a value is read, its bytes, and which values may be written. What each keeps is proved in proofs/Laws.
-use Prim.Native.Nat.{ℕ, zero, suc, _+_, _*_, _/_, _%_}
-use mathlib.Core.Bool.{Bool, true, false, not, _&&_, _||_}
-use mathlib.Core.List.{List, [], _∷_, _++_}
-use lib.Dec.{eqb, ltb}
-use lib.ListN.{length}
+use Rattle.prelude.specs.Names.{ℕ, zero, suc, _+_, _*_, _/_, _%_, Bool, true, false, not, _&&_, _||_, List, [], _∷_, _++_, eqb, ltb, length}
 use Rattle.refusal.specs.declared.Refusal.{Refusal}
 use Rattle.refusal.specs.declared.Refusal.the-variants.{BadCount}
 use Rattle.formats.specs.Reading.{Reading, done, due, at-place, refuse-if, end, _>>=_}

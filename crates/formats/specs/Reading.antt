@@ -1,10 +1,5 @@
 -- Reading bytes from left to right, as data: what is due and what is tested; and what reading gives of some bytes.
-use Prim.Native.Nat.{ℕ, _+_, _<_}
-use mathlib.Core.Bool.{Bool, cond}
-use mathlib.Core.List.{List, [], _∷_}
-use mathlib.Core.Logic.{_⊎_}
-use mathlib.Core.Path.{_≡_}
-use lib.ListN.{getD}
+use Rattle.prelude.specs.Names.{ℕ, _+_, _<_, Bool, cond, List, [], _∷_, _⊎_, _≡_, getD}
 use Rattle.refusal.specs.declared.Refusal.{Refusal}
 use Rattle.refusal.specs.declared.Refusal.the-variants.{EndsEarly, TrailingBytes}
 use Rattle.refusal.specs.Numbers.{number-of, place-of}

@@ -1,6 +1,5 @@
 -- The small halls of document 01, by computation.
-use mathlib.Core.Bool.{true}
-use mathlib.Core.Path.{_≡_, refl}
+use Rattle.prelude.specs.Names.{true, _≡_, refl}
 use Rattle.model.specs.Below.{all-in}
 use Rattle.halls.specs.Halls.{right, cases}
 

@@ -1,13 +1,13 @@
 -- The starred rows of document 01's "Small halls" as one table: bytes, calls, and what they have to give. proofs/Halls shows it as a whole.
-use mathlib.Core.Bool.{Bool, true, false, _&&_}
-use mathlib.Core.List.{List, [], _∷_}
-use Prim.Native.Nat.{ℕ}
-use lib.Dec.{eqb}
+use Rattle.prelude.specs.Names.{Bool, false, _&&_, List, [], _∷_, ℕ, eqb}
 use Rattle.model.specs.Problem.{ends-before, inside-test, apart-on-some-axis, apart-test, ordered-test, feasible}
-use Rattle.model.specs.Domains.{pairs, pair-number, domain, overlap-bit, before-bit, after-bit, index, index-of, may-overlap, may-before, remove-overlap, remove-before, fixed-before, fixed-overlap, fix-before, fix-overlap}
-use Rattle.model.specs.Rules.{joined, ending, starting, greatest-ending, greatest-starting, rule1, rule2, rule3, rule4, rule5, asks-overlap, asks-before}
+use Rattle.model.specs.Domains.{pairs, pair-number, domain, overlap-bit, before-bit, after-bit, index, index-of, may-overlap, may-before}
+use Rattle.model.specs.Domains.{remove-overlap, remove-before, fixed-before, fixed-overlap, fix-before, fix-overlap}
+use Rattle.model.specs.Rules.{joined, ending, starting, greatest-ending, greatest-starting, rule1, rule2, rule3, rule4, rule5, asks-overlap}
+use Rattle.model.specs.Rules.{asks-before}
 use Rattle.model.specs.Propagate.{slots, kept, pass, passes, propagate}
-use Rattle.model.specs.Branching.{opening-domains, empty, inconsistent, separated, packed, undecided, choice-pair, choice-axis, choice, branched, path-domains, starts, plan}
+use Rattle.model.specs.Branching.{opening-domains, empty, inconsistent, separated, packed, undecided, choice-pair, choice-axis, choice, branched}
+use Rattle.model.specs.Branching.{path-domains, starts, plan}
 use Rattle.model.specs.Calls.{Answer, budget-spent, no-packing, packing}
 use Rattle.model.specs.Run.{look, step-count}
 use Rattle.model.specs.Trials.{Triple, Call, right-problem, xyt, with-budget}

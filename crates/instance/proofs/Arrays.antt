@@ -1,8 +1,6 @@
 -- Arrays of structs.
-use mathlib.Core.List.{List, map}
-use mathlib.Core.Path.{_≡_, sym, _∙_}
-use Prim.Native.Nat.{ℕ}
-use lib.ListN.{length, length-map}
+use Rattle.prelude.specs.Names.{List, map, _≡_, sym, _∙_, ℕ, length}
+use lib.ListN.{length-map}
 
 -- an array of structs is as long as what it is in memory
 pub length-mapped : {A B : Type 0} (f : A → B) (l : List A) (n : ℕ) → length (map f l) ≡ n → length l ≡ n

@@ -1,49 +1,37 @@
 -- What the sheet's readings give, field by field: the equations that the readers' proofs cite; and the draft that the fields go into.
-use mathlib.Core.Path.{_≡_, refl, sym, ap, _∙_}
-use mathlib.Core.Bool.{Bool, true, false, cond, _||_, true≢false}
-use mathlib.Core.List.{List, [], _∷_, _++_}
-use Prim.Native.Nat.{ℕ, _+_, _-_, _≤_, _<_}
-use native.Mathlib.Omega.{arith}
-use lib.Dec.{eqb, leb, ltb}
-use lib.ListN.{length, getD, take, drop, length-append, length-take, length-replicate}
-use borrow.Author.Tests.{ltb-false}
+use Rattle.prelude.specs.Names.{_≡_, refl, cond, List, [], _∷_, ℕ, _-_, _≤_, _<_, arith, leb, length, getD, drop}
 use Rattle.refusal.specs.declared.Refusal.the-variants.{EndsEarly, UnknownBit, TrailingBytes}
-use Rattle.formats.specs.Reading.{Reading, done, end, Read, got, refused, run, _>>=_, read-as}
-use Rattle.formats.specs.Formats.{Format, Test, byte, testing, tested, keyed, row-reading, row, count, counted, whole}
+use Rattle.formats.specs.Reading.{done, end, got, refused, run, _>>=_, read-as}
+use Rattle.formats.specs.Formats.{byte, testing, tested, keyed, whole}
 use Rattle.formats.specs.Fields.{optional-reading, is-set, fields-reading, fields, map-byte, with-map}
-use Rattle.formats.proofs.Run.{after, after-after, cond-after, cond-got, never-both, run-then, read-as-after, read-as-cond}
-use Rattle.parts.specs.Parts.{count-field, measures, size-fields}
-use Rattle.sheet.specs.Sheet.{Sheet, list-of, sheet-fields, sheet, item-list, precedence-list, yard-number}
+use Rattle.formats.proofs.Run.{after, after-after, cond-after, run-then, read-as-after, read-as-cond}
+use Rattle.parts.specs.Parts.{measures, size-fields}
+use Rattle.sheet.specs.Sheet.{Sheet, sheet-fields, sheet, item-list, precedence-list, yard-number}
 use Rattle.instance.specs.declared.Instance.{Instance}
 use Rattle.instance.specs.Valid.{items-of, precedences-of}
-use Rattle.instance.specs.Sheets.{instance-of, sheet-of, decode}
+use Rattle.instance.specs.Sheets.{instance-of, decode}
 use Rattle.lists.proofs.Counted.{filled-many}
 use Rattle.instance.specs.Drafts.{Draft, from-items, from-precedences, from-yard-number}
 
 -- 7: "bytes after the last field"
-abbrev pub ended : Instance → ℕ → List ℕ → Read Instance
-ended i at [] = got i at []
-ended i at (b ∷ rest) = refused (TrailingBytes at)
+module _ (s : Sheet) (at : ℕ) where
+  pub ended-more : (rest : List ℕ) → 0 < length rest → read-as instance-of (run (end (done s)) at rest) ≡ refused (TrailingBytes at)
+  unfolding run
+  ended-more [] h = absurd (omega arith)
+  ended-more (b ∷ rest) h = refl
 
-pub ended-more : (i : Instance) (at : ℕ) (rest : List ℕ) → 0 < length rest → ended i at rest ≡ refused (TrailingBytes at)
-ended-more i at [] h = absurd (omega arith)
-ended-more i at (b ∷ rest) h = refl
-
-pub ended-here : (i : Instance) (at : ℕ) (rest : List ℕ) → length rest ≡ 0 → ended i at rest ≡ got i at []
-ended-here i at [] h = refl
-ended-here i at (b ∷ rest) h = absurd (omega arith)
-
-ended-is : (s : Sheet) (at : ℕ) (rest : List ℕ) → read-as instance-of (run (end (done s)) at rest) ≡ ended (instance-of s) at rest
-unfolding run
-ended-is s at [] = refl
-ended-is s at (b ∷ rest) = refl
+  pub ended-here : (rest : List ℕ) → length rest ≡ 0 → read-as instance-of (run (end (done s)) at rest) ≡ got (instance-of s) at []
+  unfolding run
+  ended-here [] h = refl
+  ended-here (b ∷ rest) h = absurd (omega arith)
 
 module _ (map : ℕ) (d : Sheet) (at : ℕ) (rest : List ℕ) where
   pub yard-number-run : from-yard-number map d at rest
       ≡ after (run (optional-reading yard-number (is-set map 32)) at rest) λ yard at₁ rest₁.
-      ended (instance-of (record { container = d .container; items = d .items; precedences = d .precedences; yard-number = yard })) at₁ rest₁
+      let x : Sheet = record { container = d .container; items = d .items; precedences = d .precedences; yard-number = yard } in
+      read-as instance-of (run (end (done x)) at₁ rest₁)
   unfolding from-yard-number sheet-fields measures fields-reading run
-  yard-number-run = simp (run-then, after-after, read-as-after, ended-is)
+  yard-number-run = simp (run-then, after-after, read-as-after)
 
   pub precedences-run : from-precedences map d at rest
       ≡ after (run (optional-reading (precedence-list (length (d .items))) (is-set map 16)) at rest) λ os at₁ rest₁.

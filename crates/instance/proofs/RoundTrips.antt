@@ -1,25 +1,16 @@
 -- Reading and writing undo one another.
-use mathlib.Core.Bool.{true, _&&_}
-use mathlib.Core.List.{List, [], _++_}
-use mathlib.Core.Path.{_≡_, refl, sym, ap, _∙_, subst}
-use Prim.Native.Nat.{ℕ, _+_, _-_, _≤_}
-use native.Mathlib.Omega.{arith}
-use lib.Dec.{leb}
-use lib.ListN.{length, length-append, length-replicate}
-use lib.Seq.{take-append-seam}
-use borrow.Author.Tests.{leb-true}
-use Rattle.formats.specs.Reading.{Bytes, Read, got, run}
-use Rattle.formats.specs.Formats.{Format, whole}
-use Rattle.formats.proofs.Laws.{both-true}
+use Rattle.prelude.specs.Names.{true, List, [], _≡_, refl, sym, ap, _∙_, ℕ, _-_, arith, length, length-append, length-replicate, take-append-seam}
+use Rattle.formats.specs.Reading.{Bytes, got, run}
+use Rattle.formats.specs.Formats.{whole}
 use Rattle.formats.proofs.Run.{read-as-got}
-use Rattle.sheet.specs.Sheet.{Sheet, sheet, max-items, max-precedences}
-use Rattle.sheet.proofs.Laws as Laws
+use Rattle.sheet.specs.Sheet.{Sheet, sheet}
 use Rattle.sheet.proofs.Valid.{sheet-valid}
 use Rattle.instance.specs.declared.Instance.{Instance}
-use Rattle.instance.specs.Valid.{valid, items-of, precedences-of}
+use Rattle.instance.specs.Valid.{valid}
 use Rattle.instance.specs.Sheets.{instance-of, sheet-of, decode, encode}
 use Rattle.instance.specs.Reads.{Full, SameInstance}
 use Rattle.instance.proofs.Sheets.{valid-says, items-counted, precedences-counted, sheet-of-valid}
+use Rattle.sheet.proofs.Laws as Laws
 
 -- the instance of a sheet says what the sheet says
 sheet-back : (x : Sheet) → sheet-of (instance-of x) ≡ x
@@ -36,8 +27,8 @@ unfolding instance-of
 filled-full x v =
     let σ = valid-says (instance-of x) v in
     record {
-      items-room = simp (length-append, length-replicate) (omega (arith, σ .items-few));
-      precedences-room = simp (length-append, length-replicate) (omega (arith, σ .precedences-few));
+      items-room = simp (length-append, length-replicate) (omega arith);
+      precedences-room = simp (length-append, length-replicate) (omega arith);
     }
 
 module _ (s : List ℕ) {i : Instance} {at : ℕ} {rest : List ℕ} (h : decode s ≡ got i at rest) where
@@ -48,21 +39,15 @@ module _ (s : List ℕ) {i : Instance} {at : ℕ} {rest : List ℕ} (h : decode 
 
   -- what was read is valid, and its arrays are full
   pub read-valid : Bytes s → valid i ≡ true
-  read-valid b =
-      let (x, r, e) = read-sheet in
-      subst (λ (j : Instance). valid j ≡ true) e (instance-valid x ∙ Laws.read-valid s b r)
+  read-valid b = let (x, r, e) = read-sheet in rw (← e, instance-valid x) (Laws.read-valid s b r)
 
   pub read-full : Bytes s → Full i
-  read-full b =
-      let (x, r, e) = read-sheet in
-      subst Full e (filled-full x (instance-valid x ∙ Laws.read-valid s b r))
+  read-full b = let (x, r, e) = read-sheet in rw (← e) (filled-full x (instance-valid x ∙ Laws.read-valid s b r))
 
   -- "bytes that read as a sheet are written again as those bytes"
   pub decode-encodes : Bytes s → encode i ≡ s
   unfolding encode
-  decode-encodes b =
-      let (x, r, e) = read-sheet in
-      subst (λ (j : Instance). sheet .bytes (sheet-of j) ≡ s) e (ap (sheet .bytes) (sheet-back x) ∙ Laws.read-written s b r)
+  decode-encodes b = let (x, r, e) = read-sheet in rw (← e) (ap (sheet .bytes) (sheet-back x) ∙ Laws.read-written s b r)
 
 -- the instance with its entries past the counts blank
 abbrev pub blanked : Instance → Instance
@@ -78,8 +63,8 @@ unfolding instance-of
 same-blanked i v full = record {
   container = refl;
   item-count = sym (items-counted i v full);
-  items = sym (ap (λ (x : Sheet). x .items) (sheet-back (sheet-of i)));
-  precedence-count = sym (precedences-counted i v full);
-  precedences = sym (ap (λ (x : Sheet). x .precedences) (sheet-back (sheet-of i)));
+  items = rw take-append-seam;
   yard-number = refl;
+  precedence-count = sym (precedences-counted i v full);
+  precedences = rw take-append-seam;
 }

@@ -1,29 +1,18 @@
 -- What validity says of an instance, part by part; and that its sheet may be written.
-use mathlib.Core.Path.{_≡_, refl, sym, ap, _∙_}
-use mathlib.Core.Bool.{Bool, true, cond}
-use mathlib.Core.List.{List, [], _∷_, _++_, append-nil, append-assoc}
-use Prim.Native.Nat.{ℕ, suc, _+_, _*_, _≤_}
-use native.Mathlib.Omega.{arith}
-use native.Mathlib.Numerals.{add-one}
-use lib.Dec.{eqb, leb}
-use lib.ListN.{length, take, set, length-append}
-use lib.Seq.{sets, length-take-le, take-append-seam}
-use borrow.Author.Tests.{leb-true, le-leb, ne-eqb}
-use Rattle.formats.specs.Formats.{Format, Test, byte, tested, keyed, row-bytes, row, count, counted}
-use Rattle.formats.specs.Fields.{flag, flags, optional-bytes, fields-bytes, fields, map-byte, with-map}
+use Rattle.prelude.specs.Names.{_≡_, _∙_, true, _&&_, _≤_, ℕ, zero, suc, _<_, arith, leb, ltb, length, getD, length-take-le, leb-true, ltb-true}
+use Rattle.prelude.specs.Names.{eqb-false, not-true, List, [], _∷_, _≢_, le-of-suc-le-suc}
 use Rattle.formats.proofs.Laws.{both-true}
-use Rattle.formats.proofs.Stores.{stores, joined, stores-joined}
-use Rattle.parts.specs.declared.Previous.the-variants.{Nothing}
-use Rattle.parts.specs.Parts.{number, count-bytes, count-flag, measures, size-fields, item, precedence}
-use Rattle.parts.specs.Precedences.{all-stand}
-use Rattle.parts.specs.Sizes.{positive, all-have-size}
-use Rattle.parts.proofs.Writers.{precedences-length}
-use Rattle.sheet.specs.Sheet.{Sheet, max-items, max-precedences, longest-sheet, list-of, item-list, precedence-list, yard-number, sheet-fields, sheet}
+use Rattle.parts.specs.declared.Previous.the-variants.{Nothing, Was}
+use Rattle.parts.specs.Precedences.{all-stand, names-items, rises}
+use Rattle.parts.specs.Sizes.{positive, all-have-size, no-precedence}
+use Rattle.sheet.specs.Sheet.{max-items, max-precedences, longest-sheet, sheet}
 use Rattle.sheet.proofs.Longest.{sheet-most}
 use Rattle.sheet.proofs.Valid.{sheet-valid}
 use Rattle.instance.specs.declared.Instance.{Instance}
 use Rattle.instance.specs.Valid.{valid, items-of, precedences-of}
 use Rattle.instance.specs.Sheets.{sheet-of, encode}
+use Rattle.parts.specs.declared.Precedence.{Precedence}
+use Rattle.parts.specs.declared.Previous.{Previous}
 use Rattle.instance.specs.Reads.{Full}
 
 pub record Says (i : Instance) : Type 0 where
@@ -42,32 +31,29 @@ valid-says i h =
     let (g, k) = both-true (all-have-size (items-of i)) _ f in
     record { items-few = leb-true _ _ a; precedences-few = leb-true _ _ c; container-has-size = e; items-have-size = g; precedences-stand = k }
 
+-- each of the precedences that stand names two items below n
+pub stands-at : (n : ℕ) (last : Previous) (os : List Precedence) → all-stand n last os ≡ true → (k : ℕ) → k < length os
+    → let o = getD os k no-precedence in (o .predecessor < n) × (o .successor < n) × (o .predecessor ≢ o .successor)
+unfolding all-stand names-items
+stands-at n last [] e k h = absurd (omega arith)
+stands-at n last (o ∷ os) e zero h =
+    let (a, r) = both-true (ltb (o .predecessor) n) _ (both-true (names-items n o) _ (both-true (names-items n o && rises last o) _ e .0) .0) in
+    let (b, d) = both-true (ltb (o .successor) n) _ r in
+    (ltb-true _ _ a, ltb-true _ _ b, eqb-false _ _ (not-true _ d))
+stands-at n last (o ∷ os) e (suc k) h = stands-at n (Was o) os (both-true (names-items n o && rises last o) _ e .1) k (le-of-suc-le-suc h)
+
 -- a valid value of the type has as many entries as it counts
 module _ (i : Instance) (h : valid i ≡ true) (full : Full i) where
   pub items-counted : length (items-of i) ≡ i .«item_count»
-  items-counted =
-      let few = valid-says i h .items-few in
-      length-take-le (i .«item_count») (i .items) (omega (arith, full .items-room))
+  items-counted = length-take-le (i .«item_count») (i .items) (omega (arith, full, valid-says i h))
 
   pub precedences-counted : length (precedences-of i) ≡ i .«precedence_count»
-  precedences-counted =
-      let few = valid-says i h .precedences-few in
-      length-take-le (i .«precedence_count») (i .precedences) (omega (arith, full .precedences-room))
+  precedences-counted = length-take-le (i .«precedence_count») (i .precedences) (omega (arith, full, valid-says i h))
 
   -- its sheet may be written
   pub sheet-of-valid : sheet .valid (sheet-of i) ≡ true
-  sheet-of-valid =
-      let σ = valid-says i h in
-      sheet-valid (sheet-of i)
-      ∙ rw (
-        items-counted,
-        precedences-counted,
-        le-leb (i .«item_count») max-items (σ .items-few),
-        le-leb (i .«precedence_count») max-precedences (σ .precedences-few),
-        σ .container-has-size,
-        σ .items-have-size,
-      )
-      (σ .precedences-stand)
+  unfolding valid
+  sheet-of-valid = sheet-valid (sheet-of i) ∙ rw (items-counted, precedences-counted) h
 
   pub encode-most : length (encode i) ≤ longest-sheet
   unfolding encode

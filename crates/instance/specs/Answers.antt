@@ -1,15 +1,13 @@
 -- What reading answers.
-use mathlib.Core.Logic.{_⊎_, inl, inr}
-use Prim.Native.Nat.{ℕ}
-use lib.ListN.{replicate}
+use Rattle.prelude.specs.Names.{_⊎_, inl, inr, ℕ, replicate}
 use Rattle.refusal.specs.Numbers.{number-of, place-of}
 use Rattle.formats.specs.Reading.{Read, got, refused}
 use Rattle.parts.specs.Sizes.{no-item, no-precedence}
 use Rattle.sheet.specs.Sheet.{max-items, max-precedences}
 use Rattle.instance.specs.declared.Instance.{Instance}
 use Rattle.instance.specs.declared.ReadAnswer.{ReadAnswer}
-use Rattle.instance.specs.declared.ReadAnswer.the-variants as R
 use Rattle.instance.specs.declared.ReadResult.{ReadResult}
+use Rattle.instance.specs.declared.ReadAnswer.the-variants as R
 
 -- what a refused reading hands back beside the refusal: a container of 1 × 1 × 1 with nothing in it
 abbrev pub empty-instance : Instance

@@ -1,6 +1,5 @@
 -- An instance under construction, and what is still to be read of its sheet.
-use mathlib.Core.List.{List}
-use Prim.Native.Nat.{ℕ, suc}
+use Rattle.prelude.specs.Names.{List, ℕ, suc}
 use Rattle.formats.specs.Reading.{Read, done, end, _>>=_, run, read-as}
 use Rattle.formats.specs.Fields.{Fields, field, fields-reading}
 use Rattle.parts.specs.Sizes.{no-item, no-precedence}

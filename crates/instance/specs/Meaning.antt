@@ -1,8 +1,5 @@
 -- An instance as a packing problem, and a packing's positions. Axes are numbered x 0, y 1, t 2.
-use mathlib.Core.List.{map}
-use Prim.Native.Nat.{ℕ, zero, suc}
-use lib.ListN.{getD}
-use Rattle.model.specs.Problem as M
+use Rattle.prelude.specs.Names.{map, ℕ, zero, suc, getD}
 use Rattle.parts.specs.declared.Size.{Size}
 use Rattle.parts.specs.declared.Precedence.{Precedence}
 use Rattle.parts.specs.Sizes.{no-item}
@@ -11,6 +8,7 @@ use Rattle.instance.specs.declared.Position.{Position}
 use Rattle.instance.specs.declared.Packing.{Packing}
 use Rattle.instance.specs.Valid.{precedences-of}
 use Rattle.instance.specs.Values.{origin}
+use Rattle.model.specs.Problem as M
 
 -- the measure on an axis
 abbrev pub measure : ℕ → Size → ℕ

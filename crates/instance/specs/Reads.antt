@@ -1,8 +1,5 @@
 -- Bytes that read as a sheet, and when two values are the same sheet.
-use mathlib.Core.List.{List, []}
-use mathlib.Core.Path.{_≡_}
-use Prim.Native.Nat.{ℕ}
-use lib.ListN.{length}
+use Rattle.prelude.specs.Names.{List, [], _≡_, ℕ, length}
 use Rattle.formats.specs.Reading.{got}
 use Rattle.sheet.specs.Sheet.{max-items, max-precedences}
 use Rattle.instance.specs.declared.Instance.{Instance}

@@ -1,9 +1,7 @@
 -- An instance and what its sheet says; reading and writing it (document 01, "Sheet bytes").
-use mathlib.Core.List.{List}
-use Prim.Native.Nat.{ℕ}
-use lib.ListN.{length}
+use Rattle.prelude.specs.Names.{List, ℕ, length}
 use Rattle.formats.specs.Reading.{Read, run, read-as}
-use Rattle.formats.specs.Formats.{Format, whole}
+use Rattle.formats.specs.Formats.{whole}
 use Rattle.parts.specs.Sizes.{no-item, no-precedence}
 use Rattle.sheet.specs.Sheet.{Sheet, sheet, max-items, max-precedences}
 use Rattle.lists.specs.Lists.{filled}

@@ -1,9 +1,5 @@
 -- When a value is an instance (document 01, refusal 9).
-use mathlib.Core.Bool.{Bool, _&&_}
-use mathlib.Core.List.{List}
-use Prim.Native.Nat.{ℕ}
-use lib.Dec.{leb}
-use lib.ListN.{take}
+use Rattle.prelude.specs.Names.{Bool, _&&_, List, leb, take}
 use Rattle.parts.specs.declared.Item.{Item}
 use Rattle.parts.specs.declared.Precedence.{Precedence}
 use Rattle.parts.specs.declared.Previous.the-variants.{Nothing}

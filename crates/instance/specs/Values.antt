@@ -1,5 +1,5 @@
 -- Values that the contracts name.
-use lib.ListN.{replicate}
+use Rattle.prelude.specs.Names.{replicate}
 use Rattle.sheet.specs.Sheet.{max-items, max-branches}
 use Rattle.instance.specs.declared.Position.{Position}
 use Rattle.instance.specs.declared.Packing.{Packing}

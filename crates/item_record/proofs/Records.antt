@@ -1,10 +1,7 @@
 -- The record that is handed out for an item is the bytes that the item was read from.
-use mathlib.Core.List.{List}
-use mathlib.Core.Path.{_≡_, ap, subst}
-use Prim.Native.Nat.{ℕ, zero, suc, _+_, _-_, _≤_, _<_}
-use native.Mathlib.Omega.{arith}
-use lib.ListN.{length, getD, take, drop, length-append, length-drop, List·getD-append}
-use lib.Seq.{take-at, getD-drop}
+use Rattle.prelude.specs.Names.{List, _≡_, ap, subst, ℕ, zero, suc, _+_, _-_, _≤_, _<_, arith, length, getD, take, drop, length-append, length-drop}
+use Rattle.prelude.specs.Names.{take-at, getD-drop}
+use lib.ListN.{List·getD-append}
 use Rattle.formats.specs.Reading.{Bytes, got, run}
 use Rattle.parts.specs.declared.Item.{Item}
 use Rattle.parts.specs.Parts.{item}

@@ -1,11 +1,5 @@
 -- An item's record is refused exactly for the table's conditions.
-use mathlib.Core.Bool.{Bool, true, false, cond}
-use mathlib.Core.List.{List, []}
-use mathlib.Core.Logic.{_↔_}
-use mathlib.Core.Path.{_≡_, refl, sym, ap, subst}
-use Prim.Native.Nat.{ℕ, _<_}
-use lib.Dec.{ltb}
-use borrow.Author.Tests.{ltb-true, ltb-false, lt-ltb, le-ltb}
+use Rattle.prelude.specs.Names.{Bool, true, false, cond, List, [], _↔_, _≡_, refl, sym, ap, subst, ℕ, _<_, ltb, ltb-true, ltb-false, lt-ltb, le-ltb}
 use Rattle.refusal.specs.declared.Refusal.{Refusal}
 use Rattle.refusal.specs.declared.Refusal.the-variants.{BadItem}
 use Rattle.refusal.specs.Numbers.{number-of, place-of}

@@ -1,9 +1,5 @@
 -- An item's record as a part of the sheet (document 01, "Sheet bytes": "For the label printer ..").
-use mathlib.Core.Bool.{cond}
-use mathlib.Core.List.{List, []}
-use Prim.Native.Nat.{ℕ, suc, _-_}
-use lib.Dec.{ltb}
-use lib.ListN.{take, drop}
+use Rattle.prelude.specs.Names.{cond, List, [], ℕ, suc, _-_, ltb, take, drop}
 use Rattle.refusal.specs.declared.Refusal.the-variants.{BadItem}
 use Rattle.refusal.specs.Numbers.{number-of, place-of}
 use Rattle.formats.specs.Reading.{Read, got, refused}

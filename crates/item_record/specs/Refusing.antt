@@ -1,7 +1,5 @@
 -- Document 01's table for an item's record, in the order of the tests.
-use mathlib.Core.List.{List}
-use mathlib.Core.Path.{_≡_}
-use Prim.Native.Nat.{ℕ, _≤_}
+use Rattle.prelude.specs.Names.{List, _≡_, ℕ, _≤_}
 use Rattle.refusal.specs.declared.Refusal.{Refusal}
 use Rattle.refusal.specs.declared.Refusal.the-variants.{BadItem}
 use Rattle.sheet.specs.Faults.{FirstFault}

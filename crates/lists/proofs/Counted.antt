@@ -1,13 +1,7 @@
 -- Counted rows: a count and a row; and the first entries of a filled array.
-use mathlib.Core.Path.{_≡_, refl, ap, _∙_}
-use mathlib.Core.Bool.{Bool, true, false, _||_, true≢false}
-use mathlib.Core.List.{List, [], _∷_}
-use Prim.Native.Nat.{ℕ, _+_, _-_, _≤_}
-use native.Mathlib.Omega.{arith}
-use lib.Dec.{eqb, ltb}
-use lib.ListN.{length, take, length-append, length-take, length-replicate}
-use borrow.Author.Tests.{ltb-false}
-use Rattle.formats.specs.Reading.{Read, got, refused, run, _>>=_}
+use Rattle.prelude.specs.Names.{_≡_, refl, ap, Bool, true, false, _||_, true≢false, or-true, List, [], _∷_, ℕ, _-_, _≤_, _<_, arith, eqb, ltb, length}
+use Rattle.prelude.specs.Names.{take, length-append, length-take, length-replicate, lt-ltb}
+use Rattle.formats.specs.Reading.{got, run, _>>=_}
 use Rattle.formats.specs.Formats.{Format, Test, byte, testing, tested, keyed, row-reading, row, count, counted}
 use Rattle.formats.specs.Fields.{optional-reading}
 use Rattle.formats.proofs.Run.{after, cond-got, never-both, run-then}
@@ -31,16 +25,9 @@ count-within limit true at [] h = absurd (never-both h)
 count-within limit true at (x ∷ rest) {n} h =
     let (c, g) = cond-got (eqb x 0 || ltb limit x) _ _ h in
     let e : x ≡ n = cc in
-    rw (← e) (ltb-false limit x (second (eqb x 0) (ltb limit x) c))
-  where
-    second : (a b : Bool) → (a || b) ≡ false → b ≡ false
-    second false b c = c
-    second true b c = absurd (true≢false c)
+    let no : ¬ (limit < x) = λ l. true≢false (simp (lt-ltb limit x l, or-true) at c) in
+    omega arith
 
 module _ {A : Type 0} (room n : ℕ) (blank : A) (xs : List A) (φ : Filled room blank n xs) where
   pub filled-many : length (take n xs) ≡ n
-  filled-many =
-      let few = φ .few in
-      let l : length xs ≡ length (take n xs) + (room - length (take n xs)) = ap length (φ .same) ∙ simp (length-append, length-replicate) in
-      let t = length-take n xs in
-      omega arith
+  filled-many = omega (arith, length-take n xs, simp (length-append, length-replicate) at (ap length (φ .same)))

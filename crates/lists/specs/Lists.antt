@@ -1,8 +1,5 @@
 -- The rows of a sheet and the arrays that hold them.
-use mathlib.Core.List.{List, [], _++_}
-use mathlib.Core.Path.{_≡_}
-use Prim.Native.Nat.{ℕ, _+_, _-_, _≤_}
-use lib.ListN.{length, take, drop, replicate}
+use Rattle.prelude.specs.Names.{List, [], _++_, _≡_, ℕ, _+_, _-_, _≤_, length, take, drop, replicate}
 use Rattle.formats.specs.Reading.{Reading, Read, got, refused}
 use Rattle.formats.specs.Formats.{row-reading}
 use Rattle.parts.specs.declared.Item.{Item}

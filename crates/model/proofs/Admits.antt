@@ -1,19 +1,14 @@
 -- Removals that a packing does not mind: a relation that it does not realise may go. So the opening domains admit every feasible packing.
-use mathlib.Core.Bool.{true, false, not}
-use mathlib.Core.List.{List, [], _∷_, List·Memᴰ, List·Memᴰ·head, List·Memᴰ·tail}
-use mathlib.Core.Path.{_≡_, refl, _∙_, ap}
-use Prim.Native.Nat.{ℕ, zero, suc, _<_, compare}
-use native.Mathlib.Omega.{arith}
-use lib.Dec.{ltb}
-use lib.ListN.{getD, getD-replicate}
-use borrow.Author.Tests.{ltb-true}
-use Rattle.model.specs.Below.{all-in}
+use Rattle.prelude.specs.Names.{true, false, not, List, [], _∷_, List·Memᴰ, List·Memᴰ·head, List·Memᴰ·tail, _≡_, refl, _∙_, ap, ℕ, zero, suc, _<_}
+use Rattle.prelude.specs.Names.{compare, arith, List·getD-eq-default, decLt}
+use lib.ListN.{getD-replicate}
 use Rattle.model.specs.Problem.{Problem, Precedence, Positions, EndsBefore, Feasible, time}
-use Rattle.model.specs.Domains.{Domains, overlap-bit, before-bit, after-bit, index-of, bit, converse, place, gone, without, remove-before, fix-before, fix-overlap, full-domains}
+use Rattle.model.specs.Domains.{Domains, overlap-bit, before-bit, after-bit, index-of, bit, converse, place, gone, without, remove-before}
+use Rattle.model.specs.Domains.{fix-before, fix-overlap, full-domains}
 use Rattle.model.specs.Branching.{fix-precedences, opening-domains}
 use Rattle.model.specs.Order.{Proper, WellFormed}
 use Rattle.model.specs.Admits.{Sound, Overlaps, Realises, Admits}
-use Rattle.model.proofs.Below.{all-case}
+use Rattle.model.proofs.Below.{past-three}
 use Rattle.model.proofs.Slots.{proper-sym, proper-wide, index-of-small}
 use Rattle.model.proofs.Domains.{gone-is}
 use Rattle.model.proofs.Without.{without-well-formed, without-other}
@@ -23,19 +18,14 @@ use Rattle.model.proofs.Ends.{ends-asym}
 -- seen from the other item, the packing realises the converse
 realises-converse : (p : Problem) (q : Positions) (x a u v : ℕ) → Realises p q (converse x) a v u → Realises p q x a u v
 unfolding Overlaps
-realises-converse p q zero a u v h = (h .1, h .0)
-realises-converse p q (suc zero) a u v h = h
-realises-converse p q (suc (suc x)) a u v h = h
+realises-converse p q x a u v = elim x [ zero ↦ λ h. (h .1, h .0) | suc zero ↦ λ h. h | suc (suc x) ↦ λ h. h ]
 
 module _ (p : Problem) (sound : Sound p) (q : Positions) (k : Domains) (w : WellFormed k) (admits : Admits p k q) where
   pub without-admits : {a u v : ℕ} (x : ℕ) → x < 3 → Proper (p .items) a u v → (Realises p q x a u v → ⊥) → Admits p (without k x a u v) q
   without-admits {a} {u} {v} x hx s f = record {
     realised = λ y b c d hy t h.
         without-other k x y hx hy w (wide s) (wide t)
-        (record {
-          near = λ e i m n. f (rw (← e, ← i, ← m, ← n) h);
-          far = λ e i m n. f (realises-converse p q x a u v (rw (← e, ← i, ← m, ← n) h));
-        })
+        (record { near = λ e i m n. f (rw (← e, ← i, ← m, ← n) h); far = λ e i m n. f (realises-converse p q x a u v (rw (← e, ← i, ← m, ← n) h)) })
         ∙ admits .realised y b c d hy t h;
   }
     where
@@ -63,49 +53,38 @@ module _ (p : Problem) (sound : Sound p) (q : Positions) (k : Domains) (w : Well
   fix-overlap-admits h = both-admit 1 (omega arith) (h .1) (h .0)
 
 -- Full domains are well formed and admit everything
-small-in : (k : Domains) → all-in (λ (m : ℕ). ltb m 8) k ≡ true → (i : ℕ) → getD k i 0 < 8
-small-in [] e i = omega arith
-small-in (m ∷ k) e zero = ltb-true m 8 (all-case (ltb m 8) (all-in (λ (x : ℕ). ltb x 8) k) e .0)
-small-in (m ∷ k) e (suc i) = small-in k (all-case (ltb m 8) (all-in (λ (x : ℕ). ltb x 8) k) e .1) i
-
 pub full-well-formed : WellFormed full-domains
-full-well-formed = record { long = refl; small = small-in full-domains refl }
-
-seven : (i : ℕ) → i < 135 → getD full-domains i 0 ≡ 7
-seven i h = getD-replicate 135 i 7 0 h
+full-well-formed = record {
+  long = refl;
+  small = λ i. elim (decLt i 135) [
+    | yes l ↦ rw getD-replicate (omega arith)
+    | no g ↦ rw (List·getD-eq-default full-domains 0 {n = i} (omega arith)) (omega arith)
+  ];
+}
 
 full-bits : (y : ℕ) → bit y 7 ≡ true
 unfolding overlap-bit before-bit after-bit
-full-bits zero = refl
-full-bits (suc zero) = refl
-full-bits (suc (suc zero)) = refl
-full-bits (suc (suc (suc y))) = refl
+full-bits = past-three (λ y. bit y 7 ≡ true) refl refl refl (λ y. refl)
 
 pub full-left : (x : ℕ) {a u v : ℕ} → Proper 10 a u v → gone full-domains x a u v ≡ false
 full-left x {a} {u} {v} s =
     gone-is full-domains x a u v
-    ∙ ap not (ap (bit (place (compare u v) x)) (seven (index-of a u v) (index-of-small s)) ∙ full-bits (place (compare u v) x))
+    ∙ ap not (ap (bit (place (compare u v) x)) (getD-replicate 135 (index-of a u v) 7 0 (index-of-small s)) ∙ full-bits (place (compare u v) x))
 
-pub precedences-well-formed : (l : List Precedence) (k : Domains) → WellFormed k → WellFormed (fix-precedences l k)
-precedences-well-formed [] k w = w
-precedences-well-formed (o ∷ l) k w = precedences-well-formed l _ (fix-before-well-formed k time (o .predecessor) (o .successor) w)
+-- what each precedence keeps all keep
+pub precedences-keep : (P : Domains → Type 0) (l : List Precedence) (k : Domains) → P k
+    → ((o : Precedence) → List·Memᴰ o l → (j : Domains) → P j → P (fix-before j time (o .predecessor) (o .successor))) → P (fix-precedences l k)
+precedences-keep P [] k h keep = h
+precedences-keep P (o ∷ l) k h keep = precedences-keep P l _ (keep o (List·Memᴰ·head refl) k h) (λ x m. keep x (List·Memᴰ·tail m))
 
 pub opening-well-formed : (p : Problem) → WellFormed (opening-domains p)
 unfolding opening-domains
-opening-well-formed p = precedences-well-formed (p .precedences) full-domains full-well-formed
+opening-well-formed p = precedences-keep WellFormed (p .precedences) full-domains full-well-formed (λ o m j. fix-before-well-formed j time _ _)
 
-module _ (p : Problem) (sound : Sound p) (q : Positions) (feasible : Feasible p q) where
-  precedences-admit : (l : List Precedence) (k : Domains) → WellFormed k → ((o : Precedence) → List·Memᴰ o l → List·Memᴰ o (p .precedences))
-      → Admits p k q → Admits p (fix-precedences l k) q
-  precedences-admit [] k w m α = α
-  precedences-admit (o ∷ l) k w m α =
-      let here = m o (List·Memᴰ·head refl) in
-      precedences-admit l _ (fix-before-well-formed k time (o .predecessor) (o .successor) w) (λ x n. m x (List·Memᴰ·tail n))
-      (fix-before-admits p sound q k w α (sound .named o here) (feasible .ordered o here))
-
-  -- the opening domains admit every feasible packing
-  pub opening-admits : Admits p (opening-domains p) q
-  unfolding opening-domains
-  opening-admits =
-      precedences-admit (p .precedences) full-domains full-well-formed (λ o m. m)
-      (record { realised = λ x a u v hx s h. full-left x (proper-wide (omega (arith, sound .limited)) s) })
+-- the opening domains admit every feasible packing
+pub opening-admits : (p : Problem) → Sound p → (q : Positions) → Feasible p q → Admits p (opening-domains p) q
+unfolding opening-domains
+opening-admits p sound q feasible =
+    precedences-keep (λ k. WellFormed k × Admits p k q) (p .precedences) full-domains
+    (full-well-formed, record { realised = λ x a u v hx s h. full-left x (proper-wide (omega (arith, sound .limited)) s) })
+    (λ o m j (w, α). (fix-before-well-formed j time _ _ w, fix-before-admits p sound q j w α (sound .named o m) (feasible .ordered o m))) .1

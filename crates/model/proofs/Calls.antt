@@ -1,7 +1,5 @@
 -- One call: spent is answered exactly on an open state, and then all of the budget was taken; a finished state repeats its answer.
-use mathlib.Core.Path.{_≡_}
-use Prim.Native.Nat.{ℕ}
-use native.Mathlib.Omega.{arith}
+use Rattle.prelude.specs.Names.{_≡_, ℕ, arith}
 use Rattle.model.specs.Machine.{Status, running, failed, succeeded, Machine, Running, steps, taken}
 use Rattle.model.specs.Calls.{budget-spent, answer-by, answer}
 use Rattle.model.proofs.Machine.{open-takes-all}

@@ -1,17 +1,13 @@
 -- Claims about domains: seen from either item, and kept as relations are removed.
-use mathlib.Core.Bool.{true, not, _&&_, and-comm}
-use mathlib.Core.Logic.{_≢_}
-use mathlib.Core.Path.{_≡_, refl, sym, _∙_, ap, ap₂}
-use Prim.Native.Nat.{ℕ, zero, suc, _-_, _<_}
-use native.Mathlib.Omega.{arith}
-use Rattle.model.specs.Domains.{Domains, may-before, fixed-before, fixed-overlap}
+use Rattle.prelude.specs.Names.{true, not, _&&_, and-comm, _≢_, _≡_, refl, sym, _∙_, ap, ap₂, ℕ, _-_, _<_, arith}
+use Rattle.model.specs.Domains.{Domains, may-before, fixed-before}
 use Rattle.model.specs.Order.{_⊑_}
-use Rattle.model.proofs.Below.{and-mono}
+use Rattle.model.proofs.Below.{and-mono, below-three}
 use Rattle.model.proofs.Domains.{left-converse, gone-is}
-pub use Rattle.model.proofs.Domains.{converse-small, gone-self}
-pub use Rattle.model.proofs.Monotone.{gone-mono}
 use Rattle.model.specs.Relations.{gone, converse}
 use Rattle.model.specs.Claims.{Saying, overlaps, nothing, removed, forced, Claim, says, Holds}
+pub use Rattle.model.proofs.Domains.{converse-small, gone-self}
+pub use Rattle.model.proofs.Monotone.{gone-mono}
 
 pub says-mono : (f k : Domains) → f ⊑ k → (s : Saying) (a u v : ℕ) → says s k a u v ≡ true → says s f a u v ≡ true
 unfolding says
@@ -26,10 +22,7 @@ holds-mono f k h c = says-mono f k h (c .saying) (c .axis) (c .u) (c .v)
 
 -- The same relation seen from the other item
 pub converse-is : (x : ℕ) → x < 3 → x ≢ 0 → 3 - x ≡ converse x
-converse-is zero h ne = absurd (ne refl)
-converse-is (suc zero) h ne = refl
-converse-is (suc (suc zero)) h ne = refl
-converse-is (suc (suc (suc x))) h ne = absurd (omega arith)
+converse-is x h = below-three (λ x. x ≢ 0 → 3 - x ≡ converse x) (λ ne. absurd (ne refl)) (λ ne. refl) (λ ne. refl) x h
 
 pub gone-converse : (k : Domains) (x a u v : ℕ) → x < 3 → gone k (converse x) a v u ≡ gone k x a u v
 gone-converse k x a u v h = gone-is k (converse x) a v u ∙ (ap not (left-converse k x a u v) ∙ sym (gone-is k x a u v))
@@ -43,10 +36,6 @@ unfolding says
 forced-converse k x a u v h = ap₂ _&&_ (gone-converse k 0 a u v (omega arith)) (gone-converse k x a u v h)
 
 -- Claims by the accessors
-pub overlaps-is : (k : Domains) (a u v : ℕ) → says overlaps k a u v ≡ fixed-overlap k a u v
-unfolding says gone fixed-overlap
-overlaps-is k a u v = refl
-
 pub forced-before-is : (k : Domains) (a u v : ℕ) → says (forced 2) k a u v ≡ fixed-before k a u v
 unfolding says gone fixed-before
 forced-before-is k a u v = refl

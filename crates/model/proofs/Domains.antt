@@ -1,99 +1,61 @@
 -- The accessors: where the relations of two items stand, in either order, and what "fixed" says of them.
-use mathlib.Core.Bool.{true, false, not, and-comm}
-use mathlib.Core.Logic.{_≢_}
-use mathlib.Core.Path.{_≡_, refl, sym, _∙_, ap}
-use Prim.Native.Nat.{ℕ, zero, suc, _<_, min, compare, Ordering, Ordering·lt, Ordering·eq, Ordering·gt, compare·zero-suc, compare·suc-zero, compare·suc-suc}
-use native.Mathlib.Omega.{arith}
-use lib.Dec.{isEq}
-use lib.ListN.{getD}
-use borrow.Author.Tests.{eqb-true, not-true}
-use Rattle.model.specs.Domains.{Domains, overlap-bit, before-bit, after-bit, index, bit, converse, place, left, struck, may-overlap, may-before, remove-overlap, remove-before}
-use Rattle.model.specs.Domains.{gone, without, fixed-before, fixed-overlap}
+use Rattle.prelude.specs.Names.{true, false, not, cond, and-comm, _≢_, ⊎-elim, _≡_, refl, sym, _∙_, ap, ℕ, zero, suc, _<_, min, compare, Ordering}
+use Rattle.prelude.specs.Names.{Ordering·lt, Ordering·eq, Ordering·gt, arith, ℕ-discrete, getD, eq-eqb, ne-eqb, le-leb, lt-leb, not-true}
+use lib.Dec.{isEq, isLe}
+use Rattle.model.specs.Domains.{Domains, overlap-bit, before-bit, after-bit, index, bit, converse, place, left, struck, may-overlap, may-before}
+use Rattle.model.specs.Domains.{remove-overlap, remove-before, gone, without, fixed-before, fixed-overlap}
 use Rattle.model.proofs.Below.{and-intro, and-both, clash}
-use Rattle.model.proofs.Slots.{index-sym, index-up}
+use Rattle.model.proofs.Slots.{lt-or-gt, index-sym, index-up}
 
--- How two items compare, and the other way round
-abbrev opposite : Ordering → Ordering
-opposite Ordering·lt = Ordering·gt
-opposite Ordering·eq = Ordering·eq
-opposite Ordering·gt = Ordering·lt
-
-compare-opposite : (u v : ℕ) → compare v u ≡ opposite (compare u v)
-compare-opposite zero zero = refl
-compare-opposite zero (suc v) = compare·suc-zero v ∙ ap opposite (sym (compare·zero-suc v))
-compare-opposite (suc u) zero = compare·zero-suc u ∙ ap opposite (sym (compare·suc-zero u))
-compare-opposite (suc u) (suc v) = compare·suc-suc v u ∙ (compare-opposite u v ∙ ap opposite (sym (compare·suc-suc u v)))
+-- How two items compare
+by-tests : (o : Ordering) → o ≡ cond (isEq o) Ordering·eq (cond (isLe o) Ordering·lt Ordering·gt)
+by-tests o = elim o [ Ordering·lt ↦ refl | Ordering·eq ↦ refl | Ordering·gt ↦ refl ]
 
 compare-self : (u : ℕ) → compare u u ≡ Ordering·eq
-compare-self zero = refl
-compare-self (suc u) = compare·suc-suc u u ∙ compare-self u
-
-compare-ne : (u v : ℕ) → u ≢ v → compare u v ≢ Ordering·eq
-compare-ne u v h e = h (eqb-true u v (ap isEq e))
+compare-self u = by-tests (compare u u) ∙ rw (eq-eqb u u refl)
 
 pub compare-lt : (u v : ℕ) → u < v → compare u v ≡ Ordering·lt
-compare-lt zero zero h = absurd (omega arith)
-compare-lt zero (suc v) h = compare·zero-suc v
-compare-lt (suc u) zero h = absurd (omega arith)
-compare-lt (suc u) (suc v) h = compare·suc-suc u v ∙ compare-lt u v (omega arith)
+compare-lt u v h = by-tests (compare u v) ∙ rw (ne-eqb u v (λ e. omega arith), le-leb u v (omega arith))
 
 pub compare-gt : (u v : ℕ) → u < v → compare v u ≡ Ordering·gt
-compare-gt u v h = compare-opposite u v ∙ ap opposite (compare-lt u v h)
+compare-gt u v h = by-tests (compare v u) ∙ rw (ne-eqb v u (λ e. omega arith), lt-leb v u h)
 
 -- The numbers of relations, and their bits
 pub converse-small : (x : ℕ) → converse x < 3
-converse-small zero = omega arith
-converse-small (suc zero) = omega arith
-converse-small (suc (suc x)) = omega arith
+converse-small x = elim x [ zero ↦ omega arith | suc zero ↦ omega arith | suc (suc x) ↦ omega arith ]
 
 converse-twice : (x : ℕ) → converse (converse x) ≡ min x 2
-converse-twice zero = refl
-converse-twice (suc zero) = refl
-converse-twice (suc (suc x)) = omega arith
+converse-twice x = elim x [ zero ↦ refl | suc zero ↦ refl | suc (suc x) ↦ omega arith ]
 
-place-opposite : (o : Ordering) (x : ℕ) → place (opposite o) (converse x) ≡ place o x
-place-opposite Ordering·lt x = converse-twice x
-place-opposite Ordering·eq x = refl
-place-opposite Ordering·gt x = omega (arith, converse-small x)
+module _ {u v : ℕ} (h : u ≢ v) where
+  pub place-small : (x : ℕ) → place (compare u v) x < 3
+  place-small x = ⊎-elim (λ l. rw (compare-lt u v l) (omega arith)) (λ l. rw (compare-gt v u l) (converse-small x)) (lt-or-gt u v h)
 
-pub place-small : {u v : ℕ} → u ≢ v → (x : ℕ) → place (compare u v) x < 3
-place-small {u} {v} h x = go (compare u v) (compare-ne u v h)
-  where
-    go : (o : Ordering) → o ≢ Ordering·eq → place o x < 3
-    go Ordering·lt n = omega arith
-    go Ordering·eq n = absurd (n refl)
-    go Ordering·gt n = converse-small x
-
-pub place-same : {u v : ℕ} → u ≢ v → {x y : ℕ} → x < 3 → y < 3 → place (compare u v) x ≡ place (compare u v) y → x ≡ y
-place-same {u} {v} h {x} {y} hx hy = go (compare u v) (compare-ne u v h)
-  where
-    go : (o : Ordering) → o ≢ Ordering·eq → place o x ≡ place o y → x ≡ y
-    go Ordering·lt n e = omega arith
-    go Ordering·eq n e = absurd (n refl)
-    go Ordering·gt n e = omega (arith, converse-twice x, converse-twice y, ap converse e)
+  pub place-same : {x y : ℕ} → x < 3 → y < 3 → place (compare u v) x ≡ place (compare u v) y → x ≡ y
+  place-same {x} {y} hx hy e =
+      ⊎-elim (λ l. let d = rw (compare-lt u v l) at e in omega arith)
+      (λ l. omega (arith, converse-twice x, converse-twice y, ap converse (rw (compare-gt v u l) at e))) (lt-or-gt u v h)
 
 -- The relation x of u and v is its converse of v and u
 module _ (k : Domains) (x a u v : ℕ) where
   pub place-converse : place (compare v u) (converse x) ≡ place (compare u v) x
-  place-converse = ap (λ (o : Ordering). place o (converse x)) (compare-opposite u v) ∙ place-opposite (compare u v) x
+  place-converse = elim (ℕ-discrete u v) [
+    | yes e ↦ rw (e, compare-self v)
+    | no d ↦ ⊎-elim (λ l. rw (compare-lt u v l, compare-gt u v l) (converse-twice x))
+        (λ l. rw (compare-lt v u l, compare-gt v u l) (omega (arith, converse-small x))) (lt-or-gt u v d)
+  ]
 
   pub left-converse : left k (converse x) a v u ≡ left k x a u v
   left-converse = rw (place-converse, index-sym a v u) refl
 
-  struck-converse : struck k (converse x) a v u ≡ struck k x a u v
-  struck-converse = rw (place-converse, index-sym a v u) refl
+module _ (k : Domains) (x a u v : ℕ) where
+  pub gone-is : gone k x a u v ≡ not (left k x a u v)
+  unfolding gone may-overlap may-before
+  gone-is = elim x [ zero ↦ refl | suc zero ↦ refl | suc (suc x) ↦ ap not (left-converse k (suc (suc x)) a u v) ]
 
-pub gone-is : (k : Domains) (x a u v : ℕ) → gone k x a u v ≡ not (left k x a u v)
-unfolding gone may-overlap may-before
-gone-is k zero a u v = refl
-gone-is k (suc zero) a u v = refl
-gone-is k (suc (suc x)) a u v = ap not (left-converse k (suc (suc x)) a u v)
-
-pub without-is : (k : Domains) (x a u v : ℕ) → without k x a u v ≡ struck k x a u v
-unfolding without remove-overlap remove-before
-without-is k zero a u v = refl
-without-is k (suc zero) a u v = refl
-without-is k (suc (suc x)) a u v = struck-converse k (suc (suc x)) a u v
+  pub without-is : without k x a u v ≡ struck k x a u v
+  unfolding without remove-overlap remove-before
+  without-is = elim x [ zero ↦ refl | suc zero ↦ refl | suc (suc x) ↦ rw (place-converse k (suc (suc x)) a u v, index-sym a v u) ]
 
 pub may-overlap-sym : (k : Domains) (a u v : ℕ) → may-overlap k a v u ≡ may-overlap k a u v
 unfolding may-overlap

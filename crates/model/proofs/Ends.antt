@@ -1,8 +1,5 @@
 -- What is used of "ends before" and of the total of two chains joined: whatever lies between neighbours enters here and nowhere above.
-use mathlib.Core.Logic.{_⊎_, inl, inr}
-use Prim.Native.Nat.{ℕ, _+_, _≤_}
-use native.Mathlib.Decide.{decLe}
-use native.Mathlib.Omega.{arith}
+use Rattle.prelude.specs.Names.{_⊎_, inl, inr, ℕ, _+_, _≤_, decLe, arith}
 use Rattle.model.specs.Problem.{Problem, Positions, EndsBefore}
 use Rattle.model.specs.Rules.{joined}
 
@@ -23,11 +20,7 @@ module _ (p : Problem) (q : Positions) (a : ℕ) where
   -- of two that end before two others one ends before the other's
   pub ends-cross : (x y u v : ℕ) → EndsBefore p q a x y → EndsBefore p q a u v → EndsBefore p q a x v ⊎ EndsBefore p q a u y
   unfolding EndsBefore
-  ends-cross x y u v d e = go (decLe (q a x + p .size a x) (q a v))
-    where
-      go : Dec (q a x + p .size a x ≤ q a v) → (q a x + p .size a x ≤ q a v) ⊎ (q a u + p .size a u ≤ q a y)
-      go (yes l) = inl l
-      go (no l) = inr (omega arith)
+  ends-cross x y u v d e = elim (decLe (q a x + p .size a x) (q a v)) [ yes l ↦ inl l | no l ↦ inr (omega arith) ]
 
   -- where u ends before v: a chain with room up to the end of u goes on with one that has room from the start of v
   pub joined-room : (u v x y c : ℕ) → EndsBefore p q a u v → x ≤ q a u + p .size a u → q a v + y ≤ c → joined p a u v x y ≤ c

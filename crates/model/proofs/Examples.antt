@@ -1,12 +1,6 @@
 -- Document 01's "Plausible errors", each refuted by a small example; by computation.
-use mathlib.Core.Bool.{Bool, true, false, cond, _&&_}
-use mathlib.Core.List.{List, [], _∷_, List·Memᴰ·not-nil}
-use mathlib.Core.Path.{_≡_, refl}
-use Prim.Native.Nat.{ℕ, zero, suc, _+_, _*_}
-use native.Mathlib.Omega.{arith}
-use lib.Dec.{leb, ltb}
-use lib.ListN.{getD}
-use borrow.Author.Tests.{leb-true}
+use Rattle.prelude.specs.Names.{Bool, true, false, cond, _&&_, List, [], _∷_, List·Memᴰ·not-nil, _≡_, refl, ℕ, zero, suc, _+_, _*_, arith, leb, ltb}
+use Rattle.prelude.specs.Names.{getD, leb-true}
 use Rattle.model.specs.Below.{all-below}
 use Rattle.model.specs.Problem.{Problem, Positions, time, Feasible, ends-before, feasible}
 use Rattle.model.specs.Domains.{Domains, may-before, may-overlap, remove-overlap, fix-before, fix-overlap, full-domains}

@@ -13,15 +13,14 @@ pub mod Without
 pub mod Pass
 pub mod Propagate
 pub mod Removal
-pub mod Longest
 pub mod Chains
 pub mod Chain
-pub mod Sound
 pub mod Admits
 pub mod Asks
 pub mod Clauses
 pub mod Obeys
 pub mod Consistent
+pub mod Sound
 pub mod Packed
 pub mod Fork
 pub mod Weight

@@ -1,48 +1,23 @@
 -- Split runs agree with the one run: the claim about every list of calls, for whoever serves each call by the machine's steps.
-use mathlib.Core.Bool.{true, false}
-use mathlib.Core.List.{List, [], _∷_}
-use mathlib.Core.Logic.{_↔_}
-use mathlib.Core.Path.{_≡_, refl, sym, ap, _∙_, subst}
-use Prim.Native.Nat.{ℕ, _+_, _-_, _≤_, _<_, min}
-use native.Mathlib.Decide.{decLt}
-use native.Mathlib.Nat.{add-assoc, add-zero}
-use native.Mathlib.Omega.{arith}
-use borrow.Author.Tests.{lt-ltb, le-ltb}
-use Rattle.model.specs.Machine.{Status, running, failed, succeeded, Machine, Running, Ended, steps, Count, Invariant}
-use Rattle.model.specs.Lists.{Service, status-number, counted, held-from, held, added, budget-sum, returned-code, returned-plan, plan-by, Right, Claim, Served, call-refused, call-served, Serves, AllRefused}
+use Rattle.prelude.specs.Names.{List, [], _∷_, _↔_, _≡_, refl, sym, ap, _∙_, subst, ℕ, _+_, _-_, _≤_, _<_, min, decLt, add-assoc, add-zero, zero-add}
+use Rattle.prelude.specs.Names.{arith, lt-ltb, le-ltb}
+use Rattle.model.specs.Machine.{Status, running, failed, succeeded, Machine, Ended, steps, Count, Invariant}
+use Rattle.model.specs.Lists.{Service, status-number, held-from, held, added, budget-sum, returned-code, returned-plan, plan-by, Right, Claim}
+use Rattle.model.specs.Lists.{Served, call-refused, call-served, Serves, AllRefused}
 use Rattle.model.proofs.Below.{clash}
-use Rattle.model.proofs.Machine.{steps-add, past-count, count-later, taken-is, steps-keep}
+use Rattle.model.proofs.Machine.{running-is, steps-add, past-count, count-later, taken-is, steps-keep}
 
 -- The numbers of answers
 
 number-small : (s : Status) → status-number s < 100
-number-small running = omega arith
-number-small failed = omega arith
-number-small succeeded = omega arith
-
-running-zero : (s : Status) → Running s → status-number s ≡ 0
-running-zero running o = refl
-running-zero failed o = absurd o
-running-zero succeeded o = absurd o
+number-small s = elim s [ running ↦ omega arith | failed ↦ omega arith | succeeded ↦ omega arith ]
 
 ended-not-zero : (s : Status) → Ended s → status-number s ≡ 0 → ⊥
-ended-not-zero running f e = f
-ended-not-zero failed f e = omega arith
-ended-not-zero succeeded f e = omega arith
+ended-not-zero s = elim s [ running ↦ λ f e. f | failed ↦ λ f e. omega arith | succeeded ↦ λ f e. omega arith ]
 
 -- no state but a placed one has a plan
 unplanned : {S C X P : Type 0} (w : Service S C X P) (c : C) (κ : S) (s : Status) → (status-number s ≡ 1 → ⊥) → plan-by w c κ s ≡ w .no-plan c
-unplanned w c κ running n = refl
-unplanned w c κ failed n = refl
-unplanned w c κ succeeded n = absurd (n refl)
-
--- What counts of a call
-
-none-counts : (code m : ℕ) → 100 ≤ code → counted code m ≡ 0
-none-counts code m h = rw (le-ltb code 100 h)
-
-all-counts : (code m : ℕ) → code < 100 → counted code m ≡ m
-all-counts code m h = rw (lt-ltb code 100 h)
+unplanned w c κ s = elim s [ running ↦ λ n. refl | failed ↦ λ n. refl | succeeded ↦ λ n. absurd (n refl) ]
 
 module _ {S C X P : Type 0} (M : Machine S) (Follows : S → Type 0) (ι : Invariant M Follows) (w : Service S C X P) (υ : Serves M w Follows)
     (count : ℕ) (k : Count M (M .opening) count) where
@@ -64,28 +39,20 @@ module _ {S C X P : Type 0} (M : Machine S) (Follows : S → Type 0) (ι : Invar
     checkpoint : held-from w x cs ≡ w .hold (at (s + added w budget-of x cs))
     total : min s count + added w (w .steps) x cs ≡ min (s + added w budget-of x cs) count
 
-  -- one more call in front, of which i of the budget and m steps count
-  in-front : (c : C) (cs : List C) (s : ℕ) (x y : X) (i m : ℕ) → w .next c x ≡ y → counted (w .code c x) (w .budget c) ≡ i
-      → counted (w .code c x) (w .steps c x) ≡ m → min s count + m ≡ min (s + i) count → From (s + i) y cs → From s x (c ∷ cs)
-  in-front c cs s x y i m e u v h f = record {
-    checkpoint = rw (e, u) (f .checkpoint ∙ ap (λ (t : ℕ). w .hold (at t)) (add-assoc s i (added w budget-of y cs)));
-    total = rw (e, u, v) (omega (arith, f .total, add-assoc s i (added w budget-of y cs)));
-  }
-
   from : (cs : List C) (s : ℕ) → From s (w .hold (at s)) cs
   from [] s = record { checkpoint = rw add-zero refl; total = omega arith }
-  from (c ∷ cs) s = go (call-at s c) (λ t. from cs t)
-    where
-      go : Served M w c (at s) → ((t : ℕ) → From t (w .hold (at t)) cs) → From s (w .hold (at s)) (c ∷ cs)
-      go (call-refused a l e) ih =
-          in-front c cs s (w .hold (at s)) (w .hold (at s)) 0 0 e (none-counts _ (w .budget c) l) (none-counts _ (w .steps c (w .hold (at s))) l) (omega arith)
-          (subst (λ (t : ℕ). From (s + 0) (w .hold (at t)) cs) (add-zero s) (ih (s + 0)))
-      go (call-served a γ) ih =
-          let l : w .code c (w .hold (at s)) < 100 = omega (arith, γ .code, number-small (M .status (steps M (w .budget c) (at s)))) in
-          let m = taken-is M (w .budget c) (count - s) (at s) (count-later M s count (M .opening) k) in
-          in-front c cs s (w .hold (at s)) (w .hold (at (s + w .budget c))) (w .budget c) (w .steps c (w .hold (at s)))
-          (γ .next ∙ ap (w .hold) (later-at s (w .budget c)))
-          (all-counts _ (w .budget c) l) (all-counts _ (w .steps c (w .hold (at s))) l) (omega (arith, γ .steps)) (ih (s + w .budget c))
+  from (c ∷ cs) s = elim (call-at s c) [
+    | call-refused a l e ↦ record {
+      checkpoint = rw (e, le-ltb _ 100 l, zero-add) (from cs s .checkpoint);
+      total = rw (e, le-ltb _ 100 l) (omega (arith, from cs s .total));
+    }
+    | call-served a γ ↦
+        let l = lt-ltb (w .code c (w .hold (at s))) 100 (omega (arith, γ .code, number-small (M .status (steps M (w .budget c) (at s))))) in
+        let m = taken-is M (w .budget c) (count - s) (at s) (count-later M s count (M .opening) k) in
+        let n = γ .next ∙ ap (w .hold) (later-at s (w .budget c)) in
+        let next = from cs (s + w .budget c) in
+        record { checkpoint = rw (n, l, ← add-assoc) (next .checkpoint); total = rw (n, l) (omega (arith, γ .steps, next .total)) }
+  ]
 
   -- from the opening
   whole : (cs : List C) → From 0 (w .opening) cs
@@ -93,78 +60,61 @@ module _ {S C X P : Type 0} (M : Machine S) (Follows : S → Type 0) (ι : Invar
 
   -- after a list the note holds the run after as many steps as the sum
   pub held-is : (cs : List C) → held w cs ≡ w .hold (at (budget-sum w cs))
-  held-is cs = let e : 0 + budget-sum w cs ≡ budget-sum w cs = omega arith in whole cs .checkpoint ∙ ap (λ (t : ℕ). w .hold (at t)) e
+  held-is cs = rw zero-add at (whole cs .checkpoint)
+
+  past : (s : ℕ) → count ≤ s → at s ≡ at count
+  past s = past-count M (M .opening) count s k
 
   lesser : (s : ℕ) → at s ≡ at (min s count)
-  lesser s = go (decLt s count)
-    where
-      go : Dec (s < count) → at s ≡ at (min s count)
-      go (yes h) = let e : s ≡ min s count = omega arith in ap at e
-      go (no h) = let e : count ≡ min s count = omega arith in past-count M (M .opening) count s k (omega arith) ∙ ap at e
+  lesser s = elim (decLt s count) [
+    | yes h ↦ let e : min s count ≡ s = omega arith in rw e
+    | no h ↦ let e : min s count ≡ count = omega arith in rw e (past s (omega arith))
+  ]
 
   spent-when : (s : ℕ) → (status-number (M .status (at s)) ≡ 0) ↔ (s < count)
-  spent-when s = (early (decLt s count), (λ h. running-zero (M .status (at s)) (k .before s h)))
-    where
-      early : Dec (s < count) → status-number (M .status (at s)) ≡ 0 → s < count
-      early (yes h) e = h
-      early (no h) e =
-          absurd (ended-not-zero (M .status (at count)) (k .finished)
-          (ap (λ (μ : S). status-number (M .status μ)) (sym (past-count M (M .opening) count s k (omega arith))) ∙ e))
+  spent-when s = (
+    elim (decLt s count) [
+      | yes h ↦ λ e. h
+      | no h ↦ λ e. absurd (ended-not-zero (M .status (at count)) (k .finished) (rw (past s (omega arith)) at e))
+    ],
+    λ h. ap status-number (running-is (M .status (at s)) (k .before s h)),
+  )
 
-  module _ (earlier : List C) (c : C) where
-    abbrev there : ℕ
-    there = budget-sum w earlier + w .budget c
-
-    -- a call after a list that is not refused answers as the run after so many steps
-    record Answered : Type 0 where
-      admitted : w .admitted c ≡ true
-      code : returned-code w earlier c ≡ status-number (M .status (at there))
-      plan : returned-plan w earlier c ≡ plan-by w c (at there) (M .status (at there))
-
-    -- or it is refused, and the note stays
-    data Either : Type 0 where
-      not-served : w .admitted c ≡ false → 100 ≤ returned-code w earlier c → w .next c (held w earlier) ≡ held w earlier → Either
-      answered : Answered → Either
-
-    either : Either
-    either = go (call-at (budget-sum w earlier) c)
-      where
-        go : Served M w c (at (budget-sum w earlier)) → Either
-        go (call-refused a l e) = not-served a (rw (returned-code, held-is earlier) l) (rw (held-is earlier) e)
-        go (call-served a γ) =
-            let μ = later-at (budget-sum w earlier) (w .budget c) in
-            answered (record {
-              admitted = a;
-              code = ap (w .code c) (held-is earlier) ∙ γ .code ∙ ap (λ (ξ : S). status-number (M .status ξ)) μ;
-              plan = ap (w .plan c) (held-is earlier) ∙ γ .plan ∙ ap (λ (ξ : S). plan-by w c ξ (M .status ξ)) μ;
-            })
-
-    by-cases : Either → Right M w count earlier c
-    by-cases (not-served a l e) = record {
-      not-refused = ((λ h. absurd (omega arith)), (λ h. absurd (clash h a)));
-      unchanged = λ h. e;
-      spent = λ h. absurd (omega arith);
-      answer = λ h. absurd (omega arith);
-      plan = λ h. absurd (omega arith);
-      no-plan = λ h. absurd (omega arith);
-    }
-    by-cases (answered α) =
-        let l : returned-code w earlier c < 100 = omega (arith, α .code, number-small (M .status (at there))) in
+  -- a call after a list is refused and the note stays, or it answers as the run after so many steps
+  right : (earlier : List C) (c : C) → Right M w count earlier c
+  right earlier c = elim (call-at (budget-sum w earlier) c) [
+    | call-refused a l e ↦
+        let r : 100 ≤ returned-code w earlier c = rw (returned-code, held-is earlier) l in
         record {
-          not-refused = ((λ h. α .admitted), (λ h. l));
-          unchanged = λ h. absurd (omega arith);
-          spent = λ h. subst (λ (n : ℕ). (n ≡ 0) ↔ (there < count)) (sym (α .code)) (spent-when there);
-          answer = λ h g. α .code ∙ ap (λ (μ : S). status-number (M .status μ)) (past-count M (M .opening) count there k g);
-          plan = λ h g. α .plan ∙ ap (λ (μ : S). plan-by w c μ (M .status μ)) (past-count M (M .opening) count there k g);
-          no-plan = λ h n. α .plan ∙ unplanned w c (at there) (M .status (at there)) (λ e. n (α .code ∙ e));
+          not-refused = ((λ h. absurd (omega arith)), (λ h. absurd (clash h a)));
+          unchanged = λ h. rw (held-is earlier) e;
+          spent = λ h. absurd (omega arith);
+          answer = λ h. absurd (omega arith);
+          plan = λ h. absurd (omega arith);
+          no-plan = λ h. absurd (omega arith);
         }
+    | call-served a γ ↦
+        let there : ℕ = budget-sum w earlier + w .budget c in
+        let μ = later-at (budget-sum w earlier) (w .budget c) in
+        let code : returned-code w earlier c ≡ status-number (M .status (at there)) = cc (held-is earlier, μ, γ .code) in
+        let plan : returned-plan w earlier c ≡ plan-by w c (at there) (M .status (at there)) = cc (held-is earlier, μ, γ .plan) in
+        let l : returned-code w earlier c < 100 = omega (arith, number-small (M .status (at there))) in
+        record {
+          not-refused = ((λ h. a), (λ h. l));
+          unchanged = λ h. absurd (omega arith);
+          spent = λ h. rw code (spent-when there);
+          answer = λ h g. code ∙ rw (past there g);
+          plan = λ h g. plan ∙ rw (past there g);
+          no-plan = λ h n. plan ∙ unplanned w c (at there) (M .status (at there)) (λ e. n (code ∙ e));
+        }
+  ]
 
   -- the claim about every list of calls
   pub claim : (calls : List C) → Claim M w count calls
   claim calls = record {
     checkpoint = held-is calls ∙ ap (w .hold) (lesser (budget-sum w calls));
     total = omega (arith, whole calls .total);
-    each = λ earlier c later e. by-cases earlier c (either earlier c);
+    each = λ earlier c later e. right earlier c;
   }
 
 -- where every call is refused with one number, and leaves the note

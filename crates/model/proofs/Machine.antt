@@ -1,21 +1,21 @@
 -- Steps of any machine: they compose, a run has one count, and past it stays as it is.
-use mathlib.Core.Path.{_≡_, refl, sym, ap, _∙_, subst}
-use Prim.Native.Nat.{ℕ, zero, suc, _+_, _-_, _≤_, _<_, min, suc-le-suc}
-use native.Mathlib.Nat.{not-suc-le-zero, le-of-suc-le-suc, zero-add, suc-add}
-use native.Mathlib.Omega.{arith}
-use native.Mathlib.Decide.{decLt}
+use Rattle.prelude.specs.Names.{_≡_, refl, sym, ap, _∙_, subst, ℕ, zero, suc, _+_, _-_, _≤_, _<_, min, le-of-suc-le-suc, zero-add, suc-add, arith}
+use native.Mathlib.Nat.{not-suc-le-zero}
 use Rattle.model.specs.Machine.{Status, running, failed, succeeded, Machine, Running, Ended, Open, Finished, steps, taken, Count, Invariant}
 
 -- not both open and finished
 pub ended-not-running : (s : Status) → Ended s → Running s → ⊥
-ended-not-running running f o = f
-ended-not-running failed f o = o
-ended-not-running succeeded f o = o
+ended-not-running s = elim s [ running ↦ λ f o. f | failed ↦ λ f o. o | succeeded ↦ λ f o. o ]
 
 pub running-is : (s : Status) → Running s → s ≡ running
-running-is running o = refl
-running-is failed o = absurd o
-running-is succeeded o = absurd o
+running-is s = elim s [ running ↦ λ o. refl | failed ↦ λ o. absurd o | succeeded ↦ λ o. absurd o ]
+
+-- what is done only while running is not done at the end
+ended-skips : {A : Type 0} (x y : A) (s : Status) → Ended s → elim s as (λ _. A) [ running ↦ x | failed ↦ y | succeeded ↦ y ] ≡ y
+ended-skips x y s = elim s [ running ↦ λ f. absurd f | failed ↦ λ f. refl | succeeded ↦ λ f. refl ]
+
+status-or : {A : Type 0} (s : Status) → (Running s → A) → (Ended s → A) → A
+status-or s = elim s [ running ↦ λ f g. f tt | failed ↦ λ f g. g tt | succeeded ↦ λ f g. g tt ]
 
 module _ {S : Type 0} (M : Machine S) where
   -- one step, by what the state is
@@ -27,42 +27,23 @@ module _ {S : Type 0} (M : Machine S) where
 
   pub finished-stays : (i : ℕ) (κ : S) → Finished M κ → steps M i κ ≡ κ
   finished-stays zero κ f = refl
-  finished-stays (suc i) κ f = go (M .status κ) f
-    where
-      go : (s : Status) → Ended s → elim s as (λ _. S) [ running ↦ steps M i (M .step κ) | failed ↦ κ | succeeded ↦ κ ] ≡ κ
-      go running f = absurd f
-      go failed f = refl
-      go succeeded f = refl
+  finished-stays (suc i) κ f = ended-skips _ κ (M .status κ) f
 
   -- "A finished note repeats its answer with 0 steps"
   pub finished-takes-none : (i : ℕ) (κ : S) → Finished M κ → taken M i κ ≡ 0
   finished-takes-none zero κ f = refl
-  finished-takes-none (suc i) κ f = go (M .status κ) f
-    where
-      go : (s : Status) → Ended s → _≡_ {A = ℕ} (elim s as (λ _. ℕ) [ running ↦ suc (taken M i (M .step κ)) | failed ↦ 0 | succeeded ↦ 0 ]) 0
-      go running f = absurd f
-      go failed f = refl
-      go succeeded f = refl
-
-  -- by cases: open, or finished
-  pub open-or : {A : Type 0} (κ : S) → (Open M κ → A) → (Finished M κ → A) → A
-  open-or {A} κ f g = go (M .status κ) f g
-    where
-      go : (s : Status) → (Running s → A) → (Ended s → A) → A
-      go running f g = f tt
-      go failed f g = g tt
-      go succeeded f g = g tt
+  finished-takes-none (suc i) κ f = ended-skips _ 0 (M .status κ) f
 
   -- steps compose, and those taken add up
   pub steps-add : (i j : ℕ) (κ : S) → steps M (i + j) κ ≡ steps M j (steps M i κ)
   steps-add zero j κ = rw zero-add refl
-  steps-add (suc i) j κ = open-or κ
+  steps-add (suc i) j κ = status-or (M .status κ)
       (λ o. rw suc-add (steps-open (i + j) κ o ∙ (steps-add i j (M .step κ) ∙ ap (steps M j) (sym (steps-open i κ o)))))
       (λ f. finished-stays (suc i + j) κ f ∙ sym (ap (steps M j) (finished-stays (suc i) κ f) ∙ finished-stays j κ f))
 
   pub taken-add : (i j : ℕ) (κ : S) → taken M (i + j) κ ≡ taken M i κ + taken M j (steps M i κ)
   taken-add zero j κ = simp zero-add
-  taken-add (suc i) j κ = open-or κ
+  taken-add (suc i) j κ = status-or (M .status κ)
       (λ o. rw (suc-add, taken-open (i + j) κ o, taken-open i κ o, steps-open i κ o) (omega (arith, taken-add i j (M .step κ))))
       (λ f. rw (finished-takes-none (suc i + j) κ f, finished-takes-none (suc i) κ f, finished-stays (suc i) κ f, finished-takes-none j κ f) refl)
 
@@ -70,7 +51,7 @@ module _ {S : Type 0} (M : Machine S) where
   pub past-count : (κ : S) (c i : ℕ) → Count M κ c → c ≤ i → steps M i κ ≡ steps M c κ
   past-count κ c i k h =
       let e : c + (i - c) ≡ i = omega arith in
-      subst (λ (x : ℕ). steps M x κ ≡ steps M c κ) e (steps-add c (i - c) κ ∙ finished-stays (i - c) (steps M c κ) (k .finished))
+      rw e at (steps-add c (i - c) κ ∙ finished-stays (i - c) (steps M c κ) (k .finished))
 
   -- the count from a later point of the run
   pub count-later : (s c : ℕ) (κ : S) → Count M κ c → Count M (steps M s κ) (c - s)
@@ -79,41 +60,30 @@ module _ {S : Type 0} (M : Machine S) where
     before = λ j h. subst (Open M) (steps-add s j κ) (k .before (s + j) (omega arith));
   }
 
-  -- there is one count
-  pub count-unique : (κ : S) (c d : ℕ) → Count M κ c → Count M κ d → c ≡ d
-  count-unique κ c d k l = go (decLt c d) (decLt d c)
-    where
-      go : Dec (c < d) → Dec (d < c) → c ≡ d
-      go (yes h) _ = absurd (ended-not-running (M .status (steps M c κ)) (k .finished) (l .before c h))
-      go (no f) (yes h) = absurd (ended-not-running (M .status (steps M d κ)) (l .finished) (k .before d h))
-      go (no f) (no g) = omega arith
-
   -- a call takes the lesser of its budget and the count from its state on
   pub taken-is : (i c : ℕ) (κ : S) → Count M κ c → taken M i κ ≡ min i c
   taken-is zero c κ k = omega arith
   taken-is (suc i) zero κ k = rw (finished-takes-none (suc i) κ (k .finished)) (omega arith)
   taken-is (suc i) (suc c) κ k =
       let o = k .before zero (omega arith) in
-      rw (taken-open i κ o)
-      (omega (
-        arith,
-        taken-is i c (M .step κ) (record {
-          finished = subst (Finished M) (steps-open c κ o) (k .finished);
-          before = λ j h. subst (Open M) (steps-open j κ o) (k .before (suc j) (suc-le-suc h));
-        }),
-      ))
+      let e : suc c - 1 ≡ c = omega arith in
+      rw (taken-open i κ o) (omega (arith, taken-is i c (M .step κ) (rw (steps-open 0 κ o, e) at (count-later 1 (suc c) κ k))))
+
+  -- there is one count
+  pub count-unique : (κ : S) (c d : ℕ) → Count M κ c → Count M κ d → c ≡ d
+  count-unique κ c d k l = omega (arith, taken-is (c + d) c κ k, taken-is (c + d) d κ l)
 
   -- where the state is open in the end, all of the budget was taken
   pub open-takes-all : (i : ℕ) (κ : S) → Open M (steps M i κ) → taken M i κ ≡ i
   open-takes-all zero κ o = refl
-  open-takes-all (suc i) κ o = open-or κ
+  open-takes-all (suc i) κ o = status-or (M .status κ)
       (λ r. taken-open i κ r ∙ ap suc (open-takes-all i (M .step κ) (subst (Open M) (steps-open i κ r) o)))
       (λ f. absurd (ended-not-running (M .status κ) f (subst (Open M) (finished-stays (suc i) κ f) o)))
 
   -- an invariant holds of each state that is come to
   pub steps-keep : (I : S → Type 0) → Invariant M I → (i : ℕ) (κ : S) → I κ → I (steps M i κ)
   steps-keep I ι zero κ h = h
-  steps-keep I ι (suc i) κ h = open-or κ
+  steps-keep I ι (suc i) κ h = status-or (M .status κ)
       (λ o. subst I (sym (steps-open i κ o)) (steps-keep I ι i (M .step κ) (ι .keeps κ o h)))
       (λ f. subst I (sym (finished-stays (suc i) κ f)) h)
 
@@ -136,16 +106,6 @@ module _ {S : Type 0} (M : Machine S) where
   way-open (on o p) zero h = o
   way-open (on {i} {κ} {μ} o p) (suc j) h = subst (Open M) (sym (steps-open M j κ o)) (way-open p j (le-of-suc-le-suc h))
 
-  -- a way to a finished state counts the steps, and the other way round
+  -- a way to a finished state counts the steps
   pub way-counts : {i : ℕ} {κ μ : S} → Finished M μ → Way M i κ μ → Count M κ i
   way-counts f p = record { finished = subst (Finished M) (sym (way-ends p)) f; before = way-open p }
-
-  pub count-way : (c : ℕ) (κ : S) → Count M κ c → Way M c κ (steps M c κ)
-  count-way zero κ k = here
-  count-way (suc c) κ k =
-      let o = k .before zero (omega arith) in
-      subst (Way M (suc c) κ) (sym (steps-open M c κ o))
-      (on o (count-way c (M .step κ) (record {
-        finished = subst (Finished M) (steps-open M c κ o) (k .finished);
-        before = λ j h. subst (Open M) (steps-open M j κ o) (k .before (suc j) (suc-le-suc h));
-      })))

@@ -1,19 +1,14 @@
 -- The fewer relations are left, the more is fixed and the more the rules ask for.
-use mathlib.Core.Bool.{Bool}
-use mathlib.Core.Path.{sym, _∙_}
-use Prim.Native.Nat.{ℕ, zero, suc, _≤_, compare}
-use lib.Dec.{eqb}
+use Rattle.prelude.specs.Names.{[], _∷_, sym, _∙_, ℕ, zero, suc, _≤_, compare}
 use Rattle.model.specs.Problem.{Problem}
 use Rattle.model.specs.Domains.{Domains, index-of, place, left, gone, may-overlap, may-before, fixed-before, fixed-overlap}
-use Rattle.model.specs.Rules.{greatest-ending, greatest-starting, rule1, rule2, rule3, rule4, rule5, asks-overlap, asks-before, asks}
+use Rattle.model.specs.Rules.{ending, starting, greatest-ending, greatest-starting, rule1, rule2, rule3, rule4, rule5, asks-overlap}
+use Rattle.model.specs.Rules.{asks-before, asks}
 use Rattle.model.specs.Order.{_⊑_}
-use Rattle.model.proofs.Below.{Implies, and-mono, or-mono, not-mono, some-mono, all-mono, ltb-mono}
+use Rattle.model.proofs.Below.{Implies, same, and-mono, or-mono, not-mono, some-mono, all-mono, ltb-mono}
 use Rattle.model.proofs.Domains.{gone-is}
 use Rattle.model.proofs.Ends.{joined-mono}
-use Rattle.model.proofs.Chains.{greatest-ending-more, greatest-starting-more}
-
-same-test : {b : Bool} → Implies b b
-same-test e = e
+use Rattle.model.proofs.Chain.{longest-mono, back-mono, front-mono}
 
 module _ (k j : Domains) (h : k ⊑ j) where
   pub left-mono : (x a u v : ℕ) → Implies (left k x a u v) (left j x a u v)
@@ -39,42 +34,36 @@ module _ (k j : Domains) (h : k ⊑ j) where
   fixed-overlap-mono a u v = and-mono (not-mono (may-before-mono a u v)) (not-mono (may-before-mono a v u))
 
   module _ (p : Problem) (a : ℕ) where
-    rule1-mono : (u v : ℕ) → Implies (rule1 p j a u v) (rule1 p k a u v)
-    unfolding rule1
-    rule1-mono u v = all-mono 3 (λ b. or-mono {a = eqb b a} same-test (fixed-overlap-mono b u v))
-
-    rule2-mono : (u v : ℕ) → Implies (rule2 p j a u v) (rule2 p k a u v)
-    unfolding rule2
-    rule2-mono u v = search (some-mono, and-mono, fixed-before-mono)
-
-    rule3-mono : (u v : ℕ) → Implies (rule3 p j a u v) (rule3 p k a u v)
-    unfolding rule3
-    rule3-mono u v = search (some-mono, or-mono, and-mono, not-mono, fixed-before-mono, may-before-mono) depth 9
-
-    rule4-mono : (u v : ℕ) → Implies (rule4 p j a u v) (rule4 p k a u v)
-    unfolding rule4
-    rule4-mono u v = search (some-mono, and-mono, not-mono, fixed-overlap-mono, may-overlap-mono) depth 9
-
     pub greatest-ending-mono : (u : ℕ) → greatest-ending p j a u ≤ greatest-ending p k a u
-    greatest-ending-mono u = greatest-ending-more p a j k (fixed-before-mono a) u
+    unfolding greatest-ending ending
+    greatest-ending-mono u = longest-mono p a _ _ _ (back-mono p a) (λ x y. fixed-before-mono a y x) (p .items) (u ∷ []) u
 
     pub greatest-starting-mono : (u : ℕ) → greatest-starting p j a u ≤ greatest-starting p k a u
-    greatest-starting-mono u = greatest-starting-more p a j k (fixed-before-mono a) u
+    unfolding greatest-starting starting
+    greatest-starting-mono u = longest-mono p a _ _ _ (front-mono p a) (fixed-before-mono a) (p .items) (u ∷ []) u
 
-    rule5-mono : (u v : ℕ) → Implies (rule5 p j a u v) (rule5 p k a u v)
-    unfolding rule5
-    rule5-mono u v = ltb-mono (p .capacity a) (joined-mono p a u v (greatest-ending-mono u) (greatest-starting-mono v))
+    overlap-asked : (u v : ℕ) → Implies (asks-overlap p j a u v) (asks-overlap p k a u v)
+    unfolding asks-overlap rule1 rule2
+    overlap-asked u v = search (or-mono, all-mono, some-mono, and-mono, same, fixed-before-mono, fixed-overlap-mono) depth 9
 
-    asks-overlap-mono : (u v : ℕ) → Implies (asks-overlap p j a u v) (asks-overlap p k a u v)
-    unfolding asks-overlap
-    asks-overlap-mono u v = or-mono (rule1-mono u v) (or-mono (rule2-mono u v) (rule2-mono v u))
-
-    asks-before-mono : (u v : ℕ) → Implies (asks-before p j a u v) (asks-before p k a u v)
-    unfolding asks-before
-    asks-before-mono u v = or-mono (rule2-mono v u) (or-mono (rule3-mono u v) (or-mono (rule4-mono u v) (rule5-mono u v)))
+    before-asked : (u v : ℕ) → Implies (asks-before p j a u v) (asks-before p k a u v)
+    unfolding asks-before rule2 rule3 rule4 rule5
+    before-asked u v =
+        search (
+          or-mono,
+          some-mono,
+          and-mono,
+          not-mono,
+          ltb-mono,
+          joined-mono,
+          fixed-before-mono,
+          may-before-mono,
+          fixed-overlap-mono,
+          may-overlap-mono,
+          greatest-ending-mono,
+          greatest-starting-mono,
+        ) depth 14 fits 4000
 
     pub asks-mono : (x u v : ℕ) → Implies (asks p j x a u v) (asks p k x a u v)
     unfolding asks
-    asks-mono zero u v = asks-overlap-mono u v
-    asks-mono (suc zero) u v = asks-before-mono u v
-    asks-mono (suc (suc x)) u v = asks-before-mono v u
+    asks-mono x u v = elim x [ zero ↦ overlap-asked u v | suc zero ↦ before-asked u v | suc (suc x) ↦ before-asked v u ]

@@ -1,7 +1,5 @@
 -- Domains obey the rules as document 01 words them exactly where they are at rest.
-use mathlib.Core.Logic.{_↔_}
-use native.Mathlib.Nat.{le-trans}
-use borrow.Author.Tests.{ltb-true}
+use Rattle.prelude.specs.Names.{_↔_, le-trans, ltb-true}
 use Rattle.model.specs.Problem.{Problem}
 use Rattle.model.specs.Domains.{Domains}
 use Rattle.model.specs.Rules.{rule5}

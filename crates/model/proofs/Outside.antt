@@ -1,13 +1,8 @@
 -- Items past those of the problem, along a path: precedences and branches remove nothing of them either.
-use mathlib.Core.Bool.{Bool, true, false}
-use mathlib.Core.List.{List, [], _∷_, List·Memᴰ, List·Memᴰ·head, List·Memᴰ·tail}
-use mathlib.Core.Path.{_≡_, refl, sym, _∙_}
-use Prim.Native.Nat.{ℕ, _≤_, _<_, max}
-use native.Mathlib.Decide.{decLt}
-use native.Mathlib.Omega.{arith}
-use Rattle.model.specs.Problem.{Problem, Precedence, time}
-use Rattle.model.specs.Domains.{Domains, may-overlap, fix-before, fix-overlap, full-domains}
-use Rattle.model.specs.Branching.{fix-precedences, opening-domains, choice, Branch, first, second, branch-at, branched, path-domains}
+use Rattle.prelude.specs.Names.{List, [], _∷_, _≡_, sym, _∙_, ℕ, _≤_, max, decLt, arith}
+use Rattle.model.specs.Problem.{Problem, time}
+use Rattle.model.specs.Domains.{Domains, fix-before, full-domains}
+use Rattle.model.specs.Branching.{opening-domains, Branch, branched, path-domains}
 use Rattle.model.specs.Order.{Proper}
 use Rattle.model.specs.Relations.{gone, without, Untouched}
 use Rattle.model.specs.Claims.{removed, says}
@@ -17,8 +12,8 @@ use Rattle.model.specs.Run.{look}
 use Rattle.model.proofs.Below.{clash}
 use Rattle.model.proofs.Slots.{proper-up, proper-wide}
 use Rattle.model.proofs.Without.{says-elsewhere}
-use Rattle.model.proofs.Admits.{full-left, opening-well-formed}
-use Rattle.model.proofs.Fork.{branched-well-formed}
+use Rattle.model.proofs.Admits.{full-left, precedences-keep, opening-well-formed}
+use Rattle.model.proofs.Fork.{branched-keeps, branched-well-formed}
 use Rattle.model.proofs.Path.{path-root, path-branch, path-well-formed, path-fork}
 use Rattle.model.proofs.Search.{look-fork}
 use Rattle.model.proofs.Untouched.{propagate-untouched}
@@ -31,42 +26,25 @@ module _ (n : ℕ) (limited : n ≤ 10) where
   -- a relation of two items of the problem is removed
   pub without-untouched : (k : Domains) (x a u v : ℕ) → Proper n a u v → Untouched n k → Untouched n (without k x a u v)
   unfolding says
-  without-untouched k x a u v s h y b i j hy t e = go (decLt (max i j) n)
-    where
-      go : Dec (max i j < n) → (i < n) × (j < n)
-      go (yes l) = (omega arith, omega arith)
-      go (no l) = h y b i j hy t (sym (says-elsewhere k x (proper-wide (omega arith) s) t (λ p q r. omega arith) (removed y)) ∙ e)
-
-  precedences-untouched : (l : List Precedence) (k : Domains) → ((o : Precedence) → List·Memᴰ o l → Proper n time (o .predecessor) (o .successor))
-      → Untouched n k → Untouched n (fix-precedences l k)
-  unfolding without fix-before
-  precedences-untouched [] k named h = h
-  precedences-untouched (o ∷ l) k named h =
-      let s = named o (List·Memᴰ·head refl) in
-      let one = without-untouched k 2 time (o .predecessor) (o .successor) s h in
-      precedences-untouched l _ (λ x m. named x (List·Memᴰ·tail m)) (without-untouched _ 0 time (o .predecessor) (o .successor) s one)
-
-  branch-untouched : (o : Bool) (b : Branch) (k : Domains) (a u v : ℕ) → Proper n a u v → Untouched n k → Untouched n (branch-at o b k a u v)
-  unfolding without fix-overlap
-  branch-untouched true first k a u v s h = without-untouched k 0 a u v s h
-  branch-untouched true second k a u v s h = without-untouched _ 1 a u v s (without-untouched k 2 a u v s h)
-  branch-untouched false first k a u v s h = without-untouched k 2 a u v s h
-  branch-untouched false second k a u v s h = without-untouched k 1 a u v s h
+  without-untouched k x a u v s h y b i j hy t e = elim (decLt (max i j) n) [
+    | yes l ↦ (omega arith, omega arith)
+    | no l ↦ h y b i j hy t (sym (says-elsewhere k x (proper-wide (omega arith) s) t (λ p q r. omega arith) (removed y)) ∙ e)
+  ]
 
 module _ (p : Problem) (sound : Sound p) where
   pub opening-untouched : Untouched (p .items) (opening-domains p)
-  unfolding opening-domains
-  opening-untouched = precedences-untouched (p .items) (sound .limited) (p .precedences) full-domains (sound .named) (full-untouched (p .items))
+  unfolding opening-domains fix-before without
+  opening-untouched =
+      precedences-keep (Untouched (p .items)) (p .precedences) full-domains (full-untouched (p .items))
+      (λ o m j h. without-untouched (p .items) (sound .limited) _ 0 time _ _ (sound .named o m)
+      (without-untouched (p .items) (sound .limited) j 2 time _ _ (sound .named o m) h))
 
   fork-untouched : (path : List Branch) → look p path ≡ fork → Untouched (p .items) (path-domains p path) → (b : Branch)
       → Untouched (p .items) (branched (path-domains p path) b)
-  unfolding branched
   fork-untouched path e h b =
-      let k = path-domains p path in
-      let c = choice k in
       let (consistent, unpacked) = look-fork p path e in
-      branch-untouched (p .items) (sound .limited) (may-overlap k (c .axis) (c .u) (c .v)) b k (c .axis) (c .u) (c .v)
-      (proper-up (path-fork p sound path consistent unpacked .place)) h
+      branched-keeps (Untouched (p .items)) (path-domains p path)
+      (λ x j. without-untouched (p .items) (sound .limited) j x _ _ _ (proper-up (path-fork p sound path consistent unpacked .place))) b h
 
   pub path-untouched : (path : List Branch) → Forking (look p) path → Untouched (p .items) (path-domains p path)
   path-untouched [] f = rw path-root (propagate-untouched p (opening-domains p) (opening-well-formed p) opening-untouched)

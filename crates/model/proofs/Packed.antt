@@ -1,26 +1,18 @@
 -- Packed and consistent at rest, with the precedences fixed: starts by greatest chains are feasible.
-use mathlib.Core.Bool.{Bool, true, false, _||_}
-use mathlib.Core.List.{List·Memᴰ}
-use mathlib.Core.Logic.{_⊎_, inl, inr}
-use mathlib.Core.Path.{_≡_, refl}
-use Prim.Native.Nat.{ℕ, _+_, _≤_, _<_}
-use native.Mathlib.Nat.{le-refl, le-trans}
-use native.Mathlib.Omega.{arith}
-use lib.Dec.{ltb}
-use borrow.Author.Tests.{ltb-false}
-use Rattle.model.specs.Below.{all-below}
+use Rattle.prelude.specs.Names.{true, false, _||_, List·Memᴰ, _⊎_, inl, inr, ⊎-map, ⊎-elim, _≡_, ℕ, _≤_, _<_, le-refl, le-trans, decLe, arith}
 use Rattle.model.specs.Problem.{Problem, Precedence, EndsBefore, Feasible, time}
 use Rattle.model.specs.Domains.{Domains, fixed-before}
-use Rattle.model.specs.Rules.{joined, greatest-ending, greatest-starting, rule2, rule3, rule4, rule5, asks-before}
+use Rattle.model.specs.Rules.{joined, greatest-ending, greatest-starting}
 use Rattle.model.specs.Branching.{inconsistent, separated, packed, starts}
-use Rattle.model.specs.Order.{AtRest}
+use Rattle.model.specs.Order.{Proper, AtRest}
 use Rattle.model.specs.Admits.{Sound}
-use Rattle.model.proofs.Below.{or-case, or-right, all-at, some-at}
-use Rattle.model.proofs.Asks.{not-before}
-use Rattle.model.proofs.Slots.{lt-or-gt}
+use Rattle.model.proofs.Below.{or-case, some-at}
+use Rattle.model.proofs.Asks.{not-before, ask-c2}
+use Rattle.model.proofs.Slots.{lt-or-gt, pairs-at}
 use Rattle.model.proofs.Domains.{fixed-distinct}
 use Rattle.model.proofs.Ends.{joined-mono, joined-ends}
-use Rattle.model.proofs.Chains.{greatest-ending-size, greatest-starting-size, greatest-ending-bound, greatest-starting-bound, greatest-ending-step}
+use Rattle.model.proofs.Chains.{greatest-ending-size, greatest-starting-size, greatest-ending-bound, greatest-starting-bound}
+use Rattle.model.proofs.Chains.{greatest-ending-step}
 use Rattle.model.proofs.Clauses.{rest-obeyed}
 use Rattle.model.proofs.Consistent.{size-fits, before-irreflexive, before-left, before-transitive}
 
@@ -28,18 +20,11 @@ module _ (p : Problem) (k : Domains) (rest : AtRest p k) (consistent : inconsist
   -- two chains where one goes on with the other have room: rule 5 at rest
   room : (a u v : ℕ) → a < 3 → u < p .items → v < p .items → fixed-before k a u v ≡ true
       → joined p a u v (greatest-ending p k a u) (greatest-starting p k a v) ≤ p .capacity a
-  unfolding asks-before rule5
-  room a u v ha hu hv b = go (ltb (p .capacity a) whole) refl
-    where
-      whole : ℕ
-      whole = joined p a u v (greatest-ending p k a u) (greatest-starting p k a v)
-
-      go : (t : Bool) → ltb (p .capacity a) whole ≡ t → whole ≤ p .capacity a
-      go true q =
-          absurd (before-left p k consistent a ha u v hu hv b
-          (not-before rest a u v (record { axis = ha; item-u = hu; item-v = hv; distinct = fixed-distinct k a u v b })
-          (or-right (rule2 p k a v u) (or-right (rule3 p k a u v) (or-right (rule4 p k a u v) q)))))
-      go false q = ltb-false (p .capacity a) whole q
+  room a u v ha hu hv b = elim (decLe (joined p a u v (greatest-ending p k a u) (greatest-starting p k a v)) (p .capacity a)) [
+    | yes h ↦ h
+    | no h ↦ let s : Proper (p .items) a u v = omega (arith, fixed-distinct k a u v b) in
+        absurd (before-left p k consistent a ha u v hu hv b (not-before rest a u v s (ask-c2 p k a u v (omega arith))))
+  ]
 
   -- so no chain is longer than the container
   pub chain-fits : (a v : ℕ) → a < 3 → v < p .items → greatest-ending p k a v ≤ p .capacity a
@@ -60,41 +45,23 @@ module _ (p : Problem) (k : Domains) (rest : AtRest p k) (consistent : inconsist
       (omega (arith, greatest-ending-size p k a u)) (omega (arith, greatest-ending-size p k a v))
       (greatest-ending-step p k a (before-transitive p k consistent a ha (rest-obeyed p k rest)) (before-irreflexive p k consistent a ha) u v hu hv b)
 
-  pub starts-inside : (a u : ℕ) → a < 3 → u < p .items → starts p k a u + p .size a u ≤ p .capacity a
-  unfolding starts
-  starts-inside a u ha hu = omega (arith, chain-fits a u ha hu, greatest-ending-size p k a u)
-
-  abbrev Apart : ℕ → ℕ → Type 0
-  Apart u v = (a : ℕ) × (a < 3) × (EndsBefore p (starts p k) a u v ⊎ EndsBefore p (starts p k) a v u)
-
-  separated-apart : (u v : ℕ) → u < p .items → v < p .items → separated k u v ≡ true → Apart u v
+  separated-apart : (u v : ℕ) → u < p .items → v < p .items → separated k u v ≡ true
+      → (a : ℕ) × (a < 3) × (EndsBefore p (starts p k) a u v ⊎ EndsBefore p (starts p k) a v u)
   unfolding separated
   separated-apart u v hu hv d =
       let (a, ha, e) = some-at 3 (λ a. fixed-before k a u v || fixed-before k a v u) d in
-      (a, ha, go a ha (or-case (fixed-before k a u v) (fixed-before k a v u) e))
-    where
-      go : (a : ℕ) → a < 3 → (fixed-before k a u v ≡ true) ⊎ (fixed-before k a v u ≡ true) → EndsBefore p (starts p k) a u v ⊎ EndsBefore p (starts p k) a v u
-      go a ha (inl b) = inl (starts-before a u v ha hu hv b)
-      go a ha (inr b) = inr (starts-before a v u ha hv hu b)
-
-  pub packed-separated : packed p k ≡ true → (u v : ℕ) → u < v → v < p .items → separated k u v ≡ true
-  unfolding packed
-  packed-separated d u v h hv = all-at v (λ x. separated k x v) (all-at (p .items) (λ y. all-below y (λ x. separated k x y)) d v hv) u h
-
-  swap : {A B : Type 0} → A ⊎ B → B ⊎ A
-  swap (inl x) = inr x
-  swap (inr x) = inl x
+      (a, ha, ⊎-map (starts-before a u v ha hu hv) (starts-before a v u ha hv hu) (or-case (fixed-before k a u v) (fixed-before k a v u) e))
 
   -- the theorem
   pub packed-feasible : Sound p → packed p k ≡ true
       → ((o : Precedence) → List·Memᴰ o (p .precedences) → fixed-before k time (o .predecessor) (o .successor) ≡ true)
       → Feasible p (starts p k)
+  unfolding packed starts
   packed-feasible sound d fixed = record {
-    inside = starts-inside;
-    apart = λ u v hu hv h. go u v hu hv (lt-or-gt u v h);
+    inside = λ a u ha hu. omega (arith, chain-fits a u ha hu, greatest-ending-size p k a u);
+    apart = λ u v hu hv h. elim (lt-or-gt u v h) [
+      | inl l ↦ separated-apart u v hu hv (pairs-at (p .items) (separated k) d u v l hv)
+      | inr l ↦ let (a, ha, s) = separated-apart v u hv hu (pairs-at (p .items) (separated k) d v u l hu) in (a, ha, ⊎-elim inr inl s)
+    ];
     ordered = λ o m. let s = sound .named o m in starts-before time (o .predecessor) (o .successor) (s .axis) (s .item-u) (s .item-v) (fixed o m);
   }
-    where
-      go : (u v : ℕ) → u < p .items → v < p .items → (u < v) ⊎ (v < u) → Apart u v
-      go u v hu hv (inl h) = separated-apart u v hu hv (packed-separated d u v h hv)
-      go u v hu hv (inr h) = let (a, ha, s) = separated-apart v u hv hu (packed-separated d v u h hu) in (a, ha, swap s)

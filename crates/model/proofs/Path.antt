@@ -1,26 +1,22 @@
 -- The domains of a path: all that the search uses of them.
-use mathlib.Core.Bool.{true, false}
-use mathlib.Core.List.{List, [], _∷_, List·Memᴰ, List·Memᴰ·head, List·Memᴰ·tail, List·Memᴰ·not-nil, List·Memᴰ·cases-cons}
-use mathlib.Core.Logic.{_⊎_, inl, inr}
-use mathlib.Core.Path.{_≡_, refl}
-use Prim.Native.Nat.{ℕ, _≤_, _<_}
-use native.Mathlib.Omega.{arith}
+use Rattle.prelude.specs.Names.{true, false, List, [], _∷_, List·Memᴰ, List·Memᴰ·head, List·Memᴰ·tail, List·Memᴰ·not-nil, List·Memᴰ·cases-cons, _⊎_}
+use Rattle.prelude.specs.Names.{inl, inr, ⊎-map, _≡_, refl, ℕ, _<_, arith}
 use Rattle.model.specs.Problem.{Problem, Precedence, Positions, Feasible, time}
 use Rattle.model.specs.Domains.{Domains, gone, without, fixed-before, remove-before, fix-before, full-domains}
 use Rattle.model.specs.Propagate.{propagate}
-use Rattle.model.specs.Branching.{fix-precedences, opening-domains, inconsistent, packed, choice, Branch, first, second, branched, path-domains, plan}
+use Rattle.model.specs.Branching.{fix-precedences, opening-domains, inconsistent, packed, choice, Branch, first, second, branched, path-domains}
+use Rattle.model.specs.Branching.{plan}
 use Rattle.model.specs.Order.{Proper, WellFormed, _⊑_, AtRest, Fork}
 use Rattle.model.specs.Admits.{Sound, Admits}
 use Rattle.model.specs.Weight.{weight}
 use Rattle.model.proofs.Below.{and-intro}
 use Rattle.model.proofs.Slots.{proper-sym, proper-wide}
 use Rattle.model.proofs.Order.{below-refl, below-trans}
-use Rattle.model.proofs.Monotone.{gone-mono}
+use Rattle.model.proofs.Monotone.{gone-mono, fixed-before-mono}
 use Rattle.model.proofs.Without.{without-less, without-well-formed, without-gone}
-use Rattle.model.proofs.Monotone.{fixed-before-mono}
 use Rattle.model.proofs.Propagate.{propagate-less, propagate-well-formed, propagate-at-rest}
 use Rattle.model.proofs.Removal.{fix-before-less, fix-before-well-formed}
-use Rattle.model.proofs.Sound.{propagate-admits, admitted-consistent}
+use Rattle.model.proofs.Sound.{propagate-admits}
 use Rattle.model.proofs.Admits.{full-well-formed, opening-well-formed, opening-admits}
 use Rattle.model.proofs.Fork.{choice-fork, branched-less, branched-well-formed, fork-split}
 use Rattle.model.proofs.Packed.{packed-feasible}
@@ -45,19 +41,11 @@ precedences-fixed : (l : List Precedence) (k : Domains) → WellFormed k → ((o
 precedences-fixed [] k w h o m = absurd (List·Memᴰ·not-nil m)
 precedences-fixed (x ∷ l) k w h o m =
     let j = fix-before k time (x .predecessor) (x .successor) in
-    go (List·Memᴰ·cases-cons m)
-    (λ d. precedences-fixed l j (fix-before-well-formed k time (x .predecessor) (x .successor) w) (λ y q. h y (List·Memᴰ·tail q)) o d)
-  where
-    Fixed : Type 0
-    Fixed = fixed-before (fix-precedences l (fix-before k time (x .predecessor) (x .successor))) time (o .predecessor) (o .successor) ≡ true
-
-    go : (o ≡ x) ⊎ List·Memᴰ o l → (List·Memᴰ o l → Fixed) → Fixed
-    go (inl e) ih =
-        let j = fix-before k time (x .predecessor) (x .successor) in
-        rw e
-        (fixed-before-mono (fix-precedences l j) j (precedences-less l j) time (x .predecessor) (x .successor)
-        (fix-before-fixed k (x .predecessor) (x .successor) w (h x (List·Memᴰ·head refl))))
-    go (inr d) ih = ih d
+    elim (List·Memᴰ·cases-cons m) [
+      | inl e ↦ rw e (fixed-before-mono (fix-precedences l j) j (precedences-less l j) time (x .predecessor) (x .successor)
+          (fix-before-fixed k (x .predecessor) (x .successor) w (h x (List·Memᴰ·head refl))))
+      | inr d ↦ precedences-fixed l j (fix-before-well-formed k time (x .predecessor) (x .successor) w) (λ y q. h y (List·Memᴰ·tail q)) o d
+    ]
 
 module _ (p : Problem) where
   pub path-root : path-domains p [] ≡ propagate p (opening-domains p)
@@ -68,11 +56,16 @@ module _ (p : Problem) where
   unfolding path-domains
   path-branch b path = refl
 
+  -- they are a propagation
+  propagated : (path : List Branch) → (k : Domains) × WellFormed k × (path-domains p path ≡ propagate p k)
+  propagated [] = (opening-domains p, opening-well-formed p, path-root)
+  propagated (b ∷ path) =
+      let (k, w, e) = propagated path in
+      let j = path-domains p path in
+      (branched j b, branched-well-formed j b (rw e (propagate-well-formed p k w)), path-branch b path)
+
   pub path-well-formed : (path : List Branch) → WellFormed (path-domains p path)
-  path-well-formed [] = rw path-root (propagate-well-formed p (opening-domains p) (opening-well-formed p))
-  path-well-formed (b ∷ path) =
-      let k = path-domains p path in
-      rw path-branch (propagate-well-formed p (branched k b) (branched-well-formed k b (path-well-formed path)))
+  path-well-formed path = let (k, w, e) = propagated path in rw e (propagate-well-formed p k w)
 
   -- a branch more is a relation less
   pub path-less : (b : Branch) (path : List Branch) → path-domains p (b ∷ path) ⊑ path-domains p path
@@ -86,24 +79,14 @@ module _ (p : Problem) where
 
 module _ (p : Problem) (sound : Sound p) (path : List Branch) where
   pub path-at-rest : AtRest p (path-domains p path)
-  path-at-rest = go path
-    where
-      go : (path : List Branch) → AtRest p (path-domains p path)
-      go [] = rw path-root (propagate-at-rest p (sound .limited) (opening-domains p) (opening-well-formed p))
-      go (b ∷ path) =
-          let k = path-domains p path in
-          rw path-branch (propagate-at-rest p (sound .limited) (branched k b) (branched-well-formed k b (path-well-formed p path)))
-
-  pub path-precedences : (o : Precedence) → List·Memᴰ o (p .precedences) → fixed-before (path-domains p path) time (o .predecessor) (o .successor) ≡ true
-  unfolding opening-domains
-  path-precedences o m =
-      fixed-before-mono (path-domains p path) (opening-domains p) (path-opening p path) time (o .predecessor) (o .successor)
-      (precedences-fixed (p .precedences) full-domains full-well-formed (λ x n. proper-wide (omega (arith, sound .limited)) (sound .named x n)) o m)
+  path-at-rest = let (k, w, e) = propagated p path in rw e (propagate-at-rest p (sound .limited) k w)
 
   -- a packed path's plan is feasible
   pub plan-feasible : inconsistent p (path-domains p path) ≡ false → packed p (path-domains p path) ≡ true → Feasible p (plan p path)
-  unfolding plan
-  plan-feasible consistent done = packed-feasible p (path-domains p path) path-at-rest consistent sound done path-precedences
+  unfolding plan opening-domains
+  plan-feasible consistent done = packed-feasible p (path-domains p path) path-at-rest consistent sound done (λ o m.
+      fixed-before-mono (path-domains p path) (opening-domains p) (path-opening p path) time (o .predecessor) (o .successor)
+      (precedences-fixed (p .precedences) full-domains full-well-formed (λ x n. proper-wide (omega (arith, sound .limited)) (sound .named x n)) o m))
 
   -- a path neither inconsistent nor packed has a place to branch; each branch lowers the weight
   pub path-fork : inconsistent p (path-domains p path) ≡ false → packed p (path-domains p path) ≡ false → Fork p (path-domains p path) (choice (path-domains p path))
@@ -113,32 +96,23 @@ module _ (p : Problem) (sound : Sound p) (path : List Branch) where
       → weight p (path-domains p (b ∷ path)) < weight p (path-domains p path)
   path-weight f b =
       let k = path-domains p path in
-      rw path-branch
-      (le-trans-lt (weight-mono p (propagate p (branched k b)) (branched k b) (propagate-less p (branched k b)))
-      (weight-branch p (sound .limited) k (path-well-formed p path) f b))
-    where
-      le-trans-lt : {x y z : ℕ} → x ≤ y → y < z → x < z
-      le-trans-lt h g = omega arith
+      rw path-branch (omega (
+        arith,
+        weight-mono p (propagate p (branched k b)) (branched k b) (propagate-less p (branched k b)),
+        weight-branch p (sound .limited) k (path-well-formed p path) f b,
+      ))
 
-  -- what a path admits one of its branches admits, and an inconsistent path admits nothing
+  -- what a path admits one of its branches admits
   module _ (q : Positions) (feasible : Feasible p q) where
     pub path-split : Fork p (path-domains p path) (choice (path-domains p path)) → Admits p (path-domains p path) q
         → Admits p (path-domains p (first ∷ path)) q ⊎ Admits p (path-domains p (second ∷ path)) q
-    path-split f α = go (fork-split p sound q k (path-well-formed p path) α f)
+    path-split f α = ⊎-map (on first) (on second) (fork-split p sound q k (path-well-formed p path) α f)
       where
         k : Domains
         k = path-domains p path
 
         on : (b : Branch) → Admits p (branched k b) q → Admits p (path-domains p (b ∷ path)) q
         on b β = rw path-branch (propagate-admits p sound q feasible (branched k b) (branched-well-formed k b (path-well-formed p path)) β)
-
-        go : Admits p (branched k first) q ⊎ Admits p (branched k second) q
-            → Admits p (path-domains p (first ∷ path)) q ⊎ Admits p (path-domains p (second ∷ path)) q
-        go (inl β) = inl (on first β)
-        go (inr β) = inr (on second β)
-
-    pub path-consistent : Admits p (path-domains p path) q → inconsistent p (path-domains p path) ≡ false
-    path-consistent α = admitted-consistent p sound q feasible (path-domains p path) α
 
 -- the empty path admits every feasible packing
 pub root-admits : (p : Problem) → Sound p → (q : Positions) → Feasible p q → Admits p (path-domains p []) q

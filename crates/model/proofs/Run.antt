@@ -1,15 +1,10 @@
 -- The run of the search ends, and says infeasible only where no packing is left: one induction on the weight.
-use mathlib.Core.Path.{_≡_, refl, sym, ap, subst}
-use mathlib.Core.Logic.{_⊎_, inl, inr, ⊎-elim, _↔_}
-use mathlib.Core.Bool.{true, false≢true}
-use mathlib.Core.List.{List, [], _∷_}
-use Prim.Native.Nat.{ℕ, zero, suc, _+_, _≤_, _<_}
-use native.Mathlib.Nat.{le-refl}
-use native.Mathlib.Omega.{arith}
-use lib.ListN.{length}
+use Rattle.prelude.specs.Names.{_≡_, refl, sym, ap, subst, _⊎_, inl, inr, ⊎-elim, _↔_, true, false≢true, List, [], _∷_, ℕ, zero, suc, _+_, _≤_, _<_}
+use Rattle.prelude.specs.Names.{le-refl, arith, length}
 use Rattle.model.specs.Branching.{Branch, first, second}
 use Rattle.model.specs.Machine.{Open, steps, Count, Invariant}
-use Rattle.model.specs.Search.{Outlook, conflict, complete, fork, Checkpoint, open-at, infeasible, packed-at, backtrack, act, step, searching, opening, Forking, Follows, is-fork, is-complete, forking, follows, path-count, Laws}
+use Rattle.model.specs.Search.{Outlook, conflict, complete, fork, Checkpoint, open-at, infeasible, packed-at, backtrack, act, step, searching}
+use Rattle.model.specs.Search.{opening, Forking, Follows, is-fork, is-complete, forking, follows, path-count, Laws}
 use Rattle.model.proofs.Below.{and-intro, and-both}
 use Rattle.model.proofs.Machine.{Way, here, on, join, way-ends, way-counts, steps-keep}
 
@@ -38,14 +33,18 @@ module _ (look : List Branch → Outlook) where
 
   -- the tests agree with what they test
   fork-so : (o : Outlook) → (is-fork o ≡ true) ↔ (o ≡ fork)
-  fork-so conflict = ((λ e. absurd (false≢true e)), (λ e. ap is-fork e))
-  fork-so complete = ((λ e. absurd (false≢true e)), (λ e. ap is-fork e))
-  fork-so fork = ((λ e. refl), (λ e. refl))
+  fork-so o = (
+    elim o as (λ o. is-fork o ≡ true → o ≡ fork)
+        [ conflict ↦ λ e. absurd (false≢true e) | complete ↦ λ e. absurd (false≢true e) | fork ↦ λ e. refl ],
+    λ e. ap is-fork e,
+  )
 
   complete-so : (o : Outlook) → (is-complete o ≡ true) ↔ (o ≡ complete)
-  complete-so conflict = ((λ e. absurd (false≢true e)), (λ e. ap is-complete e))
-  complete-so complete = ((λ e. refl), (λ e. refl))
-  complete-so fork = ((λ e. absurd (false≢true e)), (λ e. ap is-complete e))
+  complete-so o = (
+    elim o as (λ o. is-complete o ≡ true → o ≡ complete)
+        [ conflict ↦ λ e. absurd (false≢true e) | complete ↦ λ e. refl | fork ↦ λ e. absurd (false≢true e) ],
+    λ e. ap is-complete e,
+  )
 
   pub forking-so : (path : List Branch) → (forking look path ≡ true) ↔ Forking look path
   forking-so [] = ((λ e. tt), (λ e. refl))
@@ -103,7 +102,12 @@ module _ (look : List Branch → Outlook) where
           ⊎ ((path : List Branch) × (steps (searching look) count opening ≡ packed-at path) × (Forking look path × (look path ≡ complete)))
 
     ends-by : (w : ℕ) → Leaves (path-count w) [] → Ends w
-    ends-by w (empty {i} p m f) = record { count = i; bounded = m; counts = way-counts (searching look) tt p; end = inl (way-ends (searching look) p, (λ x. f x (L .root-admits x))) }
+    ends-by w (empty {i} p m f) = record {
+      count = i;
+      bounded = m;
+      counts = way-counts (searching look) tt p;
+      end = inl (way-ends (searching look) p, (λ x. f x (L .root-admits x)));
+    }
     ends-by w (found {i} {end = q} p m) = record {
       count = i;
       bounded = m;

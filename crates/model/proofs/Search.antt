@@ -1,53 +1,43 @@
 -- What a path's outlook says of its domains, and the laws that the search needs of paths.
-use mathlib.Core.Bool.{Bool, true, false, true≢false}
-use mathlib.Core.List.{List, []}
-use mathlib.Core.Path.{_≡_, refl, sym, _∙_}
-use Prim.Native.Nat.{ℕ, _*_, _-_, _≤_}
-use native.Mathlib.Omega.{arith}
-use lib.Dec.{leb}
-use borrow.Author.Tests.{leb-true}
+use Rattle.prelude.specs.Names.{Bool, true, false, List, [], _≡_, refl, subst, _*_, _-_, _≤_, arith, leb, leb-true}
 use Rattle.model.specs.Problem.{Problem, Positions, Feasible}
 use Rattle.model.specs.Branching.{Branch, inconsistent, packed, path-domains}
 use Rattle.model.specs.Admits.{Sound, Admits}
 use Rattle.model.specs.Weight.{weight}
-use Rattle.model.specs.Search.{conflict, complete, fork, opening, path-count, Laws}
+use Rattle.model.specs.Search.{Outlook, conflict, complete, fork, opening, path-count, Laws}
 use Rattle.model.specs.Run.{outlook, look, machine, path-limit, step-count}
-use Rattle.model.proofs.Below.{all-at}
+use Rattle.model.proofs.Below.{all-at, clash}
 use Rattle.model.proofs.Weight.{weight-bound}
-use Rattle.model.proofs.Path.{path-fork, path-weight, path-split, path-consistent, root-admits}
+use Rattle.model.proofs.Path.{path-fork, path-weight, path-split, root-admits}
+use Rattle.model.proofs.Sound.{admitted-consistent}
 use Rattle.model.proofs.Run.{Ends, ends}
 use Rattle.model.proofs.Machine.{taken-is}
 
 -- what the tests say where a path shows this or that
-shows-conflict : (i c : Bool) → outlook i c ≡ conflict → i ≡ true
-shows-conflict true c e = refl
-shows-conflict false true e = cc
-shows-conflict false false e = cc
+abbrev Seen : Outlook → Bool → Bool → Type 0
+Seen conflict i c = i ≡ true
+Seen complete i c = (i ≡ false) × (c ≡ true)
+Seen fork i c = (i ≡ false) × (c ≡ false)
 
-shows-complete : (i c : Bool) → outlook i c ≡ complete → (i ≡ false) × (c ≡ true)
-shows-complete true c e = let z : true ≡ false = cc in absurd (true≢false z)
-shows-complete false true e = (refl, refl)
-shows-complete false false e = (refl, cc)
-
-shows-fork : (i c : Bool) → outlook i c ≡ fork → (i ≡ false) × (c ≡ false)
-shows-fork true c e = let z : true ≡ false = cc in absurd (true≢false z)
-shows-fork false true e = (refl, cc)
-shows-fork false false e = (refl, refl)
+seen : (i c : Bool) → Seen (outlook i c) i c
+seen true c = refl
+seen false true = (refl, refl)
+seen false false = (refl, refl)
 
 module _ (p : Problem) where
-  pub look-conflict : (path : List Branch) → look p path ≡ conflict → inconsistent p (path-domains p path) ≡ true
+  look-seen : (path : List Branch) {o : Outlook} → look p path ≡ o → Seen o (inconsistent p (path-domains p path)) (packed p (path-domains p path))
   unfolding look
-  look-conflict path e = shows-conflict _ _ e
+  look-seen path e =
+      let (i, c) : Bool × Bool = (inconsistent p (path-domains p path), packed p (path-domains p path)) in
+      subst (λ (o : Outlook). Seen o i c) e (seen i c)
 
   pub look-complete : (path : List Branch) → look p path ≡ complete
       → (inconsistent p (path-domains p path) ≡ false) × (packed p (path-domains p path) ≡ true)
-  unfolding look
-  look-complete path e = shows-complete _ _ e
+  look-complete path e = look-seen path e
 
   pub look-fork : (path : List Branch) → look p path ≡ fork
       → (inconsistent p (path-domains p path) ≡ false) × (packed p (path-domains p path) ≡ false)
-  unfolding look
-  look-fork path e = shows-fork _ _ e
+  look-fork path e = look-seen path e
 
   -- and the other way round
   pub look-by : (path : List Branch) {i c : Bool} → inconsistent p (path-domains p path) ≡ i → packed p (path-domains p path) ≡ c → look p path ≡ outlook i c
@@ -62,16 +52,11 @@ module _ (p : Problem) where
 abbrev pub FeasiblePacking : Problem → Type 0
 FeasiblePacking p = (q : Positions) × Feasible p q
 
-abbrev pub PathAdmits : (p : Problem) → List Branch → FeasiblePacking p → Type 0
-PathAdmits p path x = Admits p (path-domains p path) (x .0)
-
-abbrev pub path-load : Problem → List Branch → ℕ
-path-load p path = weight p (path-domains p path)
-
-pub search-laws : (p : Problem) → Sound p → Laws (look p) (FeasiblePacking p) (PathAdmits p) (path-load p)
+pub search-laws : (p : Problem) → Sound p
+    → Laws (look p) (FeasiblePacking p) (λ path x. Admits p (path-domains p path) (x .0)) (λ path. weight p (path-domains p path))
 search-laws p σ = record {
   root-admits = λ x. root-admits p σ (x .0) (x .1);
-  conflict-admits-none = λ path l e x a. true≢false (sym (look-conflict p path e) ∙ path-consistent p σ path (x .0) (x .1) a);
+  conflict-admits-none = λ path l e x a. clash (look-seen p path e) (admitted-consistent p σ (x .0) (x .1) (path-domains p path) a);
   fork-splits = λ path l e x a. let (i, c) = look-fork p path e in path-split p σ path (x .0) (x .1) (path-fork p σ path i c) a;
   weight-falls = λ path l e b. let (i, c) = look-fork p path e in path-weight p σ path (path-fork p σ path i c) b;
 }
@@ -82,11 +67,8 @@ limit-270 p h = leb-true _ _ (all-at 11 (λ n. leb (3 * (n * (n - 1))) 270) refl
 
 -- the run ends, and the step count is its number of steps
 module _ (p : Problem) (σ : Sound p) where
-  pub root-weight : path-load p [] ≤ path-limit p
-  root-weight = weight-bound p (path-domains p [])
-
   pub ended : Ends (look p) (search-laws p σ) (path-limit p)
-  ended = ends (look p) (search-laws p σ) (path-limit p) root-weight
+  ended = ends (look p) (search-laws p σ) (path-limit p) (weight-bound p (path-domains p []))
 
   pub count-is : step-count p ≡ ended .count
   unfolding step-count

@@ -1,11 +1,5 @@
 -- What the planner's mathematics comes to, in document 01's order.
-use mathlib.Core.Bool.{true}
-use mathlib.Core.List.{List}
-use mathlib.Core.Logic.{_↔_, _⊎_, inl, inr}
-use mathlib.Core.Path.{_≡_, sym, _∙_, subst}
-use Prim.Native.Nat.{ℕ, _+_, _≤_, _<_}
-use native.Mathlib.Omega.{arith}
-use lib.ListN.{length}
+use Rattle.prelude.specs.Names.{true, List, [], _↔_, inl, inr, _≡_, sym, _∙_, subst, ℕ, _+_, _≤_, _<_, arith, length}
 use Rattle.model.specs.Problem.{Problem, Positions, Feasible, feasible}
 use Rattle.model.specs.Domains.{Domains}
 use Rattle.model.specs.Propagate.{propagate}
@@ -14,20 +8,21 @@ use Rattle.model.specs.Order.{WellFormed, Between, AtRest}
 use Rattle.model.specs.Removals.{Removed, path-removals}
 use Rattle.model.specs.Admits.{Sound, Admits}
 use Rattle.model.specs.Machine.{steps, taken, Finished, Count}
-use Rattle.model.specs.Search.{complete, fork, Checkpoint, open-at, infeasible, packed-at, opening, Forking, Follows, follows, path-count}
+use Rattle.model.specs.Search.{fork, Checkpoint, open-at, infeasible, packed-at, opening, Forking, Follows, follows, path-count}
 use Rattle.model.specs.Calls.{budget-spent, packing, answer}
 use Rattle.model.specs.Lists.{Service, Serves, Claim}
 use Rattle.model.specs.Run.{look, machine, plan-at, search, path-limit, run, step-count}
 use Rattle.model.proofs.Feasible.{feasible-so}
 use Rattle.model.proofs.Propagate.{propagate-at-rest, between-rest}
 use Rattle.model.proofs.Sound.{propagate-admits}
+use Rattle.model.proofs.Weight.{weight-bound}
 use Rattle.model.proofs.Path.{plan-feasible}
 use Rattle.model.proofs.Removals.{any-order, one-propagation}
 use Rattle.model.proofs.Machine.{steps-add, taken-add, finished-stays, finished-takes-none, past-count, count-unique}
 use Rattle.model.proofs.Run.{follows-invariant, steps-follow, follows-so, path-bound, fork-bound}
 use Rattle.model.proofs.Calls.{spent-takes-all}
 use Rattle.model.proofs.Lists.{claim}
-use Rattle.model.proofs.Search.{look-complete, FeasiblePacking, search-laws, limit-270, root-weight, ended, count-is}
+use Rattle.model.proofs.Search.{look-complete, search-laws, limit-270, ended, count-is}
 
 -- Document 01, "Fit"
 
@@ -71,10 +66,10 @@ pub data RunEnds (p : Problem) : Type 0 where
 module _ (p : Problem) (σ : Sound p) where
   -- "A row of turns has at most 3 × n × (n − 1) entries", and one that is a branching point has fewer
   pub path-most : (path : List Branch) → Forking (look p) path → length path ≤ path-limit p
-  path-most path f = omega (arith, path-bound (look p) (search-laws p σ) path f, root-weight p σ)
+  path-most path f = omega (arith, path-bound (look p) (search-laws p σ) path f, weight-bound p (path-domains p []))
 
   pub fork-most : (path : List Branch) → Forking (look p) path → look p path ≡ fork → length path < path-limit p
-  fork-most path f e = omega (arith, fork-bound (look p) (search-laws p σ) path f e, root-weight p σ)
+  fork-most path f e = omega (arith, fork-bound (look p) (search-laws p σ) path f e, weight-bound p (path-domains p []))
 
   pub path-270 : (path : List Branch) → Forking (look p) path → length path ≤ 270
   path-270 path f = omega (arith, path-most path f, limit-270 p (σ .limited))
@@ -99,24 +94,19 @@ module _ (p : Problem) (σ : Sound p) where
 
   -- the run ends infeasible, and nothing fits; or packed, with a plan that fits
   pub run-ends : RunEnds p
-  run-ends = go (ended p σ .end)
-    where
-      at-end : run p ≡ steps (machine p) (ended p σ .count) opening
-      at-end = sym (run-after (ended p σ .count) (omega (arith, count-is p σ)))
-
-      go : ((steps (machine p) (ended p σ .count) opening ≡ infeasible) × (FeasiblePacking p → ⊥))
-          ⊎ ((path : List Branch) × (steps (machine p) (ended p σ .count) opening ≡ packed-at path) × (Forking (look p) path × (look p path ≡ complete)))
-          → RunEnds p
-      go (inl (e, f)) = ends-infeasible (at-end ∙ e) (λ q h. f (q, h))
-      go (inr (path, e, f)) = ends-packed path (at-end ∙ e) (packed-feasible path f)
+  run-ends =
+      let at-end : run p ≡ steps (machine p) (ended p σ .count) opening = sym (run-after (ended p σ .count) (omega (arith, count-is p σ))) in
+      elim (ended p σ .end) [
+        | inl (e, f) ↦ ends-infeasible (at-end ∙ e) (λ q h. f (q, h))
+        | inr (path, e, f) ↦ ends-packed path (at-end ∙ e) (packed-feasible path f)
+      ]
 
   -- none exactly when nothing fits
   pub infeasible-exactly : (run p ≡ infeasible) ↔ ((q : Positions) → Feasible p q → ⊥)
-  infeasible-exactly = go run-ends
-    where
-      go : RunEnds p → (run p ≡ infeasible) ↔ ((q : Positions) → Feasible p q → ⊥)
-      go (ends-infeasible e f) = ((λ _. f), (λ _. e))
-      go (ends-packed path e f) = ((λ i. let z : _≡_ {A = ℕ} 0 1 = cc in absurd (omega arith)), (λ h. absurd (h (plan p path) f)))
+  infeasible-exactly = elim run-ends [
+    | ends-infeasible e f ↦ ((λ _. f), (λ _. e))
+    | ends-packed path e f ↦ ((λ i. let z : _≡_ {A = ℕ} 0 1 = cc in absurd (omega arith)), (λ h. absurd (h (plan p path) f)))
+  ]
 
   -- whatever call answers with a plan, it fits
   pub answer-feasible : (budget : ℕ) (κ : Checkpoint) → Follows (look p) κ → (q : Positions) → search p budget κ .answer ≡ packing q → Feasible p q

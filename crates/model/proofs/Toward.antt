@@ -1,12 +1,7 @@
 -- Rule 5 inside the event loop. A table under the chains of every goal stays so as its numbers go on along links, and what it finds too long no
 -- goal has. Where nothing is pending, the domains are the propagation and the table is exact.
-use mathlib.Core.Bool.{Bool, true, false}
-use mathlib.Core.Logic.{_⊎_, inl, inr, ⊎-elim, ⊎-map}
-use mathlib.Core.Path.{_≡_, refl, sym, _∙_}
-use Prim.Native.Nat.{ℕ, zero, suc, _≤_, _<_}
-use native.Mathlib.Nat.{le-refl, le-trans}
-use native.Mathlib.Omega.{arith}
-use borrow.Author.Tests.{ltb-true, not-true}
+use Rattle.prelude.specs.Names.{true, false, _⊎_, inl, inr, ⊎-elim, ⊎-map, _≡_, sym, _∙_, ℕ, zero, suc, _≤_, _<_, le-refl, le-trans, arith, ltb-true}
+use Rattle.prelude.specs.Names.{not-true}
 use Rattle.model.specs.Problem.{Problem}
 use Rattle.model.specs.Domains.{Domains, may-before}
 use Rattle.model.specs.Rules.{joined, rule5, asks}
@@ -18,7 +13,7 @@ use Rattle.model.specs.Claims.{forced}
 use Rattle.model.specs.Clauses.{of, Obeyed}
 use Rattle.model.specs.Toward.{Goal, Direction, greatest, Linked, extended, Table, Under, Toward, Links, Cuts, ClosedBut, Closed}
 use Rattle.model.proofs.Below.{stays, clash}
-use Rattle.model.proofs.Order.{below-eq}
+use Rattle.model.proofs.Order.{implies-eq, below-eq}
 use Rattle.model.proofs.Ends.{joined-mono}
 use Rattle.model.proofs.Monotone.{greatest-ending-mono, greatest-starting-mono}
 use Rattle.model.proofs.Chains.{greatest-ending-size, greatest-starting-size, greatest-ending-step, greatest-starting-step}
@@ -39,15 +34,10 @@ by-direction P f g (suc zero) d = f
 by-direction P f g (suc (suc zero)) d = g
 by-direction P f g (suc (suc (suc x))) d = absurd (omega (arith, d .most))
 
--- Chains in one direction
-module _ (p : Problem) (a : ℕ) where
-  pub extended-mono : (x v z : ℕ) → Direction x → {m n : ℕ} → m ≤ n → extended x p a v z m ≤ extended x p a v z n
-  extended-mono x v z d {m} {n} h =
-      by-direction (λ x. extended x p a v z m ≤ extended x p a v z n) (joined-mono p a z v (le-refl _) h) (joined-mono p a v z h (le-refl _)) x d
-
-  pub greatest-mono : (f k : Domains) → f ⊑ k → (x u : ℕ) → Direction x → greatest x p k a u ≤ greatest x p f a u
-  greatest-mono f k h x u =
-      by-direction (λ x. greatest x p k a u ≤ greatest x p f a u) (greatest-starting-mono f k h p a u) (greatest-ending-mono f k h p a u) x
+-- a longer chain makes a longer one
+extended-mono : (p : Problem) (a x v z : ℕ) → Direction x → {m n : ℕ} → m ≤ n → extended x p a v z m ≤ extended x p a v z n
+extended-mono p a x v z d {m} {n} h =
+    by-direction (λ x. extended x p a v z m ≤ extended x p a v z n) (joined-mono p a z v (le-refl _) h) (joined-mono p a v z h (le-refl _)) x d
 
 -- the measures alone
 pub under-sizes : (p : Problem) (f : Domains) → Under p (λ x. p .size) f
@@ -56,36 +46,29 @@ under-sizes p f x a u d ha hu =
 
 -- a table under domains is under all that have lost more: that of the last fork serves its branches
 pub under-mono : (p : Problem) (f k : Domains) → f ⊑ k → (t : Table) → Under p t k → Under p t f
-under-mono p f k h t under x a u d ha hu = le-trans (under x a u d ha hu) (greatest-mono p a f k h x u d)
+under-mono p f k h t under x a u d ha hu = le-trans (under x a u d ha hu)
+    (by-direction (λ x. greatest x p k a u ≤ greatest x p f a u) (greatest-starting-mono f k h p a u) (greatest-ending-mono f k h p a u) x d)
 
 -- One goal. Its "before" is a strict order, whatever that of the present domains is
 module _ (p : Problem) (f : Domains) (goal : Goal p f) where
-  -- a link of the goal lengthens its chains
-  goal-step : (x a v z : ℕ) → Direction x → a < 3 → v < p .items → z < p .items → Linked x f a v z
-      → extended x p a v z (greatest x p f a v) ≤ greatest x p f a z
-  goal-step x a v z d ha hv hz =
-      let trans = before-transitive p f (goal .consistent) a ha (rest-obeyed p f (goal .rest)) in
-      let irreflexive = before-irreflexive p f (goal .consistent) a ha in
-      by-direction (λ x. Linked x f a v z → extended x p a v z (greatest x p f a v) ≤ greatest x p f a z)
-      (λ l. greatest-starting-step p f a trans irreflexive z v hz hv (sym (forced-after-is f a v z) ∙ l))
-      (λ l. greatest-ending-step p f a trans irreflexive v z hv hz (sym (forced-before-is f a v z) ∙ l)) x d
-
-  -- none of them is longer than the container
+  -- none of its chains is longer than the container
   pub goal-fits : (x a u : ℕ) → Direction x → a < 3 → u < p .items → greatest x p f a u ≤ p .capacity a
   goal-fits x a u d ha hu =
       by-direction (λ x. greatest x p f a u ≤ p .capacity a) (starting-fits p f (goal .rest) (goal .consistent) a u ha hu)
       (chain-fits p f (goal .rest) (goal .consistent) a u ha hu) x d
 
   module _ (t : Table) (under : Under p t f) where
-    -- so no number is greater
-    pub under-fit : (x a u : ℕ) → Direction x → a < 3 → u < p .items → t x a u ≤ p .capacity a
-    under-fit x a u d ha hu = le-trans (under x a u d ha hu) (goal-fits x a u d ha hu)
-
     -- what a number makes along a link of domains above the goal is under it as well
     pub under-link : (k : Domains) → f ⊑ k → (x a v z : ℕ) → Direction x → a < 3 → v < p .items → z < p .items → Linked x k a v z
         → extended x p a v z (t x a v) ≤ greatest x p f a z
     under-link k h x a v z d ha hv hz l =
-        le-trans (extended-mono p a x v z d (under x a v d ha hv)) (goal-step x a v z d ha hv hz (holds-mono f k h (of (forced x) a v z) l))
+        let trans = before-transitive p f (goal .consistent) a ha (rest-obeyed p f (goal .rest)) in
+        let irreflexive = before-irreflexive p f (goal .consistent) a ha in
+        le-trans (extended-mono p a x v z d (under x a v d ha hv))
+        (by-direction (λ x. Linked x f a v z → extended x p a v z (greatest x p f a v) ≤ greatest x p f a z)
+        (λ l. greatest-starting-step p f a trans irreflexive z v hz hv (sym (forced-after-is f a v z) ∙ l))
+        (λ l. greatest-ending-step p f a trans irreflexive v z hv hz (sym (forced-before-is f a v z) ∙ l)) x d
+        (holds-mono f k h (of (forced x) a v z) l))
 
     pub under-link-fit : (k : Domains) → f ⊑ k → (x a v z : ℕ) → Direction x → a < 3 → v < p .items → z < p .items → Linked x k a v z
         → extended x p a v z (t x a v) ≤ p .capacity a
@@ -99,10 +82,7 @@ module _ (p : Problem) (f : Domains) (goal : Goal p f) where
         let starts = under 1 a v (omega arith) (s .axis) (s .item-v) in
         goal .rest .done 1 a u v (omega arith) s (unfold asks in ask-c2 p f a u v (le-trans l (joined-mono p a u v ends starts)))
 
--- The propagation is a goal, where it is consistent, and every goal lies below it
-pub goal-below : (p : Problem) (k f : Domains) → Goal p f → f ⊑ k → f ⊑ propagate p k
-goal-below p k f g h = propagate-greatest p f k (at-rest-rests p f (g .well-formed) (g .rest)) h
-
+-- The propagation is a goal, where it is consistent
 module _ (p : Problem) (limited : p .items ≤ 10) (k : Domains) (w : WellFormed k) (plain : Untouched (p .items) k) where
   pub end-goal : inconsistent p (propagate p k) ≡ false → Goal p (propagate p k)
   end-goal c = record {
@@ -121,28 +101,25 @@ module _ (p : Problem) (k : Domains) (t : Table) (c : Closed p k t) where
   sure : {A : Type 0} → A ⊎ ⊥ → A
   sure = ⊎-elim (λ x. x) (λ x. absurd x)
 
+  on : (x a v z m : ℕ) → Direction x → a < 3 → v < p .items → z < p .items → Linked x k a v z → m ≤ t x a v → extended x p a v z m ≤ t x a z
+  on x a v z m d ha hv hz l h =
+      le-trans (extended-mono p a x v z d h) (sure (c .on x a v z d (linked-proper (p .items) x k a v z ha hv hz l) l))
+
   pub closed-greatest : (x a u : ℕ) → Direction x → a < 3 → u < p .items → greatest x p k a u ≤ t x a u
   closed-greatest x a u d ha hu =
-      by-direction (λ x. Steps x → greatest x p k a u ≤ t x a u)
-      (λ s. greatest-starting-within p k a (t 1 a) (λ v hv. c .size 1 a v (omega arith) ha hv)
-      (λ z v m hz hv b l. s v z m hv hz (forced-after-is k a v z ∙ b) l) u hu)
-      (λ s. greatest-ending-within p k a (t 2 a) (λ v hv. c .size 2 a v (omega arith) ha hv)
-      (λ v z m hv hz b l. s v z m hv hz (forced-before-is k a v z ∙ b) l) u hu) x d
-      (λ v z m hv hz l h. le-trans (extended-mono p a x v z d h) (sure (c .on x a v z d (linked-proper (p .items) x k a v z ha hv hz l) l)))
-    where
-      Steps : ℕ → Type 0
-      Steps x = (v z m : ℕ) → v < p .items → z < p .items → Linked x k a v z → m ≤ t x a v → extended x p a v z m ≤ t x a z
+      by-direction (λ x. greatest x p k a u ≤ t x a u)
+      (greatest-starting-within p k a (t 1 a) (λ v hv. c .size 1 a v (omega arith) ha hv)
+      (λ z v m hz hv b. on 1 a v z m (omega arith) ha hv hz (forced-after-is k a v z ∙ b)) u hu)
+      (greatest-ending-within p k a (t 2 a) (λ v hv. c .size 2 a v (omega arith) ha hv)
+      (λ v z m hv hz b. on 2 a v z m (omega arith) ha hv hz (forced-before-is k a v z ∙ b)) u hu) x d
 
   -- so rule 5 asks for nothing that is left
-  closed-rule5 : (a u v : ℕ) → Proper (p .items) a u v → rule5 p k a u v ≡ true → may-before k a u v ≡ false
+  closed-rests : Obeyed (p .items) k → AtRest p k
   unfolding rule5 gone
-  closed-rule5 a u v s e =
+  closed-rests o = obeyed-at-rest p k o λ a u v s e.
       let ends = closed-greatest 2 a u (omega arith) (s .axis) (s .item-u) in
       let starts = closed-greatest 1 a v (omega arith) (s .axis) (s .item-v) in
       not-true (may-before k a u v) (sure (c .cut a u v s (le-trans (ltb-true _ _ e) (joined-mono p a u v ends starts))))
-
-  pub closed-rests : Obeyed (p .items) k → AtRest p k
-  closed-rests o = obeyed-at-rest p k o closed-rule5
 
 -- What is pending. Exceptions may be more, but for links that are followed after all
 pub closed-wider : {L L′ : Links} {C C′ : Cuts} {p : Problem} {k : Domains} {t : Table}
@@ -171,40 +148,18 @@ module _ (L : Links) (C : Cuts) (p : Problem) (k : Domains) (t : Table) (c : Clo
     pub closed-grown : ClosedBut (λ x a v z. L x a v z ⊎ G x a v) (λ a u v. C a u v ⊎ (G 2 a u ⊎ G 1 a v)) p k s
     closed-grown = record {
       size = λ x a u d ha hu. le-trans (c .size x a u d ha hu) (up x a u d ha hu);
-      on = λ x a v z d r l. on x a v z d r (kept x a v d (r .axis) (r .item-u)) (c .on x a v z d r l);
-      cut = λ a u v r l. cut a u v r l (kept 2 a u (omega arith) (r .axis) (r .item-u)) (kept 1 a v (omega arith) (r .axis) (r .item-v));
+      on = λ x a v z d r l. elim (kept x a v d (r .axis) (r .item-u)) [
+        | inr g ↦ inr (inr g)
+        | inl e ↦ elim (c .on x a v z d r l) [ inr m ↦ inr (inl m) | inl m ↦ inl (rw e (le-trans m (up x a z d (r .axis) (r .item-v)))) ]
+      ];
+      cut = λ a u v r l. elim (kept 2 a u (omega arith) (r .axis) (r .item-u)) [
+        | inr g ↦ inr (inr (inl g))
+        | inl e ↦ elim (kept 1 a v (omega arith) (r .axis) (r .item-v)) [
+          | inr g ↦ inr (inr (inr g))
+          | inl f ↦ ⊎-map (λ q. q) inl (c .cut a u v r (rw (e, f) at l))
+        ]
+      ];
     }
-      where
-        on : (x a v z : ℕ) → Direction x → Proper (p .items) a v z → (s x a v ≡ t x a v) ⊎ G x a v
-            → (extended x p a v z (t x a v) ≤ t x a z) ⊎ L x a v z → (extended x p a v z (s x a v) ≤ s x a z) ⊎ (L x a v z ⊎ G x a v)
-        on x a v z d r (inr g) l = inr (inr g)
-        on x a v z d r (inl e) (inr l) = inr (inl l)
-        on x a v z d r (inl e) (inl l) = inl (rw e (le-trans l (up x a z d (r .axis) (r .item-v))))
-
-        cut : (a u v : ℕ) → Proper (p .items) a u v → p .capacity a < joined p a u v (s 2 a u) (s 1 a v)
-            → (s 2 a u ≡ t 2 a u) ⊎ G 2 a u → (s 1 a v ≡ t 1 a v) ⊎ G 1 a v → (gone k 1 a u v ≡ true) ⊎ (C a u v ⊎ (G 2 a u ⊎ G 1 a v))
-        cut a u v r l (inr g) f = inr (inr (inl g))
-        cut a u v r l (inl e) (inr g) = inr (inr (inr g))
-        cut a u v r l (inl e) (inl f) = ⊎-map (λ q. q) inl (c .cut a u v r (rw (e, f) at l))
-
-    -- links that are followed are pending no more, and those on from the items that grow are
-    pub closed-next : (M : Links)
-        → ((x a v z : ℕ) → Direction x → Proper (p .items) a v z → Linked x k a v z → L x a v z
-        → (extended x p a v z (s x a v) ≤ s x a z) ⊎ M x a v z) → ((x a v z : ℕ) → G x a v → M x a v z)
-        → ClosedBut M (λ a u v. C a u v ⊎ (G 2 a u ⊎ G 1 a v)) p k s
-    closed-next M done put = closed-wider (λ x a v z d r l. ⊎-elim (done x a v z d r l) (λ g. inr (put x a v z g))) (λ a u v q. q) closed-grown
-
-    -- all links of one item are followed, and it is taken from a worklist
-    pub closed-from : (M : Links) (y b w : ℕ)
-        → ((z : ℕ) → Proper (p .items) b w z → Linked y k b w z → extended y p b w z (s y b w) ≤ s y b z)
-        → ((x a v z : ℕ) → L x a v z → ((x ≡ y) × (a ≡ b) × (v ≡ w)) ⊎ M x a v z) → ((x a v z : ℕ) → G x a v → M x a v z)
-        → ClosedBut M (λ a u v. C a u v ⊎ (G 2 a u ⊎ G 1 a v)) p k s
-    closed-from M y b w linked out = closed-next M (λ x a v z d r l q. at x a v z r l (out x a v z q))
-      where
-        at : (x a v z : ℕ) → Proper (p .items) a v z → Linked x k a v z → ((x ≡ y) × (a ≡ b) × (v ≡ w)) ⊎ M x a v z
-            → (extended x p a v z (s x a v) ≤ s x a z) ⊎ M x a v z
-        at x a v z r l (inl (e, f, g)) = inl (rw (e, f, g) (linked z (rw (f, g) at r) (rw (e, f, g) at l)))
-        at x a v z r l (inr q) = inr q
 
 -- The end: nothing is pending
 module _ (p : Problem) (limited : p .items ≤ 10) (k : Domains) (w : WellFormed k) (plain : Untouched (p .items) k)
@@ -213,14 +168,9 @@ module _ (p : Problem) (limited : p .items ≤ 10) (k : Domains) (w : WellFormed
   end-below = propagate-greatest p j k (at-rest-rests p j (h .well-formed) (closed-rests p j t closed rest)) (h .high)
 
   pub end-verdict : inconsistent p j ≡ inconsistent p (propagate p k)
-  end-verdict = go (inconsistent p j) refl (inconsistent p (propagate p k)) refl
-    where
-      go : (b : Bool) → inconsistent p j ≡ b → (d : Bool) → inconsistent p (propagate p k) ≡ d → b ≡ d
-      go true e true f = refl
-      go false e false f = refl
-      go true e false f =
-          sym (no-goal p limited k w plain (λ i g l. clash (inconsistent-mono p i j (h .low i g l) e) (g .consistent))) ∙ f
-      go false e true f = sym e ∙ inconsistent-mono p j (propagate p k) end-below f
+  end-verdict =
+      implies-eq (λ e. no-goal p limited k w plain (λ i g l. clash (inconsistent-mono p i j (h .low i g l) e) (g .consistent)))
+      (inconsistent-mono p j (propagate p k) end-below)
 
   module _ (consistent : inconsistent p j ≡ false) where
     goal : Goal p (propagate p k)

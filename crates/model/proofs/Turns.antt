@@ -1,39 +1,29 @@
--- A path has at most two first branches for each pair, and its branching pairs never go back in number.
-use mathlib.Core.Bool.{Bool, true, false, not, cond, _&&_, _||_, false≢true}
-use mathlib.Core.List.{List, [], _∷_, _++_, List·Memᴰ, List·Memᴰ·not-nil, List·Memᴰ·cases-cons}
-use mathlib.Core.Logic.{_⊎_, inl, inr}
-use mathlib.Core.Path.{_≡_, refl, sym, _∙_, ap}
-use Prim.Native.Nat.{ℕ, zero, suc, _+_, _*_, _-_, _≤_, _<_}
-use native.Mathlib.Decide.{decLt}
-use native.Mathlib.Omega.{arith}
-use lib.Dec.{eqb, leb}
-use lib.ListN.{length}
-use borrow.Author.Tests.{not-true, eqb-true, leb-true}
+-- A path has at most two first branches for each of the 45 pairs, and its branching pairs never go back in number.
+use Rattle.prelude.specs.Names.{Bool, true, false, not, cond, _||_, List, [], _∷_, _≡_, refl, sym, _∙_, ap, ℕ, suc, _+_, _*_, _-_, _≤_, _<_, decLt}
+use Rattle.prelude.specs.Names.{arith, length, not-true, not-false}
 use Rattle.model.specs.Below.{all-below}
-use Rattle.model.specs.Problem.{Problem, ends-before, inside-test, apart-on-some-axis, apart-test, ordered-test, feasible}
-use Rattle.model.specs.Domains.{Domains, Pair, pairs, pair-number, domain, overlap-bit, before-bit, after-bit, index, index-of, may-overlap, may-before, gone, without, fixed-before, fixed-overlap, remove-overlap, remove-before, fix-before, fix-overlap}
-use Rattle.model.specs.Rules.{joined, longest, ending, starting, greatest-ending, greatest-starting, rule1, rule2, rule3, rule4, rule5, asks-overlap, asks-before}
-use Rattle.model.specs.Propagate.{Slot, slots, kept, pass, passes, propagate}
-use Rattle.model.specs.Branching.{opening-domains, empty, inconsistent, separated, packed, undecided, choice-pair, choice-axis, choice, Branch, first, second, branch-at, branched, path-domains}
+use Rattle.model.specs.Problem.{Problem}
+use Rattle.model.specs.Domains.{Domains, Pair, pairs, pair-number, may-overlap, may-before, gone, without, fixed-before, remove-overlap}
+use Rattle.model.specs.Domains.{remove-before}
+use Rattle.model.specs.Propagate.{Slot, passes}
+use Rattle.model.specs.Branching.{separated, packed, undecided, choice-pair, choice-axis, choice, Branch, first, second, branch-at, branched}
+use Rattle.model.specs.Branching.{path-domains}
 use Rattle.model.specs.Order.{Proper, WellFormed, _⊑_, Fork}
 use Rattle.model.specs.Admits.{Sound}
-use Rattle.model.specs.Weight.{sum-below}
-use Rattle.model.specs.Search.{Outlook, fork, Forking, packed-at, backtrack, Follows, follows}
-use Rattle.model.specs.Trials.{case, problem, xyt, unit}
+use Rattle.model.specs.Search.{fork, Forking}
 use Rattle.model.specs.Run.{look}
-use Rattle.model.specs.Turns.{firsts, saved, resumed, firsts-of, turned, firsts-left, potential, choice-number, Passed}
-use Rattle.model.proofs.Below.{fails, Implies, and-both, and-mono, and-intro, or-mono, or-left, or-right, not-mono, some-mono, all-mono, some-at, some-of, all-at, all-of, First, first-is, first-exists, clash}
-use Rattle.model.proofs.Slots.{no-pair, pair-of, pairs-count, pair-number-small, pair-at-number, proper-sym, proper-up, proper-wide}
-use Rattle.model.proofs.Order.{below-refl, below-trans}
+use Rattle.model.specs.Turns.{firsts, saved, choice-number, Passed}
+use Rattle.model.proofs.Below.{fails, Implies, and-mono, or-mono, some-mono, all-of, none-at, or-neither, stays, First, first-is, first-exists}
+use Rattle.model.proofs.Below.{clash}
+use Rattle.model.proofs.Slots.{no-pair, pair-of, pairs-count, pair-number-small, pair-at-number, proper-sym}
 use Rattle.model.proofs.Domains.{may-overlap-sym, fixed-before-of}
 use Rattle.model.proofs.Without.{without-gone}
-use Rattle.model.proofs.Monotone.{may-overlap-mono, may-before-mono, fixed-before-mono}
+use Rattle.model.proofs.Monotone.{gone-mono, may-overlap-mono, may-before-mono, fixed-before-mono}
 use Rattle.model.proofs.Propagate.{propagate-less}
-use Rattle.model.proofs.Fork.{axes, axis-at, unseparated-pair, choice-pair-is, branched-less}
-use Rattle.model.proofs.Weight.{sum-mono, sum-less}
+use Rattle.model.proofs.Fork.{axes, axis-at, unseparated-pair, choice-pair-is}
 use Rattle.model.proofs.Path.{path-branch, path-well-formed, path-less, path-fork}
-use Rattle.model.proofs.Run.{follows-so}
 use Rattle.model.proofs.Search.{look-fork}
+pub use Rattle.model.proofs.Slots.{number-of-pair}
 
 -- A stack with a snapshot for each first branch is enough to go back
 pub saved-count : (path : List Branch) → length (saved path) ≡ firsts path
@@ -41,336 +31,160 @@ saved-count [] = refl
 saved-count (first ∷ path) = ap suc (saved-count path)
 saved-count (second ∷ path) = saved-count path
 
-pub backtrack-saved : (path : List Branch) → backtrack path ≡ resumed (saved path)
-backtrack-saved [] = refl
-backtrack-saved (first ∷ path) = refl
-backtrack-saved (second ∷ path) = backtrack-saved path
+-- The pairs before the branching pair
 
--- below a snapshot stand those of its own path
-pub saved-below : (path : List Branch) {q : List Branch} {l : List (List Branch)} → saved path ≡ q ∷ l → saved (second ∷ q) ≡ l
-saved-below [] e = cc
-saved-below (first ∷ path) e = cc
-saved-below (second ∷ path) e = saved-below path e
+-- what is passed stays so
+passed-mono : (j k : Domains) (m : ℕ) → j ⊑ k → Passed k m → Passed j m
+unfolding separated
+passed-mono j k m h r i l =
+    let d = pair-of i in
+    some-mono 3 (λ a. or-mono (fixed-before-mono j k h a (d .u) (d .v)) (fixed-before-mono j k h a (d .v) (d .u))) (r i l)
 
--- each is of a branching point, and its path follows too
-pub saved-forks : (look : List Branch → Outlook) (path : List Branch) → Forking look path → (q : List Branch) → List·Memᴰ q (saved path)
-    → (look q ≡ fork) × Forking look q
-saved-forks look [] f q m = absurd (List·Memᴰ·not-nil m)
-saved-forks look (second ∷ path) f q m = saved-forks look path (f .1) q m
-saved-forks look (first ∷ path) f q m = go (List·Memᴰ·cases-cons m) (saved-forks look path (f .1) q)
-  where
-    go : (q ≡ path) ⊎ List·Memᴰ q (saved path) → (List·Memᴰ q (saved path) → (look q ≡ fork) × Forking look q) → (look q ≡ fork) × Forking look q
-    go (inl e) ih = rw e f
-    go (inr d) ih = ih d
+module _ (p : Problem) (limited : p .items ≤ 10) (k : Domains) (f : Fork p k (choice k)) where
+  -- the number of the choice is that of the first pair without a fixed "before"
+  choice-first : First (unseparated-pair k) no-pair pairs (choice-number k)
+  unfolding choice choice-number
+  choice-first =
+      let c = choice-pair k in
+      let i = pair-number (c .u) (c .v) in
+      let l : c .v < 10 = omega arith in
+      let at : pair-of i ≡ c = pair-at-number (c .u) (c .v) (f .place .rising) l no-pair in
+      let small : i < 45 = pair-number-small (c .u) (c .v) (f .place .rising) l in
+      let (j, le, r) = first-exists (unseparated-pair k) no-pair pairs i (rw pairs-count small)
+      (ap (unseparated-pair k) at ∙ ap not (f .unseparated)) in
+      let e : i ≡ j = ap (λ (d : Pair). pair-number (d .u) (d .v)) (choice-pair-is k j r) ∙ number-of-pair j (omega arith) in
+      rw e r
 
--- Removal keeps what is separated, decided and turned
-module _ (j k : Domains) (h : j ⊑ k) (u v : ℕ) where
-  pub separated-mono : Implies (separated k u v) (separated j u v)
-  unfolding separated
-  separated-mono = some-mono 3 (λ a. or-mono (fixed-before-mono j k h a u v) (fixed-before-mono j k h a v u))
+  choice-passed : Passed k (choice-number k)
+  choice-passed i l = not-false _ (choice-first .earlier i l)
 
-  pub undecided-mono : (a : ℕ) → Implies (undecided j a u v) (undecided k a u v)
-  unfolding undecided
-  undecided-mono a =
-      or-mono (and-mono (may-overlap-mono j k h a u v) (or-mono (may-before-mono j k h a u v) (may-before-mono j k h a v u)))
-      (and-mono (may-before-mono j k h a u v) (may-before-mono j k h a v u))
+-- Each pair takes at most two first branches: one that removes overlap, and one that fixes a "before"
 
-  turned-mono : Implies (turned k u v) (turned j u v)
-  unfolding turned
-  turned-mono = some-mono 3 (λ a. and-mono (not-mono (may-overlap-mono j k h a u v)) (all-mono a (λ b. not-mono (undecided-mono b))))
-
-  pub firsts-left-mono : firsts-left j u v ≤ firsts-left k u v
-  unfolding firsts-left
-  firsts-left-mono = go (separated k u v) (turned k u v) (separated j u v) (turned j u v) separated-mono turned-mono
-    where
-      go : (s t s′ t′ : Bool) → Implies s s′ → Implies t t′ → cond s′ 0 (cond t′ 1 2) ≤ cond s 0 (cond t 1 2)
-      go s t true t′ f g = omega arith
-      go true t false t′ f g = absurd (false≢true (f refl))
-      go false true false true f g = omega arith
-      go false true false false f g = absurd (false≢true (g refl))
-      go false false false true f g = omega arith
-      go false false false false f g = omega arith
-
-pub firsts-left-two : (k : Domains) (u v : ℕ) → firsts-left k u v ≤ 2
-unfolding firsts-left
-firsts-left-two k u v = go (separated k u v) (turned k u v)
-  where
-    go : (s t : Bool) → cond s 0 (cond t 1 2) ≤ 2
-    go true t = omega arith
-    go false true = omega arith
-    go false false = omega arith
-
--- The axis of the choice is the first with more than one relation left
-axis-found : (k : Domains) (u v j : ℕ) → First (λ (a : ℕ). undecided k a u v) 0 axes j → choice-axis k u v ≡ j
+-- the axis of the choice is the first with more than one relation left
+axis-least : (k : Domains) (u v b : ℕ) → b < 3 → undecided k b u v ≡ true → choice-axis k u v ≤ b
 unfolding choice-axis
-axis-found k u v j r = first-is (λ (a : ℕ). undecided k a u v) 0 axes j r ∙ axis-at j (r .within)
+axis-least k u v b h e =
+    let f : ℕ → Bool = λ a. undecided k a u v in
+    let (j, le, r) = first-exists f 0 axes b h (rw (axis-at b h) e) in
+    omega (arith, first-is f 0 axes j r ∙ axis-at j (r .within))
 
-axis-earlier : (k : Domains) (u v : ℕ) → choice-axis k u v < 3 → undecided k (choice-axis k u v) u v ≡ true
-    → (b : ℕ) → b < choice-axis k u v → undecided k b u v ≡ false
-axis-earlier k u v hc e b l =
-    let c = choice-axis k u v in
-    let (j, le, r) = first-exists (λ (a : ℕ). undecided k a u v) 0 axes c hc (ap (λ (x : ℕ). undecided k x u v) (axis-at c hc) ∙ e) in
-    let same : choice-axis k u v ≡ j = axis-found k u v j r in
-    ap (λ (x : ℕ). undecided k x u v) (sym (axis-at b (omega arith))) ∙ r .earlier b (omega arith)
-
-fork-earlier : (p : Problem) (k : Domains) → Fork p k (choice k) → (b : ℕ) → b < choice k .axis → undecided k b (choice k .u) (choice k .v) ≡ false
-unfolding choice
-fork-earlier p k f b l = axis-earlier k (choice-pair k .u) (choice-pair k .v) (f .place .axis) (f .several) b l
-
--- without overlap, an axis that is decided separates
-decided-one : (f b : Bool) → (f && b) ≡ false → (f ≡ false) ⊎ (b ≡ false)
-decided-one true b e = inr e
-decided-one false b e = inl refl
-
-module _ (k : Domains) (u v : ℕ) where
-  pub fixed-separated : (a : ℕ) → a < 3 → (fixed-before k a u v ≡ true) ⊎ (fixed-before k a v u ≡ true) → separated k u v ≡ true
+-- without overlap, an axis of a pair without a fixed "before" has both orders left
+module _ (k : Domains) (u v : ℕ) (open-pair : separated k u v ≡ false) (a : ℕ) (ha : a < 3) where
+  unfixed : (fixed-before k a u v ≡ false) × (fixed-before k a v u ≡ false)
   unfolding separated
-  fixed-separated a ha (inl e) = some-of 3 (λ a. fixed-before k a u v || fixed-before k a v u) a ha (or-left (fixed-before k a v u) e)
-  fixed-separated a ha (inr e) = some-of 3 (λ a. fixed-before k a u v || fixed-before k a v u) a ha (or-right (fixed-before k a u v) e)
+  unfixed = or-neither _ _ (none-at 3 (λ b. fixed-before k b u v || fixed-before k b v u) open-pair a ha)
 
-  decided-separated : (a : ℕ) → a < 3 → may-overlap k a u v ≡ false → undecided k a u v ≡ false → separated k u v ≡ true
+  both-orders : may-overlap k a u v ≡ false → undecided k a u v ≡ true
   unfolding undecided
-  decided-separated a ha o e = go (decided-one (may-before k a u v) (may-before k a v u) (lone (may-overlap k a u v) o e))
-    where
-      lone : (o : Bool) → o ≡ false → (o && (may-before k a u v || may-before k a v u) || may-before k a u v && may-before k a v u) ≡ false
-          → (may-before k a u v && may-before k a v u) ≡ false
-      lone true o e = absurd (false≢true (sym o))
-      lone false o e = e
+  both-orders o =
+      let after = stays (may-before k a v u) (λ e. clash (fixed-before-of k a u v o e) (unfixed .0)) in
+      let before = stays (may-before k a u v) (λ e. clash (fixed-before-of k a v u (may-overlap-sym k a u v ∙ o) e) (unfixed .1)) in
+      rw (o, after, before)
 
-      go : (may-before k a u v ≡ false) ⊎ (may-before k a v u ≡ false) → separated k u v ≡ true
-      go (inl f) = fixed-separated a ha (inr (fixed-before-of k a v u (may-overlap-sym k a u v ∙ o) f))
-      go (inr b) = fixed-separated a ha (inl (fixed-before-of k a u v o b))
+-- how many first branches led to the choice, at most: two for each pair before it, and one where overlap is removed already
+halfway : Domains → ℕ
+halfway k = let c = choice k in cond (may-overlap k (c .axis) (c .u) (c .v)) 0 1
 
-  -- at a fork with overlap left the pair has not turned
-  module _ (a : ℕ) (open-pair : separated k u v ≡ false) (several : undecided k a u v ≡ true) (earlier : (b : ℕ) → b < a → undecided k b u v ≡ false) where
-    not-turned : may-overlap k a u v ≡ true → turned k u v ≡ true → ⊥
-    unfolding turned
-    not-turned o e =
-        let (b, hb, d) = some-at 3 (λ a. not (may-overlap k a u v) && all-below a (λ b. not (undecided k b u v))) e in
-        let (x, y) = and-both (not (may-overlap k b u v)) (all-below b (λ b. not (undecided k b u v))) d in
-        go b hb (not-true _ x) y (decLt b a) (decLt a b)
-      where
-        go : (b : ℕ) → b < 3 → may-overlap k b u v ≡ false → all-below b (λ b. not (undecided k b u v)) ≡ true → Dec (b < a) → Dec (a < b) → ⊥
-        go b hb x y (yes l) m = clash (decided-separated b hb x (earlier b l)) open-pair
-        go b hb x y (no l) (yes m) = clash several (not-true _ (all-at b (λ b. not (undecided k b u v)) y a m))
-        go b hb x y (no l) (no m) = let q : b ≡ a = omega arith in clash o (ap (λ (z : ℕ). may-overlap k z u v) (sym q) ∙ x)
+halfway-once : (k : Domains) → halfway k ≤ 1
+unfolding halfway
+halfway-once k =
+    let c = choice k in
+    elim (may-overlap k (c .axis) (c .u) (c .v)) as (λ b. cond b 0 1 ≤ 1) [ true ↦ omega arith | false ↦ omega arith ]
 
--- A first branch lowers what is left of its pair
-first-lowers : (k : Domains) → WellFormed k → (a u v : ℕ) → Proper 10 a u v → separated k u v ≡ false → undecided k a u v ≡ true
-    → ((b : ℕ) → b < a → undecided k b u v ≡ false) → (o : Bool) → may-overlap k a u v ≡ o → branch-at o first k a u v ⊑ k
-    → firsts-left (branch-at o first k a u v) u v < firsts-left k u v
-unfolding firsts-left gone without
-first-lowers k w a u v s open-pair several earlier true e less =
-    go (separated k u v) (turned k u v) (separated j u v) (turned j u v) open-pair
-    (λ t. not-turned k u v a open-pair several earlier e t) now
-  where
-    j : Domains
-    j = remove-overlap k a u v
+undecided-mono : (j k : Domains) → j ⊑ k → (a u v : ℕ) → Implies (undecided j a u v) (undecided k a u v)
+unfolding undecided
+undecided-mono j k h a u v = search (or-mono, and-mono, may-overlap-mono j k h, may-before-mono j k h) depth 7
 
-    decided : (b : ℕ) → b < a → undecided j b u v ≡ false
-    decided b l = fails (undecided-mono j k less u v b) (earlier b l)
+module _ (p : Problem) (limited : p .items ≤ 10) (k : Domains) (w : WellFormed k) (f : Fork p k (choice k))
+    (j : Domains) (less : j ⊑ k) (g : Fork p j (choice j)) where
+  abbrev c : Slot
+  c = choice k
 
-    now : turned j u v ≡ true
-    now = unfold turned in
-        some-of 3 (λ a. not (may-overlap j a u v) && all-below a (λ b. not (undecided j b u v))) a (s .axis)
-        (and-intro (without-gone k 0 w s) (all-of a (λ b. not (undecided j b u v)) (λ b l. ap not (decided b l))))
+  s : Proper 10 (c .axis) (c .u) (c .v)
+  s = omega arith
 
-    go : (s t s′ t′ : Bool) → s ≡ false → (t ≡ true → ⊥) → t′ ≡ true → cond s′ 0 (cond t′ 1 2) < cond s 0 (cond t 1 2)
-    go true t s′ t′ a b c = absurd (false≢true (sym a))
-    go false true s′ t′ a b c = absurd (b refl)
-    go false false s′ false a b c = absurd (false≢true c)
-    go false false true true a b c = omega arith
-    go false false false true a b c = omega arith
-first-lowers k w a u v s open-pair several earlier false e less =
-    go (separated k u v) (turned k u v) (separated j u v) (turned j u v) open-pair
-    (fixed-separated j u v a (s .axis) (inl (fixed-before-of j a u v kept (not-true _ (without-gone k 1 w (proper-sym s))))))
-  where
-    j : Domains
-    j = remove-before k a v u
+  -- no pair that is passed is chosen: numbers never fall
+  rises : choice-number k ≤ choice-number j
+  rises = elim (decLt (choice-number j) (choice-number k)) [
+    | yes l ↦ absurd (clash (passed-mono j k _ less (choice-passed p limited k f) _ l) (not-true _ (choice-first p limited j g .passes)))
+    | no l ↦ omega arith
+  ]
 
-    kept : may-overlap j a u v ≡ false
-    kept = fails (may-overlap-mono j k less a u v) e
+  -- while the choice is of one pair, its axis stays once overlap is removed
+  module _ (same : choice-number k ≡ choice-number j) where
+    same-pair : choice-pair j ≡ choice-pair k
+    same-pair = choice-pair-is j _ (choice-first p limited j g) ∙ (ap pair-of (sym same) ∙ sym (choice-pair-is k _ (choice-first p limited k f)))
 
-    go : (s t s′ t′ : Bool) → s ≡ false → s′ ≡ true → cond s′ 0 (cond t′ 1 2) < cond s 0 (cond t 1 2)
-    go true t s′ t′ a b = absurd (false≢true (sym a))
-    go false t false t′ a b = absurd (false≢true b)
-    go false true true t′ a b = omega arith
-    go false false true t′ a b = omega arith
+    still-open : separated j (c .u) (c .v) ≡ false
+    unfolding choice
+    still-open = rw same-pair at (g .unseparated)
 
-module _ (p : Problem) (limited : p .items ≤ 10) where
-  -- the potential never grows
-  pub potential-mono : (j k : Domains) → j ⊑ k → potential p j ≤ potential p k
-  unfolding potential
-  potential-mono j k h =
-      sum-mono (λ v. sum-below v (λ u. firsts-left j u v)) (λ v. sum-below v (λ u. firsts-left k u v)) (p .items)
-      (λ v hv. sum-mono (λ u. firsts-left j u v) (λ u. firsts-left k u v) v (λ u hu. firsts-left-mono j k h u v))
+    stays-halfway : may-overlap j (c .axis) (c .u) (c .v) ≡ false → halfway j ≡ 1
+    unfolding choice halfway
+    stays-halfway o =
+        let up = axis-least j (c .u) (c .v) (c .axis) (f .place .axis) (both-orders j (c .u) (c .v) still-open (c .axis) (f .place .axis) o) in
+        let down = axis-least k (c .u) (c .v) (choice-axis j (c .u) (c .v)) (rw same-pair at (g .place .axis))
+        (undecided-mono j k less _ _ _ (rw same-pair at (g .several))) in
+        let e : choice-axis j (c .u) (c .v) ≡ c .axis = omega arith in
+        rw (same-pair, e, o)
 
-  module _ (k : Domains) (w : WellFormed k) (f : Fork p k (choice k)) where
-    pub choice-lowers : firsts-left (branched k first) (choice k .u) (choice k .v) < firsts-left k (choice k .u) (choice k .v)
-    unfolding branched
-    choice-lowers =
-        let c = choice k in
-        first-lowers k w (c .axis) (c .u) (c .v) (proper-wide (omega arith) (proper-up (f .place))) (f .unseparated) (f .several) (fork-earlier p k f)
-        (may-overlap k (c .axis) (c .u) (c .v)) refl (unfold branched in branched-less k first)
+    spent : (b : Branch) (o : Bool) → may-overlap k (c .axis) (c .u) (c .v) ≡ o → j ⊑ branch-at o b k (c .axis) (c .u) (c .v)
+        → firsts (b ∷ []) + cond o 0 1 ≤ halfway j
+    unfolding gone without
+    spent first true e h =
+        omega (
+          arith,
+          stays-halfway (not-true _
+              (gone-mono j (remove-overlap k (c .axis) (c .u) (c .v)) h 0 (c .axis) (c .u) (c .v) (without-gone k 0 w s))),
+        )
+    spent first false e h =
+        let q = gone-mono j (remove-before k (c .axis) (c .v) (c .u)) h 1 (c .axis) (c .v) (c .u) (without-gone k 1 w (proper-sym s)) in
+        absurd (clash (fixed-before-of j _ _ _ (fails (may-overlap-mono j k less _ _ _) e) (not-true _ q))
+        (unfixed j _ _ still-open (c .axis) (f .place .axis) .0))
+    spent second true e h = omega arith
+    spent second false e h = omega (arith, stays-halfway (fails (may-overlap-mono j k less _ _ _) e))
 
-    -- and falls with each first branch
-    pub potential-first : potential p (branched k first) < potential p k
-    unfolding potential
-    potential-first =
-        let j = branched k first in
-        let less = branched-less k first in
-        let c = choice k in
-        sum-less (λ v. sum-below v (λ u. firsts-left j u v)) (λ v. sum-below v (λ u. firsts-left k u v)) (p .items) (c .v)
-        (λ v hv. sum-mono (λ u. firsts-left j u v) (λ u. firsts-left k u v) v (λ u hu. firsts-left-mono j k less u v)) (f .place .item)
-        (sum-less (λ u. firsts-left j u (c .v)) (λ u. firsts-left k u (c .v)) (c .v) (c .u) (λ u hu. firsts-left-mono j k less u (c .v)) (f .place .rising) choice-lowers)
+  -- a first branch takes the choice on: past its pair, or to where overlap is removed
+  goes-on : (b : Branch) → j ⊑ branched k b → firsts (b ∷ []) + (2 * choice-number k + halfway k) ≤ 2 * choice-number j + halfway j
+  unfolding branched halfway
+  goes-on b h = elim (decLt (choice-number k) (choice-number j)) [
+    | yes l ↦ let one = elim b as (λ b. firsts (b ∷ []) ≤ 1) [ first ↦ omega arith | second ↦ omega arith ] in omega (arith, halfway-once k)
+    | no l ↦ let same : choice-number k ≡ choice-number j = omega (arith, rises) in omega (arith, spent same b _ refl h)
+  ]
 
--- at most two for each pair
-pub potential-bound : (p : Problem) (k : Domains) → potential p k ≤ p .items * (p .items - 1)
-unfolding potential
-potential-bound p k = bound (p .items)
-  where
-    upper : (v n : ℕ) → sum-below n (λ u. firsts-left k u v) ≤ 2 * n
-    upper v zero = omega arith
-    upper v (suc n) = omega (arith, upper v n, firsts-left-two k n v)
-
-    squares : (n : ℕ) → n * (n - 1) + 2 * n ≡ suc n * (suc n - 1)
-    squares zero = omega arith
-    squares (suc n) =
-        let e : suc n - 1 ≡ n = omega arith in
-        let f : suc (suc n) - 1 ≡ suc n = omega arith in
-        rw (e, f) (omega arith)
-
-    bound : (n : ℕ) → sum-below n (λ v. sum-below v (λ u. firsts-left k u v)) ≤ n * (n - 1)
-    bound zero = omega arith
-    bound (suc n) = omega (arith, bound n, upper n n, squares n)
-
+-- so a branch adds at most what the choice goes on by
 module _ (p : Problem) (σ : Sound p) where
   fork-at : (path : List Branch) → look p path ≡ fork → Fork p (path-domains p path) (choice (path-domains p path))
   fork-at path e = let (i, c) = look-fork p path e in path-fork p σ path i c
 
-  branch-potential : (b : Branch) (path : List Branch) → potential p (path-domains p (b ∷ path)) ≤ potential p (branched (path-domains p path) b)
-  branch-potential b path =
+  fork-firsts : (path : List Branch) → Forking (look p) path → look p path ≡ fork
+      → firsts path ≤ 2 * choice-number (path-domains p path) + halfway (path-domains p path)
+  fork-firsts [] l e = omega arith
+  fork-firsts (b ∷ path) (d, l) e =
       let k = path-domains p path in
-      rw (path-branch p b path) (potential-mono p (σ .limited) (propagate p (branched k b)) (branched k b) (propagate-less p (branched k b)))
+      let more = elim b as (λ b. firsts (b ∷ path) ≡ firsts (b ∷ []) + firsts path) [ first ↦ omega arith | second ↦ omega arith ] in
+      omega (
+        arith,
+        fork-firsts path l d,
+        goes-on p (σ .limited) k (path-well-formed p path) (fork-at path d) (path-domains p (b ∷ path)) (path-less p b path) (fork-at (b ∷ path) e) b
+            (rw (path-branch p b path) (propagate-less p (branched k b))),
+      )
 
-  -- each first branch uses up some of the potential
-  pub firsts-spend : (path : List Branch) → Forking (look p) path → firsts path + potential p (path-domains p path) ≤ p .items * (p .items - 1)
-  firsts-spend [] f = omega (arith, potential-bound p (path-domains p []))
-  firsts-spend (first ∷ path) f =
+  -- a path has at most 90 first branches, and one that is a branching point fewer
+  pub fork-firsts-90 : (path : List Branch) → Forking (look p) path → look p path ≡ fork → firsts path < 90
+  fork-firsts-90 path l e =
       let k = path-domains p path in
-      omega (arith, firsts-spend path (f .1), branch-potential first path, potential-first p (σ .limited) k (path-well-formed p path) (fork-at path (f .0)))
-  firsts-spend (second ∷ path) f =
-      let k = path-domains p path in
-      omega (arith, firsts-spend path (f .1), branch-potential second path, potential-mono p (σ .limited) (branched k second) k (branched-less k second))
-
-  -- a path has at most n (n - 1) first branches, and one that is a branching point fewer
-  pub firsts-most : (path : List Branch) → Forking (look p) path → firsts path ≤ p .items * (p .items - 1)
-  firsts-most path f = omega (arith, firsts-spend path f)
-
-  pub fork-firsts : (path : List Branch) → Forking (look p) path → look p path ≡ fork → firsts path < p .items * (p .items - 1)
-  fork-firsts path f e = omega (arith, firsts-spend path f, potential-first p (σ .limited) (path-domains p path) (path-well-formed p path) (fork-at path e))
-
-  ninety : p .items * (p .items - 1) ≤ 90
-  ninety = leb-true _ _ (all-at 11 (λ n. leb (n * (n - 1)) 90) refl (p .items) (omega (arith, σ .limited)))
+      omega (arith, fork-firsts path l e, halfway-once k, rw pairs-count at (choice-first p (σ .limited) k (fork-at path e) .within))
 
   pub firsts-90 : (path : List Branch) → Forking (look p) path → firsts path ≤ 90
-  firsts-90 path f = omega (arith, firsts-most path f, ninety)
-
-  pub fork-firsts-90 : (path : List Branch) → Forking (look p) path → look p path ≡ fork → firsts path < 90
-  fork-firsts-90 path f e = omega (arith, fork-firsts path f e, ninety)
-
-  -- the same of one pair: at most two
-  pub pair-firsts : (u v : ℕ) (path : List Branch) → Forking (look p) path → firsts-of p u v path + firsts-left (path-domains p path) u v ≤ 2
-  unfolding firsts-of
-  pair-firsts u v [] f = omega (arith, firsts-left-two (path-domains p []) u v)
-  pair-firsts u v (second ∷ path) f =
-      omega (arith, pair-firsts u v path (f .1), firsts-left-mono (path-domains p (second ∷ path)) (path-domains p path) (path-less p second path) u v)
-  pair-firsts u v (first ∷ path) f = go (eqb (c .u) u && eqb (c .v) v) refl (pair-firsts u v path (f .1))
-    where
-      k : Domains
-      k = path-domains p path
-
-      c : Slot
-      c = choice k
-
-      after : (x y : ℕ) → firsts-left (path-domains p (first ∷ path)) x y ≤ firsts-left (branched k first) x y
-      after x y = rw (path-branch p first path) (firsts-left-mono (propagate p (branched k first)) (branched k first) (propagate-less p (branched k first)) x y)
-
-      go : (b : Bool) → (eqb (c .u) u && eqb (c .v) v) ≡ b → firsts-of p u v path + firsts-left k u v ≤ 2
-          → cond b 1 0 + firsts-of p u v path + firsts-left (path-domains p (first ∷ path)) u v ≤ 2
-      go true e ih =
-          let q = and-both (eqb (c .u) u) (eqb (c .v) v) e in
-          let x : c .u ≡ u = eqb-true (c .u) u (q .0) in
-          let y : c .v ≡ v = eqb-true (c .v) v (q .1) in
-          let l : firsts-left (branched k first) u v < firsts-left k u v =
-          rw (← x, ← y) (choice-lowers p (σ .limited) k (path-well-formed p path) (fork-at path (f .0))) in
-          omega (arith, after u v)
-      go false e ih = omega (arith, firsts-left-mono (path-domains p (first ∷ path)) k (path-less p first path) u v)
-
--- The pairs before the branching pair
-
-numbered : ℕ → Bool
-numbered i = eqb (pair-number (pair-of i .u) (pair-of i .v)) i
-
-all-numbered : all-below 45 numbered ≡ true
-unfolding numbered pairs pair-number
-all-numbered = refl
-
-pub number-of-pair : (i : ℕ) → i < 45 → pair-number (pair-of i .u) (pair-of i .v) ≡ i
-unfolding numbered
-number-of-pair i h = eqb-true _ _ (all-at 45 numbered all-numbered i h)
-
-not-false : (b : Bool) → not b ≡ false → b ≡ true
-not-false true e = refl
-not-false false e = absurd (false≢true (sym e))
-
--- what is passed stays so
-pub passed-mono : (j k : Domains) (m : ℕ) → j ⊑ k → Passed k m → Passed j m
-passed-mono j k m h r i l = separated-mono j k h _ _ (r i l)
-
--- the number of the choice is that of the first pair without a fixed "before"
-pub choice-first : (p : Problem) → p .items ≤ 10 → (k : Domains) → Fork p k (choice k) → First (unseparated-pair k) no-pair pairs (choice-number k)
-unfolding choice choice-number
-choice-first p limited k f =
-    let c = choice-pair k in
-    let i = pair-number (c .u) (c .v) in
-    let l : c .v < 10 = omega (arith, f .place .item) in
-    let at : pair-of i ≡ c = pair-at-number (c .u) (c .v) (f .place .rising) l no-pair in
-    let small : i < 45 = pair-number-small (c .u) (c .v) (f .place .rising) l in
-    let (j, le, r) = first-exists (unseparated-pair k) no-pair pairs i (rw pairs-count small) (ap (unseparated-pair k) at ∙ ap not (f .unseparated)) in
-    let same : c ≡ pair-of j = choice-pair-is k j r in
-    let e : i ≡ j = ap (λ (d : Pair). pair-number (d .u) (d .v)) same ∙ number-of-pair j (omega arith) in
-    rw e r
-
-pub choice-passed : (p : Problem) → p .items ≤ 10 → (k : Domains) → Fork p k (choice k) → Passed k (choice-number k)
-choice-passed p limited k f i l = not-false _ (choice-first p limited k f .earlier i l)
-
--- no pair that is passed is chosen: numbers never fall
-pub number-rises : (p : Problem) → p .items ≤ 10 → (k : Domains) → Fork p k (choice k) → (m : ℕ) → Passed k m → m ≤ choice-number k
-number-rises p limited k f m r = go (decLt (choice-number k) m)
-  where
-    go : Dec (choice-number k < m) → m ≤ choice-number k
-    go (yes l) = absurd (clash (r (choice-number k) l) (not-true _ (choice-first p limited k f .passes)))
-    go (no l) = omega arith
-
-module _ (p : Problem) (σ : Sound p) where
-  pub path-below : (l path : List Branch) → path-domains p (l ++ path) ⊑ path-domains p path
-  path-below [] path = below-refl (path-domains p path)
-  path-below (b ∷ l) path =
-      below-trans (path-domains p (b ∷ (l ++ path))) (path-domains p (l ++ path)) (path-domains p path) (path-less p b (l ++ path)) (path-below l path)
-
-  -- along a path the number of the branching pair never falls
-  pub path-number : (l path : List Branch) → look p path ≡ fork → look p (l ++ path) ≡ fork
-      → choice-number (path-domains p path) ≤ choice-number (path-domains p (l ++ path))
-  path-number l path e f =
-      number-rises p (σ .limited) (path-domains p (l ++ path)) (fork-at p σ (l ++ path) f) (choice-number (path-domains p path))
-      (passed-mono (path-domains p (l ++ path)) (path-domains p path) _ (path-below l path)
-      (choice-passed p (σ .limited) (path-domains p path) (fork-at p σ path e)))
+  firsts-90 [] l = omega arith
+  firsts-90 (first ∷ path) l = omega (arith, fork-firsts-90 path (l .1) (l .0))
+  firsts-90 (second ∷ path) l = omega (arith, fork-firsts-90 path (l .1) (l .0))
 
   -- what the code keeps: the pairs before the last branching pair are passed on both branches
   pub branch-passed : (b : Branch) (path : List Branch) → look p path ≡ fork → Passed (path-domains p (b ∷ path)) (choice-number (path-domains p path))
   branch-passed b path e =
-      passed-mono (path-domains p (b ∷ path)) (path-domains p path) _ (path-less p b path) (choice-passed p (σ .limited) (path-domains p path) (fork-at p σ path e))
+      passed-mono (path-domains p (b ∷ path)) _ _ (path-less p b path) (choice-passed p (σ .limited) (path-domains p path) (fork-at path e))
 
 -- A look that starts at m finds the choice, or that all is packed
 pub first-from : (k : Domains) (m j : ℕ) → Passed k m → j < 45 → separated k (pair-of j .u) (pair-of j .v) ≡ false
@@ -378,37 +192,16 @@ pub first-from : (k : Domains) (m j : ℕ) → Passed k m → j < 45 → separat
 first-from k m j r hj e f = record {
   within = rw pairs-count hj;
   passes = ap not e;
-  earlier = λ i l. ap not (go i l (decLt i m));
+  earlier = λ i l.
+      let q : separated k (pair-of i .u) (pair-of i .v) ≡ true = elim (decLt i m) [ yes h ↦ r i h | no h ↦ f i (omega arith) l ] in
+      ap not q;
 }
-  where
-    go : (i : ℕ) → i < j → Dec (i < m) → separated k (pair-of i .u) (pair-of i .v) ≡ true
-    go i l (yes h) = r i h
-    go i l (no h) = f i (omega arith) l
 
 pub packed-from : (p : Problem) → p .items ≤ 10 → (k : Domains) (m : ℕ) → Passed k m
     → ((u v : ℕ) → u < v → v < p .items → m ≤ pair-number u v → separated k u v ≡ true) → packed p k ≡ true
 unfolding packed
 packed-from p limited k m r f =
-    all-of (p .items) (λ v. all-below v (λ u. separated k u v)) (λ v hv. all-of v (λ u. separated k u v) (λ u hu. go u v hu hv (decLt (pair-number u v) m)))
-  where
-    go : (u v : ℕ) → u < v → v < p .items → Dec (pair-number u v < m) → separated k u v ≡ true
-    go u v hu hv (yes h) = ap (λ (d : Pair). separated k (d .u) (d .v)) (sym (pair-at-number u v hu (omega arith) no-pair)) ∙ r (pair-number u v) h
-    go u v hu hv (no h) = f u v hu hv (omega arith)
-
--- The bound is reached: three unit cubes in a hall where they have room in a row take six first branches
-abbrev pub three-cubes : Problem
-three-cubes = problem (case (xyt 3 3 3) (unit ∷ unit ∷ unit ∷ []) [] [])
-
-abbrev pub six-firsts : List Branch
-six-firsts = first ∷ first ∷ first ∷ first ∷ first ∷ first ∷ []
-
-reaches : (path : List Branch) → Bool
-reaches path = follows (look three-cubes) (packed-at path)
-
-reached : reaches six-firsts ≡ true
-unfolding reaches ends-before inside-test apart-on-some-axis apart-test ordered-test feasible pairs pair-number domain overlap-bit before-bit after-bit index index-of may-overlap may-before remove-overlap remove-before fixed-before fixed-overlap fix-before fix-overlap joined ending starting greatest-ending greatest-starting rule1 rule2 rule3 rule4 rule5 asks-overlap asks-before slots kept pass passes propagate opening-domains empty inconsistent separated packed undecided choice-pair choice-axis choice branched path-domains look longest
-reached = refl
-
-pub bound-reached : Follows (look three-cubes) (packed-at six-firsts)
-unfolding reaches
-bound-reached = follows-so (look three-cubes) (packed-at six-firsts) .0 reached
+    all-of (p .items) (λ v. all-below v (λ u. separated k u v)) (λ v hv. all-of v (λ u. separated k u v) (λ u hu. elim (decLt (pair-number u v) m) [
+      | yes h ↦ ap (λ (d : Pair). separated k (d .u) (d .v)) (sym (pair-at-number u v hu (omega arith) no-pair)) ∙ r (pair-number u v) h
+      | no h ↦ f u v hu hv (omega arith)
+    ]))

@@ -1,8 +1,5 @@
 -- Removals as one number written: what each leaves of the domain of a pair u < v.
-use mathlib.Core.Bool.{false}
-use mathlib.Core.Path.{_≡_, refl}
-use Prim.Native.Nat.{ℕ, _<_}
-use lib.ListN.{getD, set}
+use Rattle.prelude.specs.Names.{false, _≡_, refl, ℕ, _<_, getD, set}
 use Rattle.model.specs.Domains.{Domains, domain, overlap-bit, before-bit, after-bit, index, remove-overlap, remove-before}
 use Rattle.model.proofs.Slots.{index-sym, index-up}
 use Rattle.model.proofs.Domains.{compare-lt, compare-gt}

@@ -1,8 +1,5 @@
 -- The packings that domains admit: the terms in which soundness is stated.
-use mathlib.Core.Bool.{false}
-use mathlib.Core.List.{List·Memᴰ}
-use mathlib.Core.Path.{_≡_}
-use Prim.Native.Nat.{ℕ, zero, suc, _≤_, _<_}
+use Rattle.prelude.specs.Names.{false, List·Memᴰ, _≡_, ℕ, zero, suc, _≤_, _<_}
 use Rattle.model.specs.Problem.{Problem, Precedence, Positions, EndsBefore, time}
 use Rattle.model.specs.Domains.{Domains, gone}
 use Rattle.model.specs.Order.{Proper}

@@ -1,7 +1,5 @@
 -- Tests over the numbers below n and over the elements of a list.
-use mathlib.Core.Bool.{Bool, true, false}
-use mathlib.Core.List.{List, [], _∷_}
-use Prim.Native.Nat.{ℕ, zero, suc, max}
+use Rattle.prelude.specs.Names.{Bool, true, false, List, [], _∷_, ℕ, zero, suc, max}
 
 -- some number below n passes
 abbrev pub some-below : ℕ → (ℕ → Bool) → Bool

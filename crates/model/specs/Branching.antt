@@ -1,11 +1,9 @@
 -- What domains show and where the search branches (document 01, "The search"; a turn is a branch, a row of turns a path).
-use mathlib.Core.Bool.{Bool, true, false, not, _&&_, _||_}
-use mathlib.Core.List.{List, [], _∷_}
-use Prim.Native.Nat.{ℕ, _-_}
-use lib.Dec.{ltb}
+use Rattle.prelude.specs.Names.{Bool, true, false, not, _&&_, _||_, List, [], _∷_, ℕ, _-_, ltb}
 use Rattle.model.specs.Below.{some-below, all-below, first-in}
 use Rattle.model.specs.Problem.{Problem, Precedence, Positions, time}
-use Rattle.model.specs.Domains.{Domains, Pair, pairs, may-overlap, may-before, fixed-before, remove-overlap, remove-before, fix-before, fix-overlap, full-domains}
+use Rattle.model.specs.Domains.{Domains, Pair, pairs, may-overlap, may-before, fixed-before, remove-overlap, remove-before, fix-before}
+use Rattle.model.specs.Domains.{fix-overlap, full-domains}
 use Rattle.model.specs.Rules.{greatest-ending}
 use Rattle.model.specs.Propagate.{Slot, propagate}
 

@@ -1,6 +1,6 @@
 -- One call of a search with a budget (document 01, "The search"). Of the search itself only that it is a machine: states, steps and when
 -- they are finished.
-use Prim.Native.Nat.{ℕ}
+use Rattle.prelude.specs.Names.{ℕ}
 use Rattle.model.specs.Machine.{Status, running, failed, succeeded, Machine, steps, taken}
 
 -- "It answers placed with the plan, none, or spent"

@@ -1,8 +1,5 @@
 -- Chains as lists of items (document 01, rule 5): what `longest` is the greatest total of.
-use mathlib.Core.Bool.{Bool, true, false}
-use mathlib.Core.List.{List, [], _∷_}
-use mathlib.Core.Path.{_≡_}
-use Prim.Native.Nat.{ℕ, _+_, _<_}
+use Rattle.prelude.specs.Names.{Bool, true, false, List, [], _∷_, _≡_, ℕ, _+_, _<_}
 use Rattle.model.specs.Problem.{Problem}
 use Rattle.model.specs.Domains.{Domains, fixed-before}
 use Rattle.model.specs.Rules.{listed, joined}

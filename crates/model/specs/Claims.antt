@@ -1,7 +1,5 @@
 -- What the rules speak of: relations of two items on an axis that are known or removed.
-use mathlib.Core.Bool.{Bool, true, _&&_}
-use mathlib.Core.Path.{_≡_}
-use Prim.Native.Nat.{ℕ}
+use Rattle.prelude.specs.Names.{Bool, true, _&&_, _≡_, ℕ}
 use Rattle.model.specs.Domains.{Domains}
 use Rattle.model.specs.Relations.{gone}
 

@@ -1,9 +1,7 @@
 -- Rules 1 to 4 as document 01 words them, forward from what is fixed to what is removed: where a clause's premises hold, its conclusion must.
 -- proofs/Clauses shows that domains obey them exactly where the tests of specs/Rules, which see each rule from the relation that it removes, ask for
 -- nothing that is left.
-use mathlib.Core.List.{List, [], _∷_}
-use mathlib.Core.Logic.{_≢_}
-use Prim.Native.Nat.{ℕ, _≤_, _<_}
+use Rattle.prelude.specs.Names.{List, [], _∷_, _≢_, ℕ, _≤_, _<_}
 use Rattle.model.specs.Domains.{Domains}
 use Rattle.model.specs.Order.{Proper}
 use Rattle.model.specs.Relations.{Filled}

@@ -1,10 +1,7 @@
 -- The relations left of each pair of items on each axis (document 01, "Knowledge and striking"; knowledge is `Domains`, a word a relation,
 -- the words left a domain, striking removal, known fixed).
-use mathlib.Core.Bool.{Bool, true, false, not, cond, _&&_}
-use mathlib.Core.List.{List, [], _∷_}
-use Prim.Native.Nat.{ℕ, zero, suc, _+_, _*_, _-_, _/_, _%_, min, max, compare, Ordering, Ordering·lt, Ordering·eq, Ordering·gt}
-use lib.Dec.{eqb}
-use lib.ListN.{getD, set, replicate}
+use Rattle.prelude.specs.Names.{Bool, true, false, not, cond, _&&_, List, [], _∷_, ℕ, zero, suc, _+_, _*_, _-_, _/_, _%_, min, max, compare, Ordering}
+use Rattle.prelude.specs.Names.{Ordering·lt, Ordering·eq, Ordering·gt, eqb, getD, set, replicate}
 
 -- two items, u < v
 pub record Pair : Type 0 where

@@ -1,11 +1,6 @@
 -- The claim about a whole list of search calls (document 01, "The search": "a single claim about a whole list of search calls and not one
 -- for each call"). It is over any machine M and over any service of its calls, in values or on bytes.
-use mathlib.Core.Bool.{Bool, true, false, cond}
-use mathlib.Core.List.{List, [], _∷_, _++_}
-use mathlib.Core.Logic.{_↔_}
-use mathlib.Core.Path.{_≡_}
-use Prim.Native.Nat.{ℕ, _+_, _≤_, _<_, min}
-use lib.Dec.{ltb}
+use Rattle.prelude.specs.Names.{Bool, true, false, cond, List, [], _∷_, _++_, _↔_, _≡_, ℕ, _+_, _≤_, _<_, min, ltb}
 use Rattle.model.specs.Machine.{Status, running, failed, succeeded, Machine, steps, taken}
 
 -- How calls are served: S are the machine's states, C the calls, X is what holds the note, P what holds a plan

@@ -1,5 +1,5 @@
 -- A machine that takes steps from an opening state until it is finished: what calls with a budget, and the claim about them, are stated over.
-use Prim.Native.Nat.{ℕ, zero, suc, _<_}
+use Rattle.prelude.specs.Names.{ℕ, zero, suc, _<_}
 
 -- "A note is open, none or placed": open is running, none failed, placed succeeded
 pub data Status : Type 0 where

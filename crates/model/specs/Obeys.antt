@@ -1,9 +1,6 @@
 -- The five rules as document 01 words them. proofs/Obeys shows that domains obey them exactly where no rule, seen from the relation that it removes,
 -- asks for a relation that is left.
-use mathlib.Core.Bool.{false}
-use mathlib.Core.List.{List, _∷_}
-use mathlib.Core.Path.{_≡_}
-use Prim.Native.Nat.{ℕ, _<_}
+use Rattle.prelude.specs.Names.{false, List, _∷_, _≡_, ℕ, _<_}
 use Rattle.model.specs.Problem.{Problem}
 use Rattle.model.specs.Domains.{Domains, may-before}
 use Rattle.model.specs.Rules.{joined}

@@ -1,9 +1,5 @@
 -- What lies between domains and their propagation: the terms in which the laws of removal are stated.
-use mathlib.Core.Bool.{true, false}
-use mathlib.Core.Logic.{_≢_}
-use mathlib.Core.Path.{_≡_}
-use Prim.Native.Nat.{ℕ, _<_}
-use lib.ListN.{getD, length}
+use Rattle.prelude.specs.Names.{true, false, _≢_, _≡_, ℕ, _<_, getD, length}
 use Rattle.model.specs.Problem.{Problem}
 use Rattle.model.specs.Domains.{Domains, bit, gone}
 use Rattle.model.specs.Rules.{asks}

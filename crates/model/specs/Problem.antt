@@ -1,10 +1,6 @@
 -- A packing problem with precedences, and its feasible packings (document 01, "Fit").
 -- Axes are 0 (x), 1 (y) and 2 (t); items count from 0.
-use mathlib.Core.Bool.{Bool, _&&_, _||_}
-use mathlib.Core.List.{List, List·Memᴰ}
-use mathlib.Core.Logic.{_⊎_, _≢_}
-use Prim.Native.Nat.{ℕ, _+_, _<_, _≤_}
-use lib.Dec.{leb, eqb}
+use Rattle.prelude.specs.Names.{Bool, _&&_, _||_, List, List·Memᴰ, _⊎_, _≢_, ℕ, _+_, _<_, _≤_, leb, eqb}
 use Rattle.model.specs.Below.{some-below, all-below, all-in}
 
 -- the axis t, on which precedences act

@@ -1,8 +1,5 @@
 -- Propagation: the rules applied "until nothing more can be struck". proofs/Propagate shows that any order of removals comes to the same.
-use mathlib.Core.Bool.{Bool, true, false, not, _&&_}
-use mathlib.Core.List.{List, [], _∷_}
-use Prim.Native.Nat.{ℕ, zero, suc, _+_}
-use lib.Dec.{ltb, eqb}
+use Rattle.prelude.specs.Names.{Bool, true, false, not, _&&_, List, [], _∷_, ℕ, zero, suc, _+_, ltb, eqb}
 use Rattle.model.specs.Problem.{Problem}
 use Rattle.model.specs.Domains.{Domains, Pair, pairs, domain, overlap-bit, before-bit, after-bit}
 use Rattle.model.specs.Rules.{asks-overlap, asks-before}

@@ -1,7 +1,5 @@
 -- What is said of relations by their numbers: 0 overlap, 1 "u before v", 2 "v before u".
-use mathlib.Core.Bool.{true, false, _&&_}
-use mathlib.Core.Path.{_≡_}
-use Prim.Native.Nat.{ℕ, _<_}
+use Rattle.prelude.specs.Names.{true, false, _&&_, _≡_, ℕ, _<_}
 use Rattle.model.specs.Domains.{Domains}
 use Rattle.model.specs.Order.{Proper}
 unfoldable pub use Rattle.model.specs.Domains.{gone, without, converse}

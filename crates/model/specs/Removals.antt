@@ -1,10 +1,7 @@
 -- What document 01 says of the rules and of a row, with no word of passes: relations removed in any
 -- order, and a path's removals with no rule applied in between. proofs/Removals shows that they
 -- come to what `propagate` and `path-domains` compute.
-use mathlib.Core.Bool.{true}
-use mathlib.Core.List.{List, [], _∷_}
-use mathlib.Core.Path.{_≡_}
-use Prim.Native.Nat.{ℕ, _<_}
+use Rattle.prelude.specs.Names.{true, List, [], _∷_, _≡_, ℕ, _<_}
 use Rattle.model.specs.Problem.{Problem}
 use Rattle.model.specs.Domains.{Domains, may-overlap, without}
 use Rattle.model.specs.Rules.{asks}

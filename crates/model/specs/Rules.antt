@@ -1,9 +1,6 @@
 -- The five rules (document 01, "Knowledge and striking") as tests, for computing: the clauses of specs/Clauses, each seen from the relation that it removes.
 -- "These hold for distinct pieces": nothing is removed of an item and itself, so that items in a premise differ.
-use mathlib.Core.Bool.{Bool, true, false, not, _&&_, _||_}
-use mathlib.Core.List.{List, [], _∷_}
-use Prim.Native.Nat.{ℕ, zero, suc, _+_, max}
-use lib.Dec.{ltb, eqb}
+use Rattle.prelude.specs.Names.{Bool, true, false, not, _&&_, _||_, List, [], _∷_, ℕ, zero, suc, _+_, max, ltb, eqb}
 use Rattle.model.specs.Below.{some-below, all-below, most-below}
 use Rattle.model.specs.Problem.{Problem}
 use Rattle.model.specs.Domains.{Domains, may-overlap, may-before, fixed-before, fixed-overlap}

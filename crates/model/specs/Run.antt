@@ -1,7 +1,5 @@
 -- The search of a problem: what its paths show, one call, the run and its step count.
-use mathlib.Core.Bool.{Bool, true, false}
-use mathlib.Core.List.{List}
-use Prim.Native.Nat.{ℕ, _*_, _-_}
+use Rattle.prelude.specs.Names.{Bool, true, false, List, ℕ, _*_, _-_}
 use Rattle.model.specs.Problem.{Problem, Positions}
 use Rattle.model.specs.Branching.{Branch, inconsistent, packed, path-domains, plan}
 use Rattle.model.specs.Machine.{Machine, steps, taken}

@@ -1,9 +1,5 @@
 -- The search (document 01, "The search") over what a path of branches shows. A path is kept with its last branch first.
-use mathlib.Core.Path.{_≡_}
-use mathlib.Core.Logic.{_⊎_}
-use mathlib.Core.Bool.{Bool, true, false, _&&_}
-use mathlib.Core.List.{List, [], _∷_}
-use Prim.Native.Nat.{ℕ, zero, suc, _+_, _<_}
+use Rattle.prelude.specs.Names.{_≡_, _⊎_, Bool, true, false, _&&_, List, [], _∷_, ℕ, zero, suc, _+_, _<_}
 use Rattle.model.specs.Machine.{Status, running, failed, succeeded, Machine}
 use Rattle.model.specs.Branching.{Branch, first, second}
 

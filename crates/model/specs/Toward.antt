@@ -1,9 +1,6 @@
 -- Rule 5 inside the event loop: chain totals that are kept while rules 1 to 4 are not yet at rest, where "before" need not be a strict order.
 -- All of it stands once for both directions x: 1 is of the chains that start in an item, 2 of those that end in it.
-use mathlib.Core.Bool.{true, false}
-use mathlib.Core.Logic.{_⊎_}
-use mathlib.Core.Path.{_≡_}
-use Prim.Native.Nat.{ℕ, zero, suc, _≤_, _<_}
+use Rattle.prelude.specs.Names.{true, false, _⊎_, _≡_, ℕ, zero, suc, _≤_, _<_}
 use Rattle.model.specs.Problem.{Problem}
 use Rattle.model.specs.Domains.{Domains}
 use Rattle.model.specs.Rules.{joined, greatest-ending, greatest-starting}

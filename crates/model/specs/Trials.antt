@@ -1,15 +1,15 @@
 -- Halls tried by computation: a problem, the calls made, and what they have to answer.
-use mathlib.Core.Bool.{Bool, true, false, _&&_}
-use mathlib.Core.List.{List, [], _∷_}
-use Prim.Native.Nat.{ℕ, _+_}
-use lib.Dec.{eqb}
-use lib.ListN.{getD, length}
+use Rattle.prelude.specs.Names.{Bool, true, false, _&&_, List, [], _∷_, ℕ, _+_, eqb, getD, length}
 use Rattle.model.specs.Below.{all-below}
-use Rattle.model.specs.Problem.{Problem, Precedence, Positions, ends-before, inside-test, apart-on-some-axis, apart-test, ordered-test, feasible}
-use Rattle.model.specs.Domains.{pairs, pair-number, domain, overlap-bit, before-bit, after-bit, index, index-of, may-overlap, may-before, remove-overlap, remove-before, fixed-before, fixed-overlap, fix-before, fix-overlap}
-use Rattle.model.specs.Rules.{joined, ending, starting, greatest-ending, greatest-starting, rule1, rule2, rule3, rule4, rule5, asks-overlap, asks-before}
+use Rattle.model.specs.Problem.{Problem, Precedence, Positions, ends-before, inside-test, apart-on-some-axis, apart-test, ordered-test}
+use Rattle.model.specs.Problem.{feasible}
+use Rattle.model.specs.Domains.{pairs, pair-number, domain, overlap-bit, before-bit, after-bit, index, index-of, may-overlap, may-before}
+use Rattle.model.specs.Domains.{remove-overlap, remove-before, fixed-before, fixed-overlap, fix-before, fix-overlap}
+use Rattle.model.specs.Rules.{joined, ending, starting, greatest-ending, greatest-starting, rule1, rule2, rule3, rule4, rule5, asks-overlap}
+use Rattle.model.specs.Rules.{asks-before}
 use Rattle.model.specs.Propagate.{slots, kept, pass, passes, propagate}
-use Rattle.model.specs.Branching.{opening-domains, empty, inconsistent, separated, packed, undecided, choice-pair, choice-axis, choice, branched, path-domains, starts, plan}
+use Rattle.model.specs.Branching.{opening-domains, empty, inconsistent, separated, packed, undecided, choice-pair, choice-axis, choice}
+use Rattle.model.specs.Branching.{branched, path-domains, starts, plan}
 use Rattle.model.specs.Search.{Checkpoint, opening}
 use Rattle.model.specs.Calls.{Answer, budget-spent, no-packing, packing}
 use Rattle.model.specs.Run.{look, search, step-count}

@@ -1,6 +1,5 @@
 -- How much can still be removed: the relations left over one, summed. Each branch removes one, so that a path is no longer than this.
-use mathlib.Core.Bool.{cond}
-use Prim.Native.Nat.{ℕ, zero, suc, pred, _+_}
+use Rattle.prelude.specs.Names.{cond, ℕ, zero, suc, pred, _+_}
 use Rattle.model.specs.Problem.{Problem}
 use Rattle.model.specs.Domains.{Domains, may-overlap, may-before}
 

@@ -1,8 +1,6 @@
 -- A problem with items of measure 0 added up to ten: code that works on ten items, whatever the instance's count. proofs/Wide shows that
 -- propagation comes to the same.
-use mathlib.Core.Bool.{cond}
-use Prim.Native.Nat.{ℕ}
-use lib.Dec.{ltb}
+use Rattle.prelude.specs.Names.{cond, ltb}
 use Rattle.model.specs.Problem.{Problem}
 
 unfoldable pub wide : Problem → Problem

@@ -1,14 +1,6 @@
 -- Some relations of one pair are removed: what that leaves is the domains without them. A branch leaves the pair a relation.
-use mathlib.Core.Bool.{Bool, true, false, not, _&&_, _||_, false≢true}
-use mathlib.Core.List.{List}
-use mathlib.Core.Logic.{_⊎_, inl, inr, _≢_}
-use mathlib.Core.Path.{_≡_, refl, sym, _∙_, ap}
-use Prim.Native.Nat.{ℕ, _+_, _*_, _^_, _<_}
-use native.Mathlib.Omega.{arith}
-use lib.Bits.{bitOr, or-lt}
-use lib.ListN.{set, length-set}
-use lib.Seq.{getD-set-same}
-use borrow.Author.Tests.{eqb-true, eq-eqb}
+use Rattle.prelude.specs.Names.{Bool, true, false, not, _&&_, _||_, false≢true, not-eq-not, Bool·not-not, List, _⊎_, inl, inr, _≢_, _≡_, refl, sym}
+use Rattle.prelude.specs.Names.{_∙_, ap, ℕ, _+_, _*_, _^_, _<_, arith, bitOr, or-lt, set, length-set, getD-set-same, eqb-true, eq-eqb}
 use Rattle.model.specs.Domains.{Domains, may-overlap, may-before, fix-overlap}
 use Rattle.model.specs.Branching.{undecided, Branch, first, second, branch-at}
 use Rattle.model.specs.Order.{Proper, WellFormed, _⊑_}
@@ -50,13 +42,12 @@ module _ {k : Domains} {a u v : ℕ} (w : Proper 10 a u v) where
   taken-more {P} {e} t x = record {
     well-formed = without-well-formed e x a u v (t .well-formed);
     less = below-trans (without e x a u v) e k (without-less e x a u v) (t .less);
-    all = go;
+    all = λ y h. elim h [
+      | inl p ↦ gone-mono (without e x a u v) e (without-less e x a u v) y a u v (t .all y p)
+      | inr q ↦ rw q (without-gone e x (t .well-formed) w)
+    ];
     above = λ g b h. without-above e x a u v g (t .above g b (λ y p. h y (inl p))) (h x (inr refl));
   }
-    where
-      go : (y : ℕ) → P y ⊎ (y ≡ x) → gone (without e x a u v) y a u v ≡ true
-      go y (inl p) = gone-mono (without e x a u v) e (without-less e x a u v) y a u v (t .all y p)
-      go y (inr q) = rw q (without-gone e x (t .well-formed) w)
 
 -- a set as in a row, of the relations of P with v and of nothing else
 pub record SetOf (s v : ℕ) (P : ℕ → Type 0) : Type 0 where
@@ -74,24 +65,24 @@ set-one {s} {v} {i} x hx hv ei (es, small) = record {
 pub set-more : {s t v : ℕ} {P Q : ℕ → Type 0} → SetOf s v P → SetOf t v Q → SetOf (bitOr s t) v (λ x. Q x ⊎ P x)
 set-more {s} {t} {v} {P} {Q} f g = record {
   small = or-lt 30 s t (f .small) (g .small);
-  has = has;
-  only = λ x y hy e. only x y hy (or-case (bit-at s (x * 10 + y)) (bit-at t (x * 10 + y)) (sym (bit-or s t (x * 10 + y)) ∙ e));
+  has = λ x h. rw (bit-or s t (x * 10 + v))
+      (elim h [
+        | inl q ↦ (g .has x q .0, or-right (bit-at s (x * 10 + v)) (g .has x q .1))
+        | inr p ↦ (f .has x p .0, or-left (bit-at t (x * 10 + v)) (f .has x p .1))
+      ]);
+  only = λ x y hy e. elim (or-case (bit-at s (x * 10 + y)) (bit-at t (x * 10 + y)) (sym (bit-or s t (x * 10 + y)) ∙ e)) [
+    | inl b ↦ let (p, q) = f .only x y hy b in (inr p, q)
+    | inr b ↦ let (p, q) = g .only x y hy b in (inl p, q)
+  ];
 }
-  where
-    has : (x : ℕ) → Q x ⊎ P x → (x < 3) × (bit-at (bitOr s t) (x * 10 + v) ≡ true)
-    has x (inl q) = let (hx, e) = g .has x q in (hx, bit-or s t (x * 10 + v) ∙ or-right (bit-at s (x * 10 + v)) e)
-    has x (inr p) = let (hx, e) = f .has x p in (hx, bit-or s t (x * 10 + v) ∙ or-left (bit-at t (x * 10 + v)) e)
-
-    only : (x y : ℕ) → y < 10 → (bit-at s (x * 10 + y) ≡ true) ⊎ (bit-at t (x * 10 + y) ≡ true) → (Q x ⊎ P x) × (y ≡ v)
-    only x y hy (inl e) = let (p, q) = f .only x y hy e in (inr p, q)
-    only x y hy (inr e) = let (p, q) = g .only x y hy e in (inl p, q)
 
 pub askable : {a u v s : ℕ} {P : ℕ → Type 0} → Proper 10 a u v → SetOf s v P → Askable a u s
-askable {a} {u} {v} {s} w h = record { axis = w .axis; item = w .item-u; small = h .small; other = λ x hx. go x (bit-at s (x * 10 + u)) refl }
-  where
-    go : (x : ℕ) (b : Bool) → bit-at s (x * 10 + u) ≡ b → b ≡ false
-    go x true e = absurd (w .distinct (h .only x u (w .item-u) e .1))
-    go x false e = refl
+askable {u = u} w h = record {
+  axis = w .axis;
+  item = w .item-u;
+  small = h .small;
+  other = λ x hx. not-eq-not .0 (λ e. w .distinct (h .only x u (w .item-u) e .1));
+}
 
 pub all-left : (k : Domains) (a u : ℕ) {v s : ℕ} {P : ℕ → Type 0} → SetOf s v P → ((x : ℕ) → P x → gone k x a u v ≡ false) → Left k a u s
 all-left k a u h f x y hx hy b = let (p, q) = h .only x y hy b in rw q (f x p)
@@ -99,11 +90,7 @@ all-left k a u h f x y hx hy b = let (p, q) = h .only x y hy b in rw q (f x p)
 -- domains with more relations have one left of every pair, too
 pub filled-more : (j e : Domains) → j ⊑ e → Filled j → Filled e
 unfolding says
-filled-more j e h f a u v w = go (says nothing e a u v) refl
-  where
-    go : (b : Bool) → says nothing e a u v ≡ b → b ≡ false
-    go true q = absurd (clash (says-mono j e h nothing a u v q) (f a u v w))
-    go false q = refl
+filled-more j e h f a u v w = not-eq-not .0 (λ q. clash (says-mono j e h nothing a u v q) (f a u v w))
 
 -- all of the set is removed: that leaves e, or e leaves a pair nothing
 abbrev pub Exact : Domains → Domains → List ℕ → Domains → List ℕ → List ℕ → Bool → Type 0
@@ -122,72 +109,54 @@ module _ {k e : Domains} {a u v s : ℕ} {P : ℕ → Type 0} (w : Proper 10 a u
   exact q j rows r false (long, none) = (long, λ f. none e (asked f) (t .less))
 
 -- A branch of a pair with more than one relation left
-module _ {k : Domains} {a u v : ℕ} (f : WellFormed k) (full : Filled k) (w : Proper 10 a u v) where
-  branch-filled : undecided k a u v ≡ true → (o : Bool) → may-overlap k a u v ≡ o → (b : Branch) → Filled (branch-at o b k a u v)
-  unfolding undecided without fix-overlap gone
-  branch-filled h o e b = go o (may-before k a u v) (may-before k a v u) e refl refl (rw e at h) b
-    where
-      one : (x y : ℕ) → x < 3 → y < 3 → y ≢ x → gone k y a u v ≡ false → Filled (without k x a u v)
-      one x y hx hy = filled-without f x a u v hx w full y hy
+branch-filled : {k : Domains} {a u v : ℕ} → WellFormed k → Filled k → Proper 10 a u v → undecided k a u v ≡ true
+    → (o : Bool) → may-overlap k a u v ≡ o → (b : Branch) → Filled (branch-at o b k a u v)
+unfolding undecided without fix-overlap gone
+branch-filled {k} {a} {u} {v} f full w h o e b = go o (may-before k a u v) (may-before k a v u) e refl refl (rw e at h) b
+  where
+    one : (x y : ℕ) → (x < 3) × (y < 3) × (y ≢ x) → gone k y a u v ≡ false → Filled (without k x a u v)
+    one x y (hx, hy, d) = filled-without f x a u v hx w full y hy d
 
-      go : (o x y : Bool) → may-overlap k a u v ≡ o → may-before k a u v ≡ x → may-before k a v u ≡ y → (o && (x || y) || x && y) ≡ true
-          → (b : Branch) → Filled (branch-at o b k a u v)
-      go true true y eo ex ey h first = one 0 1 (omega arith) (omega arith) (omega arith) (ap not ex)
-      go true false true eo ex ey h first = one 0 2 (omega arith) (omega arith) (omega arith) (ap not ey)
-      go true false false eo ex ey h first = absurd (false≢true h)
-      go true x y eo ex ey h second =
-          filled-without (without-well-formed k 2 a u v f) 1 a u v (omega arith) w (one 2 0 (omega arith) (omega arith) (omega arith) (ap not eo)) 0
-          (omega arith) (omega arith) (still-gone f 2 a u v (omega arith) w 0 (omega arith) (omega arith) ∙ ap not eo)
-      go false true true eo ex ey h first = one 2 1 (omega arith) (omega arith) (omega arith) (ap not ex)
-      go false true true eo ex ey h second = one 1 2 (omega arith) (omega arith) (omega arith) (ap not ey)
-      go false true false eo ex ey h b = absurd (false≢true h)
-      go false false y eo ex ey h b = absurd (false≢true h)
-
-not-same : (x y : Bool) → not x ≡ not y → x ≡ y
-not-same true true e = refl
-not-same true false e = absurd (false≢true e)
-not-same false true e = absurd (false≢true (sym e))
-not-same false false e = refl
+    go : (o x y : Bool) → may-overlap k a u v ≡ o → may-before k a u v ≡ x → may-before k a v u ≡ y → (o && (x || y) || x && y) ≡ true
+        → (b : Branch) → Filled (branch-at o b k a u v)
+    go true true y eo ex ey h first = one 0 1 (omega arith) (ap not ex)
+    go true false true eo ex ey h first = one 0 2 (omega arith) (ap not ey)
+    go true false false eo ex ey h first = absurd (false≢true h)
+    go true x y eo ex ey h second =
+        filled-without (without-well-formed k 2 a u v f) 1 a u v (omega arith) w (one 2 0 (omega arith) (ap not eo)) 0 (omega arith) (omega arith)
+        (still-gone f 2 a u v (omega arith) w 0 (omega arith) (omega arith) ∙ ap not eo)
+    go false true true eo ex ey h first = one 2 1 (omega arith) (ap not ex)
+    go false true true eo ex ey h second = one 1 2 (omega arith) (ap not ey)
+    go false true false eo ex ey h b = absurd (false≢true h)
+    go false false y eo ex ey h b = absurd (false≢true h)
 
 module _ {k : Domains} {rows q : List ℕ} {c : Place} (g : Branchable k rows q c) where
-  abbrev a : ℕ
-  a = c .axis
-
-  abbrev u : ℕ
-  u = c .u
-
-  abbrev v : ℕ
-  v = c .v
-
-  pair : Proper 10 a u v
+  pair : Proper 10 (c .axis) (c .u) (c .v)
   pair = proper-up (g .place)
 
-  -- the queue is empty
-  branch-start : Good k rows (set q 0 1)
-  branch-start = good-start (g .laid) (length-set q 0 1 ∙ g .long) (getD-set-same q 0 1 0 (omega (arith, g .long)))
+  -- the row tells whether overlap is left
+  overlap-row : bit-at (row rows (c .axis) (c .u)) (c .v) ≡ gone k 0 (c .axis) (c .u) (c .v)
+  overlap-row = row-first (g .laid .mirror) (pair .axis) (pair .item-u) (pair .item-v)
 
-  pub branch-removes : {items : ℕ} {P : ℕ → Type 0} → SetOf items v P → Good k rows (set q 0 1) × Askable a u items
-  branch-removes h = (branch-start, askable pair h)
+  pub branch-removes : {items : ℕ} {P : ℕ → Type 0} → SetOf items (c .v) P → Good k rows (set q 0 1) × Askable (c .axis) (c .u) items
+  branch-removes h = (good-start (g .laid) (length-set q 0 1 ∙ g .long) (getD-set-same q 0 1 0 (omega (arith, g .long))), askable pair h)
 
-  pub overlap-left : bit-at (row rows a u) v ≡ false → (x : ℕ) → x ≡ 0 → gone k x a u v ≡ false
-  overlap-left e x z = rw z (sym (row-first (g .laid .mirror) (pair .axis) (pair .item-u) (pair .item-v)) ∙ e)
+  pub overlap-left : bit-at (row rows (c .axis) (c .u)) (c .v) ≡ false → (x : ℕ) → x ≡ 0 → gone k x (c .axis) (c .u) (c .v) ≡ false
+  overlap-left e x z = rw z (sym overlap-row ∙ e)
 
-  pub take-one : (x : ℕ) → Taken k a u v (λ y. y ≡ x) (without k x a u v)
+  pub take-one : (x : ℕ) → Taken k (c .axis) (c .u) (c .v) (λ y. y ≡ x) (without k x (c .axis) (c .u) (c .v))
   take-one x = taken-one pair (g .laid .well-formed) x
 
-  pub take-two : (x y : ℕ) → Taken k a u v (λ z. (z ≡ x) ⊎ (z ≡ y)) (without (without k x a u v) y a u v)
-  take-two x y = taken-more pair (take-one x) y
-
   -- the row of overlap tells which branch it is
-  pub branched : (o s : Bool) → bit-at (row rows a u) v ≡ not o → {second : Bool} → second ≡ s → {P : ℕ → Type 0} {items : ℕ}
-      → Taken k a u v P (branch-at o (branch-by s) k a u v) → SetOf items v P → {j : Domains} {rows′ r : List ℕ} (b : Bool)
-      → Outcome (Asked a u items) (All a u items) k (set q 0 1) j rows′ r b → Branched k q c second j rows′ r
-  branched o s is-o {second} is-s t h {j} {rows′} {r} b n = go b (exact pair t h (set q 0 1) j rows′ r b n)
-    where
-      overlap : may-overlap k a u v ≡ o
-      overlap =
-          unfold gone in not-same (may-overlap k a u v) o (sym (row-first (g .laid .mirror) (pair .axis) (pair .item-u) (pair .item-v)) ∙ is-o)
-
-      go : (b : Bool) → Exact (branch-at o (branch-by s) k a u v) k (set q 0 1) j rows′ r b → Branched k q c second j rows′ r
-      go true (e, grown) = record { left = rw (overlap, is-s) e; grown = grown }
-      go false (long, none) = absurd (none (branch-filled (g .laid .well-formed) (g .laid .filled) pair (g .several-left) o overlap (branch-by s)))
+  pub branched : (o s : Bool) → bit-at (row rows (c .axis) (c .u)) (c .v) ≡ not o → {second : Bool} → second ≡ s → {P : ℕ → Type 0} {items : ℕ}
+      → Taken k (c .axis) (c .u) (c .v) P (branch-at o (branch-by s) k (c .axis) (c .u) (c .v)) → SetOf items (c .v) P
+      → {j : Domains} {rows′ r : List ℕ} (b : Bool) → Outcome (Asked (c .axis) (c .u) items) (All (c .axis) (c .u) items) k (set q 0 1) j rows′ r b
+      → Branched k q c second j rows′ r
+  unfolding gone
+  branched o s is-o {second} is-s t h {j} {rows′} {r} b n =
+      let overlap : may-overlap k (c .axis) (c .u) (c .v) ≡ o = sym (Bool·not-not _) ∙ (ap not (sym overlap-row ∙ is-o) ∙ Bool·not-not o) in
+      let full = branch-filled (g .laid .well-formed) (g .laid .filled) pair (g .several-left) o overlap (branch-by s) in
+      (elim b as (λ b. Exact (branch-at o (branch-by s) k (c .axis) (c .u) (c .v)) k (set q 0 1) j rows′ r b → Branched k q c second j rows′ r) [
+        | true ↦ λ (e, grown). record { left = rw (overlap, is-s) e; grown = grown }
+        | false ↦ λ (long, none). absurd (none full)
+      ]) (exact pair t h (set q 0 1) j rows′ r b n)

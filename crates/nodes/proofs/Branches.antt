@@ -1,18 +1,10 @@
 -- The step from a branching point to its branch.
-use mathlib.Core.Bool.{Bool}
-use mathlib.Core.List.{List, _∷_}
-use mathlib.Core.Path.{_≡_, refl, sym, _∙_, ap, subst}
-use Prim.Native.Nat.{ℕ, _≤_}
-use native.Mathlib.Nat.{le-refl}
-use native.Mathlib.Omega.{arith}
-use lib.ListN.{length, set}
-use lib.Seq.{getD-set-same}
+use Rattle.prelude.specs.Names.{Bool, List, _∷_, _≡_, refl, sym, _∙_, ap, subst, ℕ, arith, length, set, getD-set-same}
 use Rattle.model.specs.Problem.{Problem}
-use Rattle.model.specs.Domains.{Domains, may-overlap}
-use Rattle.model.specs.Propagate.{Slot, propagate}
-use Rattle.model.specs.Branching.{Branch, choice, branch-at, branched, path-domains, inconsistent}
+use Rattle.model.specs.Domains.{Domains}
+use Rattle.model.specs.Propagate.{propagate}
+use Rattle.model.specs.Branching.{Branch, choice, branched, path-domains, inconsistent}
 use Rattle.model.specs.Order.{Fork}
-use Rattle.model.specs.Relations.{Untouched}
 use Rattle.model.specs.Run.{look}
 use Rattle.model.specs.Search.{Forking, fork}
 use Rattle.model.specs.Admits.{Sound}
@@ -28,8 +20,8 @@ use Rattle.domains.specs.declared.Place.{Place}
 use Rattle.propagation.proofs.Pending.{closed-on, pending-start}
 use Rattle.model.specs.Wide.{wide}
 
-module _ (p : Problem) (sound : Sound p) (path : List Branch) (forking : Forking (look p) path) (is : look p path ≡ fork) {k : Domains} {rows t : List ℕ}
-    (seen : Seen p k rows t path) (c : Place) (at : choice (path-domains p path) ≡ slot-of c) where
+module _ (p : Problem) (sound : Sound p) (path : List Branch) (forking : Forking (look p) path) (is : look p path ≡ fork)
+    {k : Domains} {rows t : List ℕ} (seen : Seen p k rows t path) (c : Place) (at : choice (path-domains p path) ≡ slot-of c) where
   here : Fork p (path-domains p path) (slot-of c)
   here = let (consistent, unpacked) = look-fork p path is in subst (Fork p (path-domains p path)) at (path-fork p sound path consistent unpacked)
 
@@ -48,23 +40,20 @@ module _ (p : Problem) (sound : Sound p) (path : List Branch) (forking : Forking
     unfolding branched
     left-is = w .left ∙ rw (seen .is, at) refl
 
-    start : end (set q 0 1) ≡ 1
-    start = getD-set-same q 0 1 0 (omega arith)
-
-    comes : propagate p j ≡ path-domains p (branch-by b ∷ path)
-    comes = ap (propagate p) left-is ∙ sym (path-branch p (branch-by b) path)
-
     pub branch-at-path : At p j rows′ r t (branch-by b ∷ path)
-    branch-at-path = record {
-      ready = record {
-        good = w .grown .good;
-        tabled = seen .rested .tabled;
-        measured = seen .rested .measured;
-        pending = pending-start (w .grown) start (seen .rested .obeyed);
-        under = under-mono (wide p) j k (w .grown .less) (table t) (seen .rested .under);
-        closed = closed-on (w .grown) (omega (arith, seen .rested .measured .ten)) 1 (omega arith) (omega (arith, start))
-            (closed-wider (λ x a v z d s l h. absurd h) (λ a u v h. h) (seen .rested .closed));
-      };
-      untouched = subst (Untouched (p .items)) (sym left-is) (branched-untouched p sound path forking is (branch-by b));
-      leads = record { verdict = ap (inconsistent p) comes; same = λ e. comes };
-    }
+    branch-at-path =
+        let start : end (set q 0 1) ≡ 1 = getD-set-same q 0 1 0 (omega arith) in
+        let comes = ap (propagate p) left-is ∙ sym (path-branch p (branch-by b) path) in
+        record {
+          ready = record {
+            good = w .grown .good;
+            tabled = seen .rested .tabled;
+            measured = seen .rested .measured;
+            pending = pending-start (w .grown) start (seen .rested .obeyed);
+            under = under-mono (wide p) j k (w .grown .less) (table t) (seen .rested .under);
+            closed = closed-on (w .grown) (omega (arith, seen .rested .measured .ten)) 1 (omega arith) (omega (arith, start))
+                (closed-wider (λ x a v z d s l h. absurd h) (λ a u v h. h) (seen .rested .closed));
+          };
+          untouched = rw left-is (branched-untouched p sound path forking is (branch-by b));
+          leads = record { verdict = ap (inconsistent p) comes; same = λ e. comes };
+        }

@@ -1,6 +1,5 @@
-pub mod DomainTests
+pub mod Loops
 pub mod Snapshots
 pub mod Choosing
 pub mod BranchRemovals
-pub mod Packings
 pub mod Branches

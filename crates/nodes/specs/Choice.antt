@@ -1,12 +1,7 @@
 -- The table of pairs, and the branching place.
-use mathlib.Core.Bool.{Bool, true, false, not, _&&_, _||_}
-use mathlib.Core.List.{List}
-use mathlib.Core.Path.{_≡_}
-use Prim.Native.Nat.{ℕ, _+_, _*_}
-use lib.ListN.{getD, length, set}
+use Rattle.prelude.specs.Names.{Bool, true, false, not, _&&_, _||_, List, _≡_, ℕ, _+_, _*_, getD, length, set}
 use Rattle.model.specs.Problem.{Problem}
 use Rattle.model.specs.Domains.{Domains, pairs, overlap-bit, before-bit, after-bit, may-overlap}
-use Rattle.model.specs.Domains as D
 use Rattle.model.specs.Branching.{packed, undecided, choice, Branch, first, second, branch-at}
 use Rattle.model.specs.Order.{Rising}
 use Rattle.domains.specs.Rows.{Laid}
@@ -16,6 +11,7 @@ use Rattle.nodes.specs.declared.branching.Branching.{Branching}
 use Rattle.nodes.specs.declared.branching.Branching.the-variants.{Packed, At}
 use Rattle.nodes.specs.declared.branching.Pair.{Pair}
 use Rattle.domains.specs.declared.Place.{Place}
+use Rattle.model.specs.Domains as D
 
 abbrev pub no-pair : D.Pair
 no-pair = record { u = 0; v = 0 }

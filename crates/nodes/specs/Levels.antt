@@ -1,9 +1,5 @@
 -- Snapshots in flat arrays: level i of width n is the n elements from i * n on.
-use mathlib.Core.List.{List}
-use mathlib.Core.Logic.{_≢_}
-use mathlib.Core.Path.{_≡_}
-use Prim.Native.Nat.{ℕ, _+_, _*_, _≤_, _<_}
-use lib.ListN.{length, take, drop}
+use Rattle.prelude.specs.Names.{List, _≢_, _≡_, ℕ, _*_, _≤_, _<_, length, take, drop}
 
 -- how many there can be: a path has at most 90 first branches
 abbrev pub max-levels : ℕ

@@ -1,8 +1,5 @@
 -- Nodes of the search tree: domains of a path with their rows, queue and totals.
-use mathlib.Core.Bool.{false}
-use mathlib.Core.List.{List}
-use mathlib.Core.Path.{_≡_}
-use Prim.Native.Nat.{ℕ, _/_, _%_}
+use Rattle.prelude.specs.Names.{false, List, _≡_, ℕ, _/_, _%_}
 use Rattle.model.specs.Branching.{Branch, path-domains, inconsistent}
 use Rattle.model.specs.Domains.{Domains}
 use Rattle.model.specs.Problem.{Problem}

@@ -1,8 +1,5 @@
 -- The packing by greatest chains.
-use mathlib.Core.List.{List}
-use mathlib.Core.Path.{_≡_}
-use Prim.Native.Nat.{ℕ, _-_, _≤_, _<_}
-use lib.ListN.{getD, length}
+use Rattle.prelude.specs.Names.{List, _≡_, ℕ, _-_, _≤_, _<_, getD, length}
 use Rattle.instance.specs.declared.Packing.{Packing}
 use Rattle.instance.specs.Meaning.{positions-of}
 use Rattle.instance.specs.Values.{origin}

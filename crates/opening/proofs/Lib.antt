@@ -1,5 +1,5 @@
+pub mod Sound
 pub mod Openings
 pub mod PairCuts
 pub mod Roots
 pub mod Layouts
-pub mod Sound

@@ -1,56 +1,25 @@
 -- The precedences of a valid instance name two items each; they are fixed one after another.
-use mathlib.Core.Bool.{Bool, true, false, not, _&&_, false≢true}
-use mathlib.Core.List.{List, [], _∷_, map}
-use mathlib.Core.Logic.{_⊎_}
-use mathlib.Core.Path.{_≡_, refl, sym, _∙_}
-use Prim.Native.Nat.{ℕ, zero, suc, _+_, _^_, _≤_, _<_}
-use native.Mathlib.Omega.{arith}
-use lib.Bits.{bitOr}
-use lib.Dec.{ltb, eqb}
-use lib.ListN.{getD, length, take, drop}
-use lib.Seq.{getD-take, length-take-le}
-use borrow.Author.Tests.{ltb-true, eqb-false, not-true}
+use Rattle.prelude.specs.Names.{Bool, true, false, List, [], _∷_, map, List·Memᴰ, List·Memᴰ·head, List·Memᴰ·tail, _⊎_, _≡_, refl, _∙_, ℕ, zero, suc}
+use Rattle.prelude.specs.Names.{_+_, _^_, _≤_, _<_, arith, bitOr, getD, length, take, drop, getD-take, length-take-le}
 use Rattle.parts.specs.declared.Precedence.{Precedence}
-use Rattle.parts.specs.declared.Previous.{Previous}
-use Rattle.parts.specs.declared.Previous.the-variants.{Nothing, Was}
-use Rattle.parts.specs.Precedences.{names-items, rises, all-stand}
+use Rattle.parts.specs.declared.Previous.the-variants.{Nothing}
+use Rattle.parts.specs.Precedences.{all-stand}
 use Rattle.parts.specs.Sizes.{no-precedence}
 use Rattle.formats.proofs.Entries.{part-next, part-done}
 use Rattle.instance.specs.Meaning.{precedence-of}
-use Rattle.model.specs.Problem as M
 use Rattle.model.specs.Domains.{Domains, fix-before}
 use Rattle.model.specs.Branching.{fix-precedences}
 use Rattle.model.specs.Order.{Proper, _⊑_}
 use Rattle.model.specs.Relations.{without}
-use Rattle.model.proofs.Below.{and-both}
 use Rattle.model.proofs.Order.{below-refl, below-trans}
 use Rattle.model.proofs.Removal.{fix-before-less}
-use Rattle.domains.specs.Queue.{end, Good}
-use Rattle.domains.specs.Narrowed.{Grown, Outcome, All, Asked, Askable}
+use Rattle.domains.specs.Queue.{end, Good, Long}
+use Rattle.domains.specs.Narrowed.{Grown, Narrowed, Refuted, Outcome, All, Asked, Askable}
 use Rattle.opening.specs.Openings.{FixedIf}
 use Rattle.domains.proofs.Narrowed.{grown-none, grown-then}
 use Rattle.nodes.proofs.BranchRemovals.{taken-one, taken-more, SetOf, set-one, set-more, askable, filled-more, Exact, exact}
-
-stands-at : (n : ℕ) (last : Previous) (l : List Precedence) → all-stand n last l ≡ true → (i : ℕ) → i < length l
-    → names-items n (getD l i no-precedence) ≡ true
-unfolding all-stand
-stands-at n last [] e i h = absurd (omega arith)
-stands-at n last (o ∷ l) e zero h =
-    and-both (names-items n o) (rises last o) (and-both (names-items n o && rises last o) (all-stand n (Was o) l) e .0) .0
-stands-at n last (o ∷ l) e (suc i) h =
-    stands-at n (Was o) l (and-both (names-items n o && rises last o) (all-stand n (Was o) l) e .1) i (omega arith)
-
-names-proper : (n : ℕ) (o : Precedence) → names-items n o ≡ true → Proper n 2 (o .predecessor) (o .successor)
-unfolding names-items
-names-proper n o e =
-    let q = and-both (ltb (o .predecessor) n) (ltb (o .successor) n && not (eqb (o .predecessor) (o .successor))) e in
-    let r = and-both (ltb (o .successor) n) (not (eqb (o .predecessor) (o .successor))) (q .1) in
-    record {
-      axis = omega arith;
-      item-u = ltb-true (o .predecessor) n (q .0);
-      item-v = ltb-true (o .successor) n (r .0);
-      distinct = eqb-false (o .predecessor) (o .successor) (not-true _ (r .1));
-    }
+use Rattle.opening.proofs.Sound.{stand-so}
+use Rattle.model.specs.Problem as M
 
 -- fixing only removes
 pub fixing-less : (l : List M.Precedence) (k : Domains) → fix-precedences l k ⊑ k
@@ -69,56 +38,54 @@ pub record Fixing (m : ℕ) (os : List Precedence) (k : Domains) (q : List ℕ) 
 pub fixing-none : {m : ℕ} {os : List Precedence} {k : Domains} {rows q : List ℕ} → m ≤ length os → Good k rows q → Fixing m os k q 0 k rows q
 fixing-none h g = record { room = h; within = omega arith; left = refl; grown = grown-none g }
 
-module _ {m : ℕ} {os : List Precedence} {k : Domains} {q : List ℕ} {i : ℕ} {j : Domains} {rows r : List ℕ} (f : Fixing m os k q i j rows r) where
-  abbrev u : ℕ
-  u = getD os i no-precedence .predecessor
+-- an entry of a list is in it
+getD-in : {A : Type 0} (d : A) (l : List A) (i : ℕ) → i < length l → List·Memᴰ (getD l i d) l
+getD-in d [] i h = absurd (omega arith)
+getD-in d (x ∷ l) zero h = List·Memᴰ·head refl
+getD-in d (x ∷ l) (suc i) h = List·Memᴰ·tail (getD-in d l i (omega arith))
 
-  abbrev v : ℕ
-  v = getD os i no-precedence .successor
+module _ {m : ℕ} {os : List Precedence} {k : Domains} {q : List ℕ} {i : ℕ} {j : Domains} {rows r : List ℕ} (f : Fixing m os k q i j rows r) where
+  abbrev o : Precedence
+  o = getD os i no-precedence
 
   module _ (stand : all-stand 10 Nothing (take m os) ≡ true) (more : i < m) where
-    pub next-proper : Proper 10 2 u v
+    pub next-proper : Proper 10 2 (o .predecessor) (o .successor)
     next-proper =
-        names-proper 10 (getD os i no-precedence)
-        (rw (getD-take m os i no-precedence more) at (stands-at 10 Nothing (take m os) stand i (rw (length-take-le m os (f .room)) more)))
+        let inner = getD-in no-precedence (take m os) i (rw (length-take-le m os (f .room)) more) in
+        stand-so 10 Nothing stand (rw (getD-take m os i no-precedence more) at inner)
 
     abbrev next : Domains
-    next = fix-before j 2 u v
+    next = fix-before j 2 (o .predecessor) (o .successor)
 
     rest : fix-precedences (map precedence-of (drop (i + 1) (take m os))) next ≡ fix-precedences (map precedence-of (take m os)) k
     rest = (rw (part-next m i os (f .room) no-precedence more) refl) ∙ f .left
 
     -- "v before u" and overlap, as a set
-    module _ {x y : ℕ} (hx : (x ≡ 2 ^ v) × (x < 2 ^ 30)) (hy : (y ≡ 2 ^ (20 + v)) × (y < 2 ^ 30)) where
-      abbrev both : ℕ
-      both = bitOr x y
-
-      of-both : SetOf both v (λ z. (z ≡ 2) ⊎ (z ≡ 0))
+    module _ {x y : ℕ} (hx : (x ≡ 2 ^ (o .successor)) × (x < 2 ^ 30)) (hy : (y ≡ 2 ^ (20 + o .successor)) × (y < 2 ^ 30)) where
+      of-both : SetOf (bitOr x y) (o .successor) (λ z. (z ≡ 2) ⊎ (z ≡ 0))
       of-both = let l = next-proper .item-v in set-more (set-one 0 (omega arith) l (omega arith) hx) (set-one 2 (omega arith) l refl hy)
 
-      pub fixable : Good j rows r × Askable 2 u both
+      pub fixable : Good j rows r × Askable 2 (o .predecessor) (bitOr x y)
       fixable = (f .grown .good, askable next-proper of-both)
 
-      module _ (l : Domains) (rows′ z : List ℕ) where
-        fixed : (b : Bool) → Outcome (Asked 2 u both) (All 2 u both) j r l rows′ z b → Exact next j r l rows′ z b
-        unfolding fix-before without
-        fixed b = exact next-proper (taken-more next-proper (taken-one next-proper (f .grown .good .laid .well-formed) 2) 0) of-both r l rows′ z b
+      fixed : (l : Domains) (rows′ z : List ℕ) (b : Bool)
+          → Outcome (Asked 2 (o .predecessor) (bitOr x y)) (All 2 (o .predecessor) (bitOr x y)) j r l rows′ z b → Exact next j r l rows′ z b
+      unfolding fix-before without
+      fixed = exact next-proper (taken-more next-proper (taken-one next-proper (f .grown .good .laid .well-formed) 2) 0) of-both r
 
-        pub fixing-next : 1 ≤ end q → (b : Bool) → b ≡ true → Outcome (Asked 2 u both) (All 2 u both) j r l rows′ z b
+      module _ {l : Domains} {rows′ z : List ℕ} where
+        pub fixing-next : 1 ≤ end q → Narrowed (Asked 2 (o .predecessor) (bitOr x y)) (All 2 (o .predecessor) (bitOr x y)) j r l rows′ z
             → Fixing m os k q (i + 1) l rows′ z
-        fixing-next least true e o =
-            let (is, grown) = fixed true o in
+        fixing-next least n =
+            let (is, grown) = fixed l rows′ z true n in
             record { room = f .room; within = omega arith; left = rw is rest; grown = grown-then least (f .grown) grown }
-        fixing-next least false e o = absurd (false≢true e)
 
         -- a pair that has nothing left now has nothing left in the end
-        pub fixing-fails : (b : Bool) → b ≡ false → Outcome (Asked 2 u both) (All 2 u both) j r l rows′ z b
+        pub fixing-fails : Long l rows′ z → Refuted (Asked 2 (o .predecessor) (bitOr x y)) j
             → FixedIf (map precedence-of (take m os)) k q l rows′ z false
-        fixing-fails true e o = absurd (false≢true (sym e))
-        fixing-fails false e o =
-            let (long, none) = fixed false o in
+        fixing-fails long none =
             let os′ = map precedence-of (drop (i + 1) (take m os)) in
-            (long, λ full. none (filled-more (fix-precedences os′ next) next (fixing-less os′ next) (rw rest full)))
+            (long, λ full. fixed l rows′ z false (long, none) .1 (filled-more (fix-precedences os′ next) next (fixing-less os′ next) (rw rest full)))
 
   pub fixing-done : m ≤ i → FixedIf (map precedence-of (take m os)) k q j rows r true
   fixing-done h = (rw (part-done m i os (f .room) h) at (f .left), f .grown)

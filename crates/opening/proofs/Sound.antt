@@ -1,19 +1,11 @@
 -- A valid instance is a sound problem.
-use mathlib.Core.Bool.{true, not, _&&_}
-use mathlib.Core.List.{List, [], _∷_, map, List·Memᴰ, List·Memᴰ·not-nil, List·Memᴰ·cases-cons}
-use mathlib.Core.Logic.{_⊎_, inl, inr}
-use mathlib.Core.Path.{_≡_}
-use Prim.Native.Nat.{ℕ, zero, suc, _≤_, _<_}
-use native.Mathlib.Omega.{arith}
-use lib.Dec.{leb, ltb, eqb}
-use lib.ListN.{length, getD}
-use lib.Seq.{getD-take, length-take-le}
-use borrow.Author.Tests.{leb-true, ltb-true, eqb-false, not-true}
-use Rattle.model.proofs.Below.{and-both}
+use Rattle.prelude.specs.Names.{true, not, _&&_, List, [], _∷_, List·Memᴰ, List·Memᴰ·head, List·Memᴰ·tail, _≡_, refl, ap, ℕ, zero, suc, _≤_, _<_}
+use Rattle.prelude.specs.Names.{arith, length, getD, getD-take, length-take-le, leb-true, ltb-true, lt-ltb, eqb-false, ne-eqb, not-true}
+use mathlib.Core.List.{Memᴰ·of-map}
+use Rattle.model.proofs.Below.{and-both, and-intro}
 use Rattle.model.specs.Admits.{Sound}
 use Rattle.model.specs.Order.{Proper}
-use Rattle.model.specs.Problem as M
-use Rattle.parts.specs.Precedences.{names-items, all-stand}
+use Rattle.parts.specs.Precedences.{names-items, rises, all-stand}
 use Rattle.parts.specs.Sizes.{positive, all-have-size, no-item}
 use Rattle.parts.specs.declared.Item.{Item}
 use Rattle.parts.specs.declared.Precedence.{Precedence}
@@ -23,18 +15,15 @@ use Rattle.parts.specs.declared.Size.{Size}
 use Rattle.instance.specs.Meaning.{measure, precedence-of, problem-of}
 use Rattle.instance.specs.Valid.{valid, items-of, precedences-of}
 use Rattle.instance.specs.declared.Instance.{Instance}
+use Rattle.nodes.proofs.Loops.{by-axis}
+use Rattle.model.specs.Problem as M
 
-positive-so : (s : Size) → positive s ≡ true → (a : ℕ) → 1 ≤ measure a s
+positive-so : (s : Size) → positive s ≡ true → (a : ℕ) → a < 3 → 1 ≤ measure a s
 unfolding positive
-positive-so s h a =
-    let (x, r) = and-both (leb 1 (s .width)) (leb 1 (s .depth) && leb 1 (s .shifts)) h in
-    let (y, t) = and-both (leb 1 (s .depth)) (leb 1 (s .shifts)) r in
-    go a (leb-true _ _ x) (leb-true _ _ y) (leb-true _ _ t)
-  where
-    go : (a : ℕ) → 1 ≤ s .width → 1 ≤ s .depth → 1 ≤ s .shifts → 1 ≤ measure a s
-    go zero x y t = x
-    go (suc zero) x y t = y
-    go (suc (suc a)) x y t = t
+positive-so s h =
+    let q = and-both _ _ h in
+    let r = and-both _ _ (q .1) in
+    by-axis (λ a. 1 ≤ measure a s) (leb-true _ _ (q .0)) (leb-true _ _ (r .0)) (leb-true _ _ (r .1))
 
 sizes-so : (l : List Item) → all-have-size l ≡ true → (u : ℕ) → u < length l → positive (getD l u no-item .size) ≡ true
 unfolding all-have-size
@@ -42,49 +31,54 @@ sizes-so [] h u g = absurd (omega arith)
 sizes-so (i ∷ l) h zero g = and-both _ _ h .0
 sizes-so (i ∷ l) h (suc u) g = sizes-so l (and-both (positive (i .size)) (all-have-size l) h .1) u (omega arith)
 
+-- a precedence that may stand names two items
 names-so : (n : ℕ) (o : Precedence) → names-items n o ≡ true → Proper n M.time (o .predecessor) (o .successor)
 unfolding names-items
 names-so n o h =
-    let (u, r) = and-both (ltb (o .predecessor) n) (ltb (o .successor) n && not (eqb (o .predecessor) (o .successor))) h in
-    let (v, d) = and-both (ltb (o .successor) n) (not (eqb (o .predecessor) (o .successor))) r in
-    record { axis = omega arith; item-u = ltb-true _ _ u; item-v = ltb-true _ _ v; distinct = eqb-false _ _ (not-true _ d) }
+    let q = and-both _ _ h in
+    let r = and-both _ _ (q .1) in
+    record { axis = omega arith; item-u = ltb-true _ _ (q .0); item-v = ltb-true _ _ (r .0); distinct = eqb-false _ _ (not-true _ (r .1)) }
 
-stand-so : (n : ℕ) (last : Previous) (l : List Precedence) → all-stand n last l ≡ true
-    → (o : M.Precedence) → List·Memᴰ o (map precedence-of l) → Proper n M.time (o .predecessor) (o .successor)
+pub stand-so : (n : ℕ) (last : Previous) {l : List Precedence} → all-stand n last l ≡ true → {o : Precedence} → List·Memᴰ o l
+    → Proper n M.time (o .predecessor) (o .successor)
 unfolding all-stand
-stand-so n last [] h o m = absurd (List·Memᴰ·not-nil m)
-stand-so n last (x ∷ l) h o m =
-    let (f, r) = and-both _ (all-stand n (Was x) l) h in
-    go (List·Memᴰ·cases-cons m) (names-so n x (and-both _ _ f .0)) (λ q. stand-so n (Was x) l r o q)
-  where
-    go : (o ≡ precedence-of x) ⊎ List·Memᴰ o (map precedence-of l) → Proper n M.time (x .predecessor) (x .successor)
-        → (List·Memᴰ o (map precedence-of l) → Proper n M.time (o .predecessor) (o .successor)) → Proper n M.time (o .predecessor) (o .successor)
-    go (inl e) f ih = rw e f
-    go (inr q) f ih = ih q
+stand-so n last h (List·Memᴰ·head {x = x} e) = rw e (names-so n x (and-both _ _ (and-both _ _ h .0) .0))
+stand-so n last h (List·Memᴰ·tail {x = x} {xs = l} m) = stand-so n (Was x) (and-both (names-items n x && rises last x) (all-stand n (Was x) l) h .1) m
 
--- an array of items has as many as an instance may count
+-- precedences of n items are precedences of ten
+pub stands-wide : (n : ℕ) → n ≤ 10 → (last : Previous) (l : List Precedence) → all-stand n last l ≡ true → all-stand 10 last l ≡ true
+unfolding all-stand names-items
+stands-wide n h last [] e = refl
+stands-wide n h last (o ∷ os) e =
+    let q = and-both (names-items n o && rises last o) (all-stand n (Was o) os) e in
+    let r = and-both (names-items n o) (rises last o) (q .0) in
+    let p = names-so n o (r .0) in
+    let below = lt-ltb (o .successor) 10 (omega arith) in
+    and-intro (and-intro (and-intro (lt-ltb (o .predecessor) 10 (omega arith)) (and-intro below (ap not (ne-eqb _ _ (p .distinct))))) (r .1))
+    (stands-wide n h (Was o) os (q .1))
+
 -- validity taken apart
 pub valid-parts : (i : Instance) → valid i ≡ true
-    → (i .«item_count» ≤ 10) × (i .«precedence_count» ≤ 90) × (all-have-size (items-of i) ≡ true) × (all-stand (i .«item_count») Nothing (precedences-of i) ≡ true)
+    → (i .«item_count» ≤ 10) × (i .«precedence_count» ≤ 90) × (all-have-size (items-of i) ≡ true)
+    × (all-stand (i .«item_count») Nothing (precedences-of i) ≡ true)
 unfolding valid
 valid-parts i h =
+    let q = and-both _ _ h in
+    let r = and-both _ _ (q .1) in
     let sizes = all-have-size (items-of i) in
     let stand = all-stand (i .«item_count») Nothing (precedences-of i) in
-    let (count, r₁) = and-both (leb (i .«item_count») 10) (leb (i .«precedence_count») 90 && (positive (i .container) && (sizes && stand))) h in
-    let (many, r₂) = and-both (leb (i .«precedence_count») 90) (positive (i .container) && (sizes && stand)) r₁ in
-    let (container, r₃) = and-both (positive (i .container)) (sizes && stand) r₂ in
-    let (σ, τ) = and-both sizes stand r₃ in
-    (leb-true _ _ count, leb-true _ _ many, σ, τ)
+    let s = and-both sizes stand (and-both (positive (i .container)) (sizes && stand) (r .1) .1) in
+    (leb-true _ _ (q .0), leb-true _ _ (r .0), s .0, s .1)
 
 pub valid-sound : (i : Instance) → valid i ≡ true → length (i .items) ≡ 10 → Sound (problem-of i)
 unfolding problem-of
 valid-sound i h long =
     let (limited, many, σ, τ) = valid-parts i h in
+    let n = i .«item_count» in
     record {
       limited = limited;
-      positive = λ a u la lu. positive-so _ (size-at limited σ u lu) a;
-      named = stand-so (i .«item_count») Nothing (precedences-of i) τ;
+      positive = λ a u la lu.
+          let size = sizes-so (items-of i) σ u (rw (length-take-le n (i .items) (omega arith)) lu) in
+          positive-so _ (rw (getD-take n (i .items) u no-item lu) at size) a la;
+      named = λ o m. let (x, mem, e) = Memᴰ·of-map precedence-of (precedences-of i) m in rw (← e) (stand-so n Nothing τ mem);
     }
-  where
-    size-at : i .«item_count» ≤ 10 → all-have-size (items-of i) ≡ true → (u : ℕ) → u < i .«item_count» → positive (getD (i .items) u no-item .size) ≡ true
-    size-at l s u lu = rw (getD-take (i .«item_count») (i .items) u no-item lu) at (sizes-so (items-of i) s u (rw (length-take-le (i .«item_count») (i .items) (omega arith)) lu))

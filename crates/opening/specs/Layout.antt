@@ -1,9 +1,5 @@
 -- An instance's measures beside the totals of chains.
-use mathlib.Core.Bool.{Bool, true, false}
-use mathlib.Core.List.{List}
-use mathlib.Core.Path.{_≡_}
-use Prim.Native.Nat.{ℕ, _+_, _*_, _≤_, _<_}
-use lib.ListN.{getD, length, set}
+use Rattle.prelude.specs.Names.{Bool, true, false, List, _≡_, ℕ, _+_, _≤_, _<_, getD, length, set}
 use Rattle.model.specs.Problem.{Problem}
 use Rattle.model.specs.Wide.{wide}
 use Rattle.model.specs.Toward.{Direction}

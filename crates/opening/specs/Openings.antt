@@ -1,8 +1,5 @@
 -- The opening domains by removals.
-use mathlib.Core.Bool.{Bool, true, false}
-use mathlib.Core.List.{List, []}
-use mathlib.Core.Path.{_≡_}
-use Prim.Native.Nat.{ℕ, _+_, _≤_, _<_}
+use Rattle.prelude.specs.Names.{Bool, true, false, List, [], _≡_, ℕ, _+_, _≤_, _<_}
 use Rattle.model.specs.Problem.{Problem, Precedence}
 use Rattle.model.specs.Domains.{Domains}
 use Rattle.model.specs.Order.{Proper}
@@ -10,12 +7,12 @@ use Rattle.model.specs.Branching.{fix-precedences}
 use Rattle.model.specs.Relations.{gone, Filled, Untouched}
 use Rattle.model.specs.Toward.{Direction}
 use Rattle.model.specs.Run.{look}
-use Rattle.model.specs.Search as S
 use Rattle.domains.specs.Queue.{Long}
 use Rattle.domains.specs.Narrowed.{Grown}
 use Rattle.chains.specs.Totals.{table, capacity-at}
 use Rattle.nodes.specs.Nodes.{At}
 use Rattle.opening.specs.declared.Root.{Root}
+use Rattle.model.specs.Search as S
 
 -- all but "u before v" on t is removed for each precedence; or that leaves a pair nothing
 abbrev pub FixedIf : List Precedence → Domains → List ℕ → Domains → List ℕ → List ℕ → Bool → Type 0

@@ -1,39 +1,11 @@
 -- The clearance's answer: refused exactly for the table's conditions, and else the clearance.
-use mathlib.Core.Bool.{Bool, true, false, _&&_}
-use mathlib.Core.Logic.{_⊎_, inl, inr, _↔_}
-use mathlib.Core.Path.{_≡_, refl, sym, subst}
-use Prim.Native.Nat.{ℕ, _≤_, _<_}
-use lib.Dec.{ltb}
-use lib.IntN.{ℤ}
-use borrow.Author.Tests.{ltb-true, ltb-false, lt-ltb, le-ltb}
-use Rattle.model.proofs.Below.{and-both}
-use Rattle.refusal.specs.declared.Refusal.{Refusal}
+use Rattle.prelude.specs.Names.{Bool, true, false, and-false, _⊎_, inl, inr, _↔_, _≡_, refl, sym, subst, ℕ, _<_, decLt, arith, ℤ, lt-ltb, le-ltb}
 use Rattle.instance.specs.declared.Instance.{Instance}
 use Rattle.instance.specs.declared.Packing.{Packing}
 use Rattle.instance.specs.Valid.{valid}
 use Rattle.instance.specs.Meaning.{problem-of, positions-of}
 use Rattle.packing.specs.declared.ClearanceAnswer.{ClearanceAnswer}
-use Rattle.packing.specs.declared.ClearanceAnswer.the-variants.{Clearance, Refused}
-use Rattle.packing.specs.Clearance.{clearance-between, refused-unless, clearance-answer}
-use Rattle.packing.specs.Clearance.{clearance-values, ClearanceFault, Answers}
-
-and-false : (b : Bool) → (b && false) ≡ false
-and-false true = refl
-and-false false = refl
-
--- two numbers that are not both below a third
-not-both-below : (u v n : ℕ) → (ltb u n && ltb v n) ≡ false → (n ≤ u) ⊎ (n ≤ v)
-not-both-below u v n = go (ltb u n) refl
-  where
-    go : (b : Bool) → ltb u n ≡ b → (b && ltb v n) ≡ false → (n ≤ u) ⊎ (n ≤ v)
-    go true h k = inr (ltb-false v n k)
-    go false h k = inl (ltb-false u n h)
-
--- what holds of a refusal where the test fails, and else of the answer
-by-test : (P : ClearanceAnswer → Type 0) (b : Bool) (e : Refusal) (r : ClearanceAnswer)
-    → (b ≡ false → P (Refused e)) → (b ≡ true → P r) → P (refused-unless b e r)
-by-test P false e r f g = f refl
-by-test P true e r f g = g refl
+use Rattle.packing.specs.Clearance.{clearance-between, clearance-answer, clearance-values, ClearanceFault, Answers}
 
 module _ (i : Instance) (q : Packing) (u v a : ℕ) where
   abbrev n : ℕ
@@ -46,37 +18,28 @@ module _ (i : Instance) (q : Packing) (u v a : ℕ) where
       × (z ≡ clearance-between (problem-of i) (positions-of q) a u v)
   Grounds (inr (m, place)) = ClearanceFault i u v a m × (place ≡ 0)
 
-  grounds : Grounds (clearance-values (clearance-answer i q u v a))
+  grounds : (b : Bool) → valid i ≡ b → Dec (u < n) → Dec (v < n) → Dec (a < 3) → Grounds (clearance-values (clearance-answer i q u v a))
   unfolding clearance-answer
-  grounds =
-      let P : ClearanceAnswer → Type 0 = λ r. Grounds (clearance-values r) in
-      by-test P (valid i) _ _ (λ w. (ClearanceFault.nine w refl, refl)) λ w.
-      by-test P (ltb u n && ltb v n) _ _
-      (λ h. (ClearanceFault.five w (not-both-below u v n h) refl, refl)) λ h.
-      let (hu, hv) = and-both (ltb u n) (ltb v n) h in
-      let lu = ltb-true u n hu in
-      let lv = ltb-true v n hv in
-      by-test P (ltb a 3) _ _ (λ l. (ClearanceFault.eight w lu lv (ltb-false a 3 l) refl, refl)) λ l.
-      (w, lu, lv, ltb-true a 3 l, refl)
+  grounds false w hu hv l = rw w (ClearanceFault.nine w refl, refl)
+  grounds true w (no h) hv l = rw (w, le-ltb u n (omega arith)) (ClearanceFault.five w (inl (omega arith)) refl, refl)
+  grounds true w (yes hu) (no h) l = rw (w, le-ltb v n (omega arith), and-false) (ClearanceFault.five w (inr (omega arith)) refl, refl)
+  grounds true w (yes hu) (yes hv) (no l) =
+      rw (w, lt-ltb u n hu, lt-ltb v n hv, le-ltb a 3 (omega arith)) (ClearanceFault.eight w hu hv (omega arith) refl, refl)
+  grounds true w (yes hu) (yes hv) (yes l) = rw (w, lt-ltb u n hu, lt-ltb v n hv, lt-ltb a 3 l) (w, hu, hv, l, refl)
 
-  refuses : {m place : ℕ} → ClearanceFault i u v a m → place ≡ 0
-      → clearance-values (clearance-answer i q u v a) ≡ inr (m, place)
+  ends-so : (x : ℤ ⊎ (ℕ × ℕ)) → Grounds x → clearance-values (clearance-answer i q u v a) ≡ x
   unfolding clearance-answer
-  refuses (ClearanceFault.nine w k) z = rw (w, k, z)
-  refuses (ClearanceFault.five w (inl h) k) z = rw (w, le-ltb u n h, k, z)
-  refuses (ClearanceFault.five w (inr h) k) z = rw (w, le-ltb v n h, and-false, k, z)
-  refuses (ClearanceFault.eight w lu lv l k) z = rw (w, lt-ltb u n lu, lt-ltb v n lv, le-ltb a 3 l, k, z)
+  ends-so (inl y) (w, lu, lv, l, k) = rw (w, lt-ltb u n lu, lt-ltb v n lv, lt-ltb a 3 l, k)
+  ends-so (inr (m, place)) (ClearanceFault.nine w k, z) = rw (w, k, z)
+  ends-so (inr (m, place)) (ClearanceFault.five w (inl h) k, z) = rw (w, le-ltb u n h, k, z)
+  ends-so (inr (m, place)) (ClearanceFault.five w (inr h) k, z) = rw (w, le-ltb v n h, and-false, k, z)
+  ends-so (inr (m, place)) (ClearanceFault.eight w lu lv l k, z) = rw (w, lt-ltb u n lu, lt-ltb v n lv, le-ltb a 3 l, k, z)
+
+  told : (x : ℤ ⊎ (ℕ × ℕ)) → (clearance-values (clearance-answer i q u v a) ≡ x) ↔ Grounds x
+  told x = ((λ k. subst Grounds k (grounds (valid i) refl (decLt u n) (decLt v n) (decLt a 3))), ends-so x)
 
   pub answers : Answers i q u v a (clearance-answer i q u v a)
-  unfolding clearance-answer
-  answers =
-      record {
-        refused = λ m place. ((λ k. subst Grounds k grounds), (λ (f, z). refuses f z));
-        value = λ z. (
-          (λ k. subst Grounds k grounds),
-          (λ (w, lu, lv, l, k). rw (w, lt-ltb u n lu, lt-ltb v n lv, lt-ltb a 3 l, k)),
-        );
-      }
+  answers = record { refused = λ m place. told (inr (m, place)); value = λ z. told (inl z) }
 
   -- both promises of the clearance, from the first
   pub answered : (r : ClearanceAnswer) → r ≡ clearance-answer i q u v a

@@ -1,10 +1,5 @@
 -- The check's answer says whether the packing is feasible.
-use mathlib.Core.Bool.{Bool, true, false, false≢true}
-use mathlib.Core.Logic.{_↔_}
-use mathlib.Core.Path.{_≡_, refl, sym, subst}
-use Prim.Native.Nat.{ℕ, _+_}
-use native.Mathlib.Omega.{arith}
-use Rattle.model.specs.Problem as M
+use Rattle.prelude.specs.Names.{Bool, true, false, not, false≢true, _↔_, _≡_, refl, sym, subst, _∙_, ℕ, _+_, arith, not-true, not-false}
 use Rattle.model.proofs.Feasible.{feasible-so}
 use Rattle.instance.specs.declared.Instance.{Instance}
 use Rattle.instance.specs.declared.Packing.{Packing}
@@ -12,6 +7,14 @@ use Rattle.instance.specs.Valid.{valid}
 use Rattle.instance.specs.Meaning.{problem-of, positions-of}
 use Rattle.packing.specs.declared.CheckAnswer.{CheckAnswer}
 use Rattle.packing.specs.Check.{answer-of, check-answer, check-number, Decides}
+use Rattle.model.specs.Problem as M
+
+-- a test that was made
+pub passes : {t b : Bool} → t ≡ b → not t ≡ false → b ≡ true
+passes {t} e h = sym e ∙ not-false t h
+
+pub failed : {t b : Bool} → t ≡ b → not t ≡ true → b ≡ false
+failed {t} e h = sym e ∙ not-true t h
 
 -- the numbers by the two tests: v, that the value is an instance, and f, that the packing is feasible
 module _ (F : Type 0) where

@@ -1,218 +1,156 @@
 -- What the clearance says of two items: above 0 a gap, 0 touching, below 0 the least move that parts them.
-use mathlib.Core.Bool.{Bool, true, false, cond}
-use mathlib.Core.Logic.{_⊎_, inl, inr, _↔_}
-use mathlib.Core.Path.{_≡_, refl, sym, ap, _∙_}
-use Prim.Native.Nat.{ℕ, zero, suc, _+_, _-_, _≤_, _<_}
-use native.Mathlib.Omega.{arith}
-use lib.Dec.{ltb, leb→le, le→leb}
-use lib.IntN.{ℤ, pos, negsuc, negℤ, natAbs, subℕ, _+ℤ_, _-ℤ_}
-use lib.Signed.{ltZ, _≤ℤ_}
-use borrow.Author.Tests.{ltb-true, ltb-false}
+use Rattle.prelude.specs.Names.{_⊎_, inl, inr, ⊎-elim, _↔_, _≡_, refl, ap, _∙_, ℕ, zero, suc, _+_, _≤_, _<_, _^_, max, decLe, arith, ℤ, pos, negsuc}
+use Rattle.prelude.specs.Names.{natAbs, _+ℤ_, _-ℤ_, _≤ℤ_, lt-ltb, le-ltb}
+use lib.Dec.{leb→le, le→leb}
+use lib.IntN.{negℤ, subℕ}
+use lib.Signed.{mag}
+use mir.Syntax.{w32}
+use mir.Val.{SFits, toZ, ofZ}
+use mir.ValLaws.{toZ-ofZ}
 use Rattle.model.specs.Problem.{Problem, Positions, EndsBefore}
 use Rattle.packing.specs.Clearance.{greater-of, from-end-to-start, clearance-between, Gap, PartedByMove, LeastMove, Overlap}
 
--- a difference of two numbers is one of them, or below 0
-Difference : ℕ → ℕ → ℤ → Type 0
-Difference x y z = ((g : ℕ) × (x ≡ y + g) × (z ≡ pos g)) ⊎ ((d : ℕ) × (x + suc d ≡ y) × (z ≡ negsuc d))
+-- how far an integer is above 0, and how far below
+abbrev up : ℤ → ℕ
+up (pos n) = n
+up (negsuc n) = 0
 
-sub-cases : (x y : ℕ) → Difference x y (subℕ x y)
-unfolding Difference
-sub-cases x y = go (ltb x y) refl
+abbrev down : ℤ → ℕ
+down (pos n) = 0
+down (negsuc n) = suc n
+
+same-integer : (x y : ℤ) → up x + down y ≡ up y + down x → x ≡ y
+same-integer (pos x) (pos y) e = ap pos (omega arith)
+same-integer (pos x) (negsuc y) e = absurd (omega arith)
+same-integer (negsuc x) (pos y) e = absurd (omega arith)
+same-integer (negsuc x) (negsuc y) e = ap negsuc (omega arith)
+
+order-so : (x y : ℤ) → (x ≤ℤ y) ↔ (up x + down y ≤ up y + down x)
+order-so (pos x) (pos y) = omega (arith, leb→le, le→leb)
+order-so (pos x) (negsuc y) = ((λ h. absurd (h .le)), (λ h. absurd (omega arith)))
+order-so (negsuc x) (pos y) = omega arith
+order-so (negsuc x) (negsuc y) = omega (arith, leb→le, le→leb)
+
+negated : (x : ℤ) → (up (negℤ x) ≡ down x) × (down (negℤ x) ≡ up x)
+negated (pos zero) = omega arith
+negated (pos (suc n)) = omega arith
+negated (negsuc n) = omega arith
+
+absolute : (x : ℤ) → natAbs x ≡ up x + down x
+absolute (pos n) = omega arith
+absolute (negsuc n) = omega arith
+
+-- by which of two numbers is the less
+by-lt : {C : Type 0} (a b : ℕ) → (a < b → C) → (b ≤ a → C) → C
+by-lt {C} a b f g = go (decLe b a)
   where
-    go : (t : Bool) → ltb x y ≡ t → Difference x y (cond t (negsuc (y - suc x)) (pos (x - y)))
-    go true e = let h = ltb-true x y e in inr (y - suc x, omega arith, refl)
-    go false e = let h = ltb-false x y e in inl (x - y, omega arith, refl)
+    go : Dec (b ≤ a) → C
+    go (yes h) = g h
+    go (no h) = f (omega arith)
 
-difference : (x y : ℕ) → Difference x y (pos x -ℤ pos y)
-unfolding Difference
-difference x zero = inl (x, omega arith, ap pos (omega arith))
-difference x (suc y) = sub-cases x (suc y)
+difference : (a b : ℕ) → up (subℕ a b) + b ≡ down (subℕ a b) + a
+difference a b = by-lt a b (λ h. rw (lt-ltb a b h) (omega arith)) (λ h. rw (le-ltb a b h) (omega arith))
 
--- the clearance of the interval from s of length m and the one from s₂ of length m₂
-Cases : ℕ → ℕ → ℕ → ℕ → ℤ → Type 0
-Cases s m s₂ m₂ z =
-    ((g : ℕ) × (z ≡ pos g) × ((s + m + g ≡ s₂) ⊎ (s₂ + m₂ + g ≡ s)))
-    ⊎ ((d : ℕ) × (z ≡ negsuc d) × (s₂ + suc d ≤ s + m) × (s + suc d ≤ s₂ + m₂) × ((s₂ + suc d ≡ s + m) ⊎ (s + suc d ≡ s₂ + m₂)))
+sum : (x y : ℤ) → up (x +ℤ y) + (down x + down y) ≡ down (x +ℤ y) + (up x + up y)
+sum (pos x) (pos y) = omega arith
+sum (pos x) (negsuc y) = omega (arith, difference x (suc y))
+sum (negsuc x) (pos y) = omega (arith, difference y (suc x))
+sum (negsuc x) (negsuc y) = omega arith
 
-cases : (s m s₂ m₂ : ℕ) (x y : ℤ) → Difference s₂ (s + m) x → Difference s (s₂ + m₂) y → Cases s m s₂ m₂ (greater-of x y)
-unfolding Difference Cases greater-of
-cases s m s₂ m₂ x y (inl (g, e, z)) (inl (h, f, w)) = rw (z, w) (go (ltb g h))
+-- the greater of two, each measured from the same number below them
+greatest : (x y : ℤ) (k a b : ℕ) → up x + k ≡ down x + a → up y + k ≡ down y + b → up (greater-of x y) + k ≡ down (greater-of x y) + max a b
+unfolding greater-of
+greatest (pos x) (pos y) k a b e f = by-lt x y (λ h. rw (lt-ltb x y h) (omega arith)) (λ h. rw (le-ltb x y h) (omega arith))
+greatest (pos x) (negsuc y) k a b e f = omega arith
+greatest (negsuc x) (pos y) k a b e f = omega arith
+greatest (negsuc x) (negsuc y) k a b e f = by-lt y x (λ h. rw (lt-ltb y x h) (omega arith)) (λ h. rw (le-ltb y x h) (omega arith))
+
+-- a difference of two small numbers fits an i32
+pub diff-fits : (a b : ℕ) → a < 2 ^ 31 → b < 2 ^ 31 → SFits w32 (pos a -ℤ pos b)
+diff-fits a b ha hb = let n = negated (pos b) in go (pos a -ℤ pos b) (omega (arith, sum (pos a) (negℤ (pos b))))
   where
-    go : (t : Bool) → Cases s m s₂ m₂ (cond t (pos h) (pos g))
-    go true = inl (h, refl, inr (sym f))
-    go false = inl (g, refl, inl (sym e))
-cases s m s₂ m₂ x y (inl (g, e, z)) (inr (h, f, w)) = rw (z, w) (inl (g, refl, inl (sym e)))
-cases s m s₂ m₂ x y (inr (d, e, z)) (inl (h, f, w)) = rw (z, w) (inl (h, refl, inr (sym f)))
-cases s m s₂ m₂ x y (inr (d, e, z)) (inr (h, f, w)) = rw (z, w) (go (ltb h d) refl)
-  where
-    go : (t : Bool) → ltb h d ≡ t → Cases s m s₂ m₂ (cond t (negsuc h) (negsuc d))
-    go true q = let l = ltb-true h d q in inr (h, refl, omega arith, omega arith, inr f)
-    go false q = let l = ltb-false h d q in inr (d, refl, omega arith, omega arith, inl e)
+    go : (z : ℤ) → up z + b ≡ down z + a → SFits w32 z
+    go (pos n) e = record { sfits = omega arith }
+    go (negsuc n) e = record { sfits = omega arith }
 
--- orders between a difference and a number
-below-of : (a b c : ℕ) → a ≤ b + c → subℕ a b ≤ℤ pos c
-below-of a b c h = go (ltb a b) refl
-  where
-    go : (t : Bool) → ltb a b ≡ t → cond t (negsuc (b - suc a)) (pos (a - b)) ≤ℤ pos c
-    go true e = record { le = tt }
-    go false e = let l = ltb-false a b e in record { le = le→leb (a - b) c (omega arith) }
+-- an i32 that a call gives is the integer that it was
+pub as-told : {x y : ℤ} → mag x < 2 ^ 31 → x ≡ y → toZ w32 (ofZ w32 x) ≡ y
+as-told {x} h e = toZ-ofZ w32 x (record { sfits = h }) ∙ e
 
-below-so : (a b c : ℕ) → subℕ a b ≤ℤ pos c → a ≤ b + c
-below-so a b c = go (ltb a b) refl
-  where
-    go : (t : Bool) → ltb a b ≡ t → cond t (negsuc (b - suc a)) (pos (a - b)) ≤ℤ pos c → a ≤ b + c
-    go true e h = let l = ltb-true a b e in omega arith
-    go false e h = let k = leb→le (a - b) c (h .le) in omega arith
+module _ (p : Problem) (q : Positions) (a : ℕ) where
+  abbrev end : ℕ → ℕ
+  end u = q a u + p .size a u
 
-above-so : (a b c : ℕ) → pos c ≤ℤ subℕ a b → c + b ≤ a
-above-so a b c = go (ltb a b) refl
-  where
-    go : (t : Bool) → ltb a b ≡ t → pos c ≤ℤ cond t (negsuc (b - suc a)) (pos (a - b)) → c + b ≤ a
-    go true e h = absurd (h .le)
-    go false e h = let l = ltb-false a b e in let k = leb→le c (a - b) (h .le) in omega arith
+  -- an integer is the clearance of u and v: measured from the sum of their ends it is the greater of two sums
+  abbrev Clears : ℕ → ℕ → ℤ → Type 0
+  Clears u v z = up z + (end u + end v) ≡ down z + max (q a v + end v) (q a u + end u)
 
-plus-of : (a b c s : ℕ) → a + c ≤ b + s → (subℕ a b +ℤ pos c) ≤ℤ pos s
-plus-of a b c s h = go (ltb a b) refl
-  where
-    go : (t : Bool) → ltb a b ≡ t → (cond t (negsuc (b - suc a)) (pos (a - b)) +ℤ pos c) ≤ℤ pos s
-    go true e = let l = ltb-true a b e in below-of c (suc (b - suc a)) s (omega arith)
-    go false e = let l = ltb-false a b e in record { le = le→leb (a - b + c) s (omega arith) }
-
-plus-so : (a b c s : ℕ) → (subℕ a b +ℤ pos c) ≤ℤ pos s → a + c ≤ b + s
-plus-so a b c s = go (ltb a b) refl
-  where
-    go : (t : Bool) → ltb a b ≡ t → (cond t (negsuc (b - suc a)) (pos (a - b)) +ℤ pos c) ≤ℤ pos s → a + c ≤ b + s
-    go true e h = let l = ltb-true a b e in let k = below-so c (suc (b - suc a)) s h in omega arith
-    go false e h = let l = ltb-false a b e in let k = leb→le (a - b + c) s (h .le) in omega arith
-
-module _ (p : Problem) (q : Positions) (a u v : ℕ) where
-  clearance-cases : Cases (q a u) (p .size a u) (q a v) (p .size a v) (clearance-between p q a u v)
+  measured : (u v : ℕ) → Clears u v (clearance-between p q a u v)
   unfolding clearance-between from-end-to-start
-  clearance-cases = cases _ _ _ _ _ _ (difference _ _) (difference _ _)
+  measured u v = greatest _ _ _ _ _ (from u v) (omega (arith, from v u))
+    where
+      from : (u v : ℕ) → let z = pos (q a v) -ℤ pos (end u) in up z + (end u + end v) ≡ down z + (q a v + end v)
+      from u v = omega (arith, negated (pos (end u)), sum (pos (q a v)) (negℤ (pos (end u))))
 
   -- moves of v where the two overlap by d
-  least-move : (d : ℕ) → q a v + suc d ≤ q a u + p .size a u → q a u + suc d ≤ q a v + p .size a v
-      → (q a v + suc d ≡ q a u + p .size a u) ⊎ (q a u + suc d ≡ q a v + p .size a v) → LeastMove p q a u v (suc d)
+  least-move : (u v d : ℕ) → Clears u v (negsuc d) → LeastMove p q a u v (suc d)
   unfolding PartedByMove
-  least-move d h k c = record { parts = parts c; least = least }
+  least-move u v d e = record { parts = parts; least = least }
     where
-      parts : (q a v + suc d ≡ q a u + p .size a u) ⊎ (q a u + suc d ≡ q a v + p .size a v) → (m : ℤ) × (natAbs m ≡ suc d) × PartedByMove p q a u v m
-      parts (inl e) = (pos (suc d), refl, inl (record { le = le→leb (q a u + p .size a u) (q a v + suc d) (omega arith) }))
-      parts (inr e) = (negsuc d, refl, inr (plus-of (q a v) (suc d) (p .size a v) (q a u) (omega arith)))
+      parts : (m : ℤ) × (natAbs m ≡ suc d) × PartedByMove p q a u v m
+      parts = by-lt (q a v + end v) (q a u + end u)
+          (λ h. (negsuc d, refl, inr (simp order-so (omega (arith, difference (q a v) (suc d), sum (subℕ (q a v) (suc d)) (pos (p .size a v)))))))
+          (λ h. (pos (suc d), refl, inl (simp order-so (omega arith))))
 
       least : (m : ℤ) → PartedByMove p q a u v m → suc d ≤ natAbs m
-      least (pos n) (inl w) = let l = leb→le (q a u + p .size a u) (q a v + n) (w .le) in omega arith
-      least (pos n) (inr w) = let l = leb→le (q a v + n + p .size a v) (q a u) (w .le) in omega arith
-      least (negsuc n) (inl w) = let l = above-so (q a v) (suc n) (q a u + p .size a u) w in omega arith
-      least (negsuc n) (inr w) = let l = plus-so (q a v) (suc n) (p .size a v) (q a u) w in omega arith
+      least m (inl w) = omega (arith, absolute m, sum (pos (q a v)) m, simp order-so at w)
+      least m (inr w) = omega (arith, absolute m, sum (pos (q a v)) m, sum (pos (q a v) +ℤ m) (pos (p .size a v)), simp order-so at w)
 
--- the greater of two does not depend on which comes first
-greater-turned : (x y : ℤ) → greater-of x y ≡ greater-of y x
-unfolding greater-of
-greater-turned (pos x) (pos y) = go (ltb x y) refl (ltb y x) refl
-  where
-    go : (s : Bool) → ltb x y ≡ s → (t : Bool) → ltb y x ≡ t → cond s (pos y) (pos x) ≡ cond t (pos x) (pos y)
-    go true e true f = absurd (omega (arith, ltb-true x y e, ltb-true y x f))
-    go true e false f = refl
-    go false e true f = refl
-    go false e false f = ap pos (omega (arith, ltb-false x y e, ltb-false y x f))
-greater-turned (pos x) (negsuc y) = refl
-greater-turned (negsuc x) (pos y) = refl
-greater-turned (negsuc x) (negsuc y) = go (ltb y x) refl (ltb x y) refl
-  where
-    go : (s : Bool) → ltb y x ≡ s → (t : Bool) → ltb x y ≡ t → cond s (negsuc y) (negsuc x) ≡ cond t (negsuc x) (negsuc y)
-    go true e true f = absurd (omega (arith, ltb-true y x e, ltb-true x y f))
-    go true e false f = refl
-    go false e true f = refl
-    go false e false f = ap negsuc (omega (arith, ltb-false y x e, ltb-false x y f))
+  module _ (u v : ℕ) where
+    -- "The clearance of u and v": it is that of v and u
+    pub clearance-turned : clearance-between p q a u v ≡ clearance-between p q a v u
+    clearance-turned = same-integer _ _ (omega (arith, measured u v, measured v u))
 
-module _ (p : Problem) (q : Positions) (a u v : ℕ) where
-  -- "The clearance of u and v": it is that of v and u
-  pub clearance-turned : clearance-between p q a u v ≡ clearance-between p q a v u
-  unfolding clearance-between
-  clearance-turned = greater-turned (from-end-to-start p q a u v) (from-end-to-start p q a v u)
+    -- "above 0 a gap, 0 touching": where the clearance is g modules, they are apart by a gap of g modules
+    pub clearance-gap : (g : ℕ) → clearance-between p q a u v ≡ pos g → Gap p q a u v g
+    unfolding Gap
+    clearance-gap g e =
+        let m = rw e at (measured u v) in
+        by-lt (q a v + end v) (q a u + end u) (λ h. inr (omega arith)) (λ h. inl (omega arith))
 
-  -- "above 0 a gap, 0 touching": where the clearance is g modules, they are apart by a gap of g modules
-  pub clearance-gap : (g : ℕ) → clearance-between p q a u v ≡ pos g → Gap p q a u v g
-  unfolding Gap Cases
-  clearance-gap g e = go (clearance-cases p q a u v)
-    where
-      go : Cases (q a u) (p .size a u) (q a v) (p .size a v) (clearance-between p q a u v) → Gap p q a u v g
-      go (inl (h, z, w)) = let x : h ≡ g = cc in rw (← x) w
-      go (inr (d, z, k, l, w)) = let x : _≡_ {A = ℕ} 0 1 = cc in absurd (omega arith)
+    -- and where there is a gap of g modules, the clearance is g
+    pub gap-clearance : (g : ℕ) → Gap p q a u v g → clearance-between p q a u v ≡ pos g
+    unfolding Gap
+    gap-clearance g (inl e) = same-integer _ _ (omega (arith, measured u v))
+    gap-clearance g (inr e) = same-integer _ _ (omega (arith, measured u v))
 
-  -- and where there is a gap of g modules, the clearance is g; every measure is at least 1
-  pub gap-clearance : (g : ℕ) → 0 < p .size a u → 0 < p .size a v → Gap p q a u v g → clearance-between p q a u v ≡ pos g
-  unfolding Gap Cases
-  gap-clearance g m m₂ = go (clearance-cases p q a u v)
-    where
-      go : Cases (q a u) (p .size a u) (q a v) (p .size a v) (clearance-between p q a u v) → Gap p q a u v g → clearance-between p q a u v ≡ pos g
-      go (inl (h, z, inl w)) (inl e) = z ∙ ap pos (omega arith)
-      go (inl (h, z, inl w)) (inr e) = absurd (omega arith)
-      go (inl (h, z, inr w)) (inl e) = absurd (omega arith)
-      go (inl (h, z, inr w)) (inr e) = z ∙ ap pos (omega arith)
-      go (inr (d, z, k, l, w)) (inl e) = absurd (omega arith)
-      go (inr (d, z, k, l, w)) (inr e) = absurd (omega arith)
+    -- 0 or above exactly where one item ends at or before the other's start on the axis
+    pub clearance-apart : (pos 0 ≤ℤ clearance-between p q a u v) ↔ (EndsBefore p q a u v ⊎ EndsBefore p q a v u)
+    unfolding EndsBefore
+    clearance-apart = (
+      (λ w.
+          let k = simp order-so at w in let m = measured u v in
+          by-lt (q a v + end v) (q a u + end u) (λ h. inr (omega arith)) (λ h. inl (omega arith))),
+      ⊎-elim (λ w. simp order-so (omega (arith, measured u v))) (λ w. simp order-so (omega (arith, measured u v))),
+    )
 
-  overlap-of : (d : ℕ) → q a v + suc d ≤ q a u + p .size a u → q a u + suc d ≤ q a v + p .size a v
-      → (q a v + suc d ≡ q a u + p .size a u) ⊎ (q a u + suc d ≡ q a v + p .size a v) → Overlap p q a u v (suc d)
-  unfolding EndsBefore
-  overlap-of d h k c = record { not-apart = meets; of-second = least-move p q a u v d h k c; of-first = least-move p q a v u d k h (turn c) }
-    where
-      meets : (EndsBefore p q a u v ⊎ EndsBefore p q a v u) → ⊥
-      meets (inl w) = omega arith
-      meets (inr w) = omega arith
+    overlap-of : (d : ℕ) → clearance-between p q a u v ≡ negsuc d → Overlap p q a u v (suc d)
+    overlap-of d e =
+        let m = rw e at (measured u v) in
+        record { not-apart = λ w. (rw e at (clearance-apart .1 w)) .le; of-second = least-move u v d m; of-first = least-move v u d (omega arith) }
 
-      turn : (q a v + suc d ≡ q a u + p .size a u) ⊎ (q a u + suc d ≡ q a v + p .size a v) → (q a u + suc d ≡ q a v + p .size a v) ⊎ (q a v + suc d ≡ q a u + p .size a u)
-      turn (inl w) = inr w
-      turn (inr w) = inl w
+    -- "below 0 the overlap, told as the least move on that axis that parts them, with a minus", and the other way round
+    pub clearance-overlap : (d : ℕ) → (clearance-between p q a u v ≡ negℤ (pos (suc d))) ↔ Overlap p q a u v (suc d)
+    clearance-overlap d = (overlap-of d, from (clearance-between p q a u v) refl)
+      where
+        from : (z : ℤ) → clearance-between p q a u v ≡ z → Overlap p q a u v (suc d) → z ≡ negsuc d
+        from (pos g) e o = absurd (o .not-apart (clearance-apart .0 (rw e (simp order-so (omega arith)))))
+        from (negsuc h) e o =
+            let own = overlap-of h e .of-second in
+            let (m, s, t) = o .of-second .parts in
+            let (n, f, w) = own .parts in
+            ap negsuc (omega (arith, o .of-second .least n w, own .least m t))
 
-  -- "below 0 the overlap, told as the least move on that axis that parts them, with a minus", and the other way round
-  pub clearance-overlap : (d : ℕ) → (clearance-between p q a u v ≡ negℤ (pos (suc d))) ↔ Overlap p q a u v (suc d)
-  unfolding EndsBefore Cases
-  clearance-overlap d = (to (clearance-cases p q a u v), from (clearance-cases p q a u v))
-    where
-      to : Cases (q a u) (p .size a u) (q a v) (p .size a v) (clearance-between p q a u v) → clearance-between p q a u v ≡ negℤ (pos (suc d)) → Overlap p q a u v (suc d)
-      to (inl (h, z, w)) e = let x : _≡_ {A = ℕ} 0 1 = cc in absurd (omega arith)
-      to (inr (h, z, k, l, w)) e = let x : h ≡ d = cc in rw (← x) (overlap-of h k l w)
-
-      from : Cases (q a u) (p .size a u) (q a v) (p .size a v) (clearance-between p q a u v) → Overlap p q a u v (suc d) → clearance-between p q a u v ≡ negℤ (pos (suc d))
-      from (inl (h, z, inl w)) o = absurd (o .not-apart (inl (omega arith)))
-      from (inl (h, z, inr w)) o = absurd (o .not-apart (inr (omega arith)))
-      from (inr (h, z, k, l, w)) o =
-          let (m, e, s) = o .of-second .parts in
-          let (n, f, t) = overlap-of h k l w .of-second .parts in
-          let x = o .of-second .least n t in
-          let y = overlap-of h k l w .of-second .least m s in
-          z ∙ ap negsuc (omega arith)
-
-  -- 0 or above exactly where one item ends at or before the other's start on the axis
-  pub clearance-apart : (pos 0 ≤ℤ clearance-between p q a u v) ↔ (EndsBefore p q a u v ⊎ EndsBefore p q a v u)
-  unfolding EndsBefore Cases
-  clearance-apart = (to (clearance-cases p q a u v), from (clearance-cases p q a u v))
-    where
-      to : Cases (q a u) (p .size a u) (q a v) (p .size a v) (clearance-between p q a u v) → pos 0 ≤ℤ clearance-between p q a u v → EndsBefore p q a u v ⊎ EndsBefore p q a v u
-      to (inl (g, z, inl w)) h = inl (omega arith)
-      to (inl (g, z, inr w)) h = inr (omega arith)
-      to (inr (d, z, k, l, w)) h = let x : pos 0 ≤ℤ negsuc d = rw z at h in absurd (x .le)
-
-      from : Cases (q a u) (p .size a u) (q a v) (p .size a v) (clearance-between p q a u v) → EndsBefore p q a u v ⊎ EndsBefore p q a v u → pos 0 ≤ℤ clearance-between p q a u v
-      from (inl (g, z, w)) h = rw z (record { le = le→leb 0 g (omega arith) })
-      from (inr (d, z, k, l, w)) (inl h) = absurd (omega arith)
-      from (inr (d, z, k, l, w)) (inr h) = absurd (omega arith)
-
--- "For u = v it is minus the measure"
-pub clearance-same : (p : Problem) (q : Positions) (a u : ℕ) → clearance-between p q a u u ≡ negℤ (pos (p .size a u))
-unfolding clearance-between from-end-to-start greater-of Difference
-clearance-same p q a u = either (ltZ x x) ∙ go (difference (q a u) (q a u + p .size a u))
-  where
-    x : ℤ
-    x = pos (q a u) -ℤ pos (q a u + p .size a u)
-
-    either : (t : Bool) → cond t x x ≡ x
-    either true = refl
-    either false = refl
-
-    go : Difference (q a u) (q a u + p .size a u) x → x ≡ negℤ (pos (p .size a u))
-    go (inl (g, e, z)) = let m : p .size a u ≡ 0 = omega arith in let n : g ≡ 0 = omega arith in z ∙ rw (m, n)
-    go (inr (d, e, z)) = let m : p .size a u ≡ suc d = omega arith in z ∙ rw m
+  -- "For u = v it is minus the measure"
+  pub clearance-same : (u : ℕ) → clearance-between p q a u u ≡ negℤ (pos (p .size a u))
+  clearance-same u = same-integer _ _ (omega (arith, measured u u, negated (pos (p .size a u))))

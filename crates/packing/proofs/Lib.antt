@@ -1,7 +1,5 @@
-pub mod LastAxis
 pub mod Loops
 pub mod Named
 pub mod Decides
 pub mod Answers
 pub mod Gaps
-pub mod Differences

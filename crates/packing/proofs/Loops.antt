@@ -1,19 +1,13 @@
 -- Loops over the numbers below n, and the tests of a packing as such loops.
-use mathlib.Core.Bool.{Bool, true, false, _&&_, _||_, false≢true}
-use mathlib.Core.List.{List, [], _∷_, map}
-use mathlib.Core.Logic.{_⊎_, inl, inr}
-use mathlib.Core.Path.{_≡_, refl, sym, ap₂, _∙_}
-use Prim.Native.Nat.{ℕ, _+_, _≤_, _<_}
-use native.Mathlib.Numerals.{add-one}
-use native.Mathlib.Omega.{arith}
-use lib.Dec.{leb, eqb, ltb}
-use borrow.Author.Tests.{eqb-true, eqb-false, ltb-true, ltb-false, le-leb, lt-leb}
+use Rattle.prelude.specs.Names.{Bool, true, false, _&&_, _||_, or-comm, or-true, and-comm, and-assoc, List, [], _∷_, _++_, map, _≢_, _≡_, refl, sym}
+use Rattle.prelude.specs.Names.{ap, _∙_, ℕ, zero, suc, _+_, _≤_, _<_, add-one, arith, decLt, leb, eqb, length, getD, take, take-suc, eq-eqb, ne-eqb}
+use mathlib.Core.Path.{fun-ext}
 use Rattle.model.specs.Below.{some-below, all-below, all-in}
 use Rattle.model.specs.Problem.{Problem, Positions, ends-before, inside-test, apart-on-some-axis, apart-test, ordered-test, time}
-use Rattle.model.specs.Problem as M
-use Rattle.model.proofs.Below.{all-at, all-of, all-cons, some-at, some-of, or-case, or-left, or-right}
+use Rattle.model.proofs.Below.{all-at, all-of, all-cons, some-of, fails, or-left, or-right}
 use Rattle.parts.specs.declared.Precedence.{Precedence}
 use Rattle.parts.specs.declared.Item.{Item}
+use Rattle.parts.specs.Sizes.{no-precedence}
 use Rattle.instance.specs.declared.Instance.{Instance}
 use Rattle.instance.specs.declared.Packing.{Packing}
 use Rattle.instance.specs.declared.Position.{Position}
@@ -21,82 +15,73 @@ use Rattle.instance.specs.Valid.{precedences-of}
 use Rattle.instance.specs.Meaning.{precedence-of, measure, start, problem-of, positions-of}
 use Rattle.packing.specs.Parts.{within, inside-on, apart-from-lower, placed-at, end-of, kept, all-kept}
 use Rattle.packing.specs.declared.axes.Placed.{Placed}
+use Rattle.model.specs.Problem as M
+
+-- an axis that is neither 0 nor 1 counts as the last
+pub last-axis : (P : ℕ → Type 0) → ((a : ℕ) → P (suc (suc a))) → (a : ℕ) → a ≢ 0 → a ≢ 1 → P a
+last-axis P f zero h k = absurd (h refl)
+last-axis P f (suc zero) h k = absurd (k refl)
+last-axis P f (suc (suc a)) h k = f a
 
 -- two tests of which each passes where the other does
-pub same-test : (a b : Bool) → (a ≡ true → b ≡ true) → (b ≡ true → a ≡ true) → a ≡ b
+same-test : (a b : Bool) → (a ≡ true → b ≡ true) → (b ≡ true → a ≡ true) → a ≡ b
 same-test true b f g = sym (f refl)
 same-test false true f g = g refl
 same-test false false f g = refl
 
-pub all-more : (i : ℕ) (f : ℕ → Bool) → all-below i f ≡ true → f i ≡ true → all-below (i + 1) f ≡ true
-all-more i f h e = rw add-one (all-cons (f i) (all-below i f) e h)
+both-pass : (b : Bool) {c d : Bool} → c ≡ d → elim b as (λ _. Bool) [ true ↦ c | false ↦ false ] ≡ (b && d)
+both-pass true e = e
+both-pass false e = refl
 
-pub all-fails : (n : ℕ) (f : ℕ → Bool) (i : ℕ) → i < n → f i ≡ false → all-below n f ≡ false
-all-fails n f i h e = go (all-below n f) refl
-  where
-    go : (b : Bool) → all-below n f ≡ b → b ≡ false
-    go true q = absurd (false≢true (sym e ∙ all-at n f q i h))
-    go false q = refl
+-- A loop over the numbers below n that ends at the first that fails a test: those below i pass.
+pub record Passed (f : ℕ → Bool) (n i : ℕ) : Type 0 where
+  pub within : i ≤ n
+  pub pass : all-below i f ≡ true
 
-pub all-done : (n : ℕ) (f : ℕ → Bool) (i : ℕ) → all-below i f ≡ true → i ≤ n → n ≤ i → all-below n f ≡ true
-all-done n f i h l m = let e : n ≡ i = omega arith in rw e h
+-- by what the test answers at i
+module _ {f : ℕ → Bool} {n i : ℕ} (passed : Passed f n i) where
+  pub all-fails : i < n → {b : Bool} → b ≡ f i → b ≡ false → false ≡ all-below n f
+  all-fails l e h = sym (fails (λ d. all-at n f d i l) (sym e ∙ h))
 
-pub some-more : (i : ℕ) (f : ℕ → Bool) → some-below i f ≡ false → f i ≡ false → some-below (i + 1) f ≡ false
-some-more i f h e = rw add-one (go (f i) e)
-  where
-    go : (b : Bool) → b ≡ false → elim b as (λ _. Bool) [ true ↦ true | false ↦ some-below i f ] ≡ false
-    go true d = d
-    go false d = h
+  pub all-more : i < n → {b : Bool} → b ≡ f i → b ≡ true → Passed f n (i + 1)
+  all-more l e h = record { within = omega arith; pass = rw add-one (all-cons (f i) (all-below i f) (sym e ∙ h) (passed .pass)) }
+
+  pub all-done : n ≤ i → true ≡ all-below n f
+  all-done m = let e : n ≡ i = omega arith in rw (e, passed .pass)
+
+-- A loop that ends at the first that passes: those below i fail.
+pub record Failed (f : ℕ → Bool) (n i : ℕ) : Type 0 where
+  pub within : i ≤ n
+  pub fail : some-below i f ≡ false
 
 module _ (p : Problem) (q : Positions) where
   pub inside-loop : inside-test p q ≡ all-below 3 (inside-on p q)
   unfolding inside-test inside-on within
   inside-loop = refl
 
-  apart-turned : (u v : ℕ) → apart-on-some-axis p q u v ≡ true → apart-on-some-axis p q v u ≡ true
+  apart-turned : (u v : ℕ) → apart-on-some-axis p q u v ≡ apart-on-some-axis p q v u
   unfolding apart-on-some-axis
-  apart-turned u v e =
-      let s = some-at 3 (λ a. ends-before p q a u v || ends-before p q a v u) e in
-      some-of 3 (λ a. ends-before p q a v u || ends-before p q a u v) (s .0) (s .1)
-      (turn (ends-before p q (s .0) u v) (ends-before p q (s .0) v u) (s .2))
-    where
-      turn : (b c : Bool) → (b || c) ≡ true → (c || b) ≡ true
-      turn b true h = refl
-      turn true false h = refl
-      turn false false h = h
+  apart-turned u v = ap (some-below 3) (fun-ext λ a. or-comm (ends-before p q a u v) (ends-before p q a v u))
 
   -- it is enough to try each two items once, the higher number first
-  pub apart-loop : apart-test p q ≡ all-below (p .items) (apart-from-lower p q)
+  apart-loop : apart-test p q ≡ all-below (p .items) (apart-from-lower p q)
   unfolding apart-test apart-from-lower
   apart-loop = same-test _ _
-      (λ e. all-of n lower (λ u lu. all-of u (apart-on-some-axis p q u) (λ v lv. from u v lv (all-at n (clear u) (all-at n (λ x. all-below n (clear x)) e u lu) v (omega arith)))))
-      (λ e. all-of n (λ x. all-below n (clear x)) (λ u lu. all-of n (clear u) (λ v lv. to u v lu lv e (eqb u v) refl (ltb v u) refl)))
+      (λ e. all-of (p .items) (apart-from-lower p q) λ u lu. all-of u (apart-on-some-axis p q u) λ v lv.
+      rw (ne-eqb u v (omega arith)) at (all-at (p .items) (clear u) (all-at (p .items) (λ x. all-below (p .items) (clear x)) e u lu) v (omega arith)))
+      (λ e. all-of (p .items) (λ x. all-below (p .items) (clear x)) λ u lu. all-of (p .items) (clear u) λ v lv.
+      to e u v lu lv (decLt v u) (decLt u v))
     where
-      n : ℕ
-      n = p .items
-
       clear : ℕ → ℕ → Bool
       clear u v = eqb u v || apart-on-some-axis p q u v
 
-      lower : ℕ → Bool
-      lower u = all-below u (apart-on-some-axis p q u)
+      at : all-below (p .items) (apart-from-lower p q) ≡ true → (u v : ℕ) → u < p .items → v < u → apart-on-some-axis p q u v ≡ true
+      at e u v lu l = all-at u (apart-on-some-axis p q u) (all-at (p .items) (apart-from-lower p q) e u lu) v l
 
-      from : (u v : ℕ) → v < u → clear u v ≡ true → apart-on-some-axis p q u v ≡ true
-      from u v l e = go (or-case (eqb u v) (apart-on-some-axis p q u v) e)
-        where
-          go : (eqb u v ≡ true) ⊎ (apart-on-some-axis p q u v ≡ true) → apart-on-some-axis p q u v ≡ true
-          go (inl s) = absurd (omega (arith, eqb-true u v s))
-          go (inr s) = s
-
-      at : (u v : ℕ) → u < n → v < u → all-below n lower ≡ true → apart-on-some-axis p q u v ≡ true
-      at u v lu l e = all-at u (apart-on-some-axis p q u) (all-at n lower e u lu) v l
-
-      to : (u v : ℕ) → u < n → v < n → all-below n lower ≡ true → (b : Bool) → eqb u v ≡ b → (t : Bool) → ltb v u ≡ t → (b || apart-on-some-axis p q u v) ≡ true
-      to u v lu lv e true s t d = refl
-      to u v lu lv e false s true d = at u v lu (ltb-true v u d) e
-      to u v lu lv e false s false d =
-          let l : u < v = omega (arith, ltb-false v u d, eqb-false u v s) in
-          apart-turned v u (at v u lv l e)
+      to : all-below (p .items) (apart-from-lower p q) ≡ true → (u v : ℕ) → u < p .items → v < p .items → Dec (v < u) → Dec (u < v) → clear u v ≡ true
+      to e u v lu lv (yes l) d = or-right (eqb u v) (at e u v lu l)
+      to e u v lu lv (no k) (yes l) = or-right (eqb u v) (rw (apart-turned u v) (at e v u lv l))
+      to e u v lu lv (no k) (no l) = or-left _ (eq-eqb u v (omega arith))
 
 -- The same tests over the arrays that the code reads.
 module _ (items : List Item) (positions : List Position) where
@@ -104,66 +89,74 @@ module _ (items : List Item) (positions : List Position) where
   unfoldable pub within-limit : ℕ → ℕ → ℕ → Bool
   within-limit a limit u = leb (end-of a (placed-at items positions u)) limit
 
-  module _ (a limit u : ℕ) {end : ℕ} {i : Placed} (p : i ≡ placed-at items positions u) (e : end ≡ end-of a i) where
-    pub within-limit-true : end ≤ limit → within-limit a limit u ≡ true
-    unfolding within-limit
-    within-limit-true h = rw (← p, ← e) (le-leb end limit h)
-
-    pub within-limit-false : limit < end → within-limit a limit u ≡ false
-    unfolding within-limit
-    within-limit-false h = rw (← p, ← e) (lt-leb end limit h)
+  pub within-limit-is : (a limit u : ℕ) {end : ℕ} {x : Placed} → x ≡ placed-at items positions u → end ≡ end-of a x
+      → leb end limit ≡ within-limit a limit u
+  unfolding within-limit
+  within-limit-is a limit u p e = rw (e, p)
 
   pub kept-is : (o : Precedence) {t : Bool} {i j : Placed} → i ≡ placed-at items positions (o .predecessor) → j ≡ placed-at items positions (o .successor)
-      → t ≡ leb (end-of time i) (start time (j .position)) → kept items positions o ≡ t
+      → t ≡ leb (end-of time i) (start time (j .position)) → t ≡ kept items positions o
   unfolding kept
-  kept-is o p r e = sym (e ∙ ap₂ (λ x y. leb (end-of time x) (start time (y .position))) p r)
+  kept-is o p r e = e ∙ rw (p, r)
 
-  pub all-kept-next : (o : Precedence) (os : List Precedence) → all-kept items positions (o ∷ os) ≡ (kept items positions o && all-kept items positions os)
+  kept-last : (os : List Precedence) (o : Precedence)
+      → all-kept items positions (os ++ o ∷ []) ≡ (kept items positions o && all-kept items positions os)
   unfolding all-kept
-  all-kept-next o os = refl
+  kept-last [] o = refl
+  kept-last (x ∷ os) o = rw (kept-last os o, ← and-assoc, and-comm (kept items positions x) (kept items positions o), and-assoc)
 
-  pub all-kept-done : all-kept items positions [] ≡ true
+  -- the first m precedences, one after the other
+  pub kept-loop : (os : List Precedence) (m : ℕ) → m ≤ length os
+      → all-kept items positions (take m os) ≡ all-below m (λ k. kept items positions (getD os k no-precedence))
   unfolding all-kept
-  all-kept-done = refl
+  kept-loop os zero h = refl
+  kept-loop os (suc m) h = rw (take-suc os m no-precedence, kept-last) (sym (both-pass (kept items positions _) (sym (kept-loop os m (omega arith)))))
 
 -- two items are parted on an axis
-module _ (i j : Placed) where
-  unfoldable pub parted-on : ℕ → Bool
-  parted-on a = leb (end-of a i) (start a (j .position)) || leb (end-of a j) (start a (i .position))
+unfoldable pub parted-on : Placed → Placed → ℕ → Bool
+parted-on x y a = leb (end-of a x) (start a (y .position)) || leb (end-of a y) (start a (x .position))
 
-  module _ (a : ℕ) where
-    pub parted-left : {t : Bool} → t ≡ leb (end-of a i) (start a (j .position)) → t ≡ true → parted-on a ≡ true
-    unfolding parted-on
-    parted-left e h = or-left (leb (end-of a j) (start a (i .position))) (sym e ∙ h)
+module _ (x y : Placed) (a : ℕ) {t : Bool} (e : t ≡ leb (end-of a x) (start a (y .position))) where
+  pub parted-left : t ≡ true → parted-on x y a ≡ true
+  unfolding parted-on
+  parted-left h = rw (← e, h)
 
-    pub parted-right : {t : Bool} → t ≡ leb (end-of a j) (start a (i .position)) → t ≡ true → parted-on a ≡ true
+  module _ {s : Bool} (d : s ≡ leb (end-of a y) (start a (x .position))) where
+    pub parted-right : s ≡ true → parted-on x y a ≡ true
     unfolding parted-on
-    parted-right e h = or-right (leb (end-of a i) (start a (j .position))) (sym e ∙ h)
+    parted-right h = rw (← d, h, or-true)
 
-    pub not-parted : {t t₂ : Bool} → t ≡ leb (end-of a i) (start a (j .position)) → t₂ ≡ leb (end-of a j) (start a (i .position)) → t ≡ false → t₂ ≡ false → parted-on a ≡ false
+    pub parted-more : Failed (parted-on x y) 3 a → a < 3 → t ≡ false → s ≡ false → Failed (parted-on x y) 3 (a + 1)
     unfolding parted-on
-    not-parted e e₂ h h₂ = rw (← e, ← e₂, h) h₂
+    parted-more f l h k = record { within = omega arith; fail = rw (add-one, some-below, ← e, ← d, h, k) (f .fail) }
 
 module _ (i : Instance) (q : Packing) where
-  pub inside-by : (a : ℕ) → inside-on (problem-of i) (positions-of q) a ≡ all-below (i .«item_count») (within-limit (i .items) (q .positions) a (measure a (i .container)))
+  pub inside-by : (a : ℕ) {limit : ℕ} → limit ≡ measure a (i .container)
+      → inside-on (problem-of i) (positions-of q) a ≡ all-below (i .«item_count») (within-limit (i .items) (q .positions) a limit)
   unfolding inside-on within within-limit end-of problem-of positions-of
-  inside-by a = refl
+  inside-by a e = rw e
 
-  pub parted-by : (u v : ℕ) → apart-on-some-axis (problem-of i) (positions-of q) u v ≡ some-below 3 (parted-on (placed-at (i .items) (q .positions) u) (placed-at (i .items) (q .positions) v))
-  unfolding apart-on-some-axis ends-before parted-on end-of problem-of positions-of
-  parted-by u v = refl
+  pub apart-by : apart-test (problem-of i) (positions-of q) ≡ all-below (i .«item_count») (apart-from-lower (problem-of i) (positions-of q))
+  unfolding problem-of
+  apart-by = apart-loop _ _
+
+  module _ (u v : ℕ) {x y : Placed} (e : x ≡ placed-at (i .items) (q .positions) u) (f : y ≡ placed-at (i .items) (q .positions) v) where
+    parted-by : apart-on-some-axis (problem-of i) (positions-of q) u v ≡ some-below 3 (parted-on x y)
+    unfolding apart-on-some-axis ends-before parted-on end-of problem-of positions-of
+    parted-by = rw (e, f)
+
+    pub parted : {a : ℕ} → a < 3 → parted-on x y a ≡ true → true ≡ apart-on-some-axis (problem-of i) (positions-of q) u v
+    parted {a} l h = sym (parted-by ∙ some-of 3 (parted-on x y) a l h)
+
+    pub not-parted : {a : ℕ} → Failed (parted-on x y) 3 a → 3 ≤ a → false ≡ apart-on-some-axis (problem-of i) (positions-of q) u v
+    not-parted {a} d l = let n : a ≡ 3 = omega arith in rw (parted-by, ← (rw n at (d .fail)))
 
   pub ordered-by : ordered-test (problem-of i) (positions-of q) ≡ all-kept (i .items) (q .positions) (precedences-of i)
   unfolding ordered-test ends-before all-kept kept end-of problem-of positions-of
   ordered-by = go (precedences-of i)
     where
-      test : M.Precedence → Bool
-      test o = ends-before (problem-of i) (positions-of q) time (o .predecessor) (o .successor)
-
-      step : (b c d : Bool) → c ≡ d → elim b as (λ _. Bool) [ true ↦ c | false ↦ false ] ≡ (b && d)
-      step true c d e = e
-      step false c d e = refl
-
-      go : (os : List Precedence) → all-in test (map precedence-of os) ≡ all-kept (i .items) (q .positions) os
+      go : (os : List Precedence)
+          → all-in (λ (o : M.Precedence). ends-before (problem-of i) (positions-of q) time (o .predecessor) (o .successor)) (map precedence-of os)
+          ≡ all-kept (i .items) (q .positions) os
       go [] = refl
-      go (o ∷ os) = step (test (precedence-of o)) (all-in test (map precedence-of os)) (all-kept (i .items) (q .positions) os) (go os)
+      go (o ∷ os) = both-pass (kept (i .items) (q .positions) o) (go os)

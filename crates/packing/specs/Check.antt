@@ -1,9 +1,5 @@
 -- What the check of a packing answers (document 01, "Fit" and refusal 9).
-use mathlib.Core.Bool.{Bool, true, false}
-use mathlib.Core.Logic.{_↔_}
-use mathlib.Core.Path.{_≡_}
-use Prim.Native.Nat.{ℕ, _+_}
-use Rattle.model.specs.Problem as M
+use Rattle.prelude.specs.Names.{Bool, true, false, _↔_, _≡_, ℕ, _+_}
 use Rattle.refusal.specs.declared.Refusal.the-variants.{InvalidInstance}
 use Rattle.refusal.specs.Numbers.{number-of}
 use Rattle.instance.specs.declared.Instance.{Instance}
@@ -12,6 +8,7 @@ use Rattle.instance.specs.Valid.{valid}
 use Rattle.instance.specs.Meaning.{problem-of, positions-of}
 use Rattle.packing.specs.declared.CheckAnswer.{CheckAnswer}
 use Rattle.packing.specs.declared.CheckAnswer.the-variants.{Feasible, NotFeasible, Refused}
+use Rattle.model.specs.Problem as M
 
 -- "9 is tested before 5, 8 and 10 by whoever takes a sheet value"; then yes or no
 abbrev pub answer-of : Bool → Bool → CheckAnswer

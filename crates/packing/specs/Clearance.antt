@@ -1,11 +1,5 @@
 -- The clearance of two items on an axis, and what is answered (document 01, "Fit" and the refusals 9, 5, 8).
-use mathlib.Core.Bool.{Bool, true, false, cond, _&&_}
-use mathlib.Core.Logic.{_⊎_, inl, inr, _↔_}
-use mathlib.Core.Path.{_≡_}
-use Prim.Native.Nat.{ℕ, _+_, _≤_, _<_}
-use lib.Dec.{ltb}
-use lib.IntN.{ℤ, pos, natAbs, _+ℤ_, _-ℤ_}
-use lib.Signed.{ltZ, _≤ℤ_}
+use Rattle.prelude.specs.Names.{Bool, true, false, cond, _&&_, _⊎_, inl, inr, _↔_, _≡_, ℕ, _+_, _≤_, _<_, ltb, ℤ, pos, natAbs, _+ℤ_, _-ℤ_, ltZ, _≤ℤ_}
 use Rattle.model.specs.Problem.{Problem, Positions, EndsBefore}
 use Rattle.refusal.specs.declared.Refusal.{Refusal}
 use Rattle.refusal.specs.declared.Refusal.the-variants.{BadItem, BadArgument, InvalidInstance}

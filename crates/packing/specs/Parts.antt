@@ -1,9 +1,5 @@
 -- Parts of the test of a packing, each the work of one loop.
-use mathlib.Core.Bool.{Bool, true, _&&_}
-use mathlib.Core.List.{List, [], _∷_}
-use Prim.Native.Nat.{ℕ, _+_, _<_}
-use lib.Dec.{leb}
-use lib.ListN.{getD}
+use Rattle.prelude.specs.Names.{Bool, true, _&&_, List, [], _∷_, ℕ, _+_, _<_, leb, getD}
 use Rattle.model.specs.Below.{all-below}
 use Rattle.model.specs.Problem.{Problem, Positions, apart-on-some-axis, time}
 use Rattle.parts.specs.declared.Item.{Item}

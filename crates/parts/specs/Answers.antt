@@ -1,19 +1,17 @@
 -- What the readers' answers say, given the place and the bytes that they were handed.
-use Prim.Native.Nat.{ℕ, _+_, _<_}
-use mathlib.Core.List.{List}
-use lib.ListN.{length, drop}
+use Rattle.prelude.specs.Names.{ℕ, _+_, _<_, List, length, drop}
 use Rattle.parts.specs.declared.Size.{Size}
 use Rattle.parts.specs.declared.Item.{Item}
 use Rattle.parts.specs.declared.Precedence.{Precedence}
 use Rattle.parts.specs.declared.FieldRead.{FieldRead}
-use Rattle.parts.specs.declared.FieldRead.the-variants as F
 use Rattle.parts.specs.declared.SizeRead.{SizeRead}
-use Rattle.parts.specs.declared.SizeRead.the-variants as S
 use Rattle.parts.specs.declared.ItemRead.{ItemRead}
-use Rattle.parts.specs.declared.ItemRead.the-variants as I
 use Rattle.parts.specs.declared.PrecedenceRead.{PrecedenceRead}
-use Rattle.parts.specs.declared.PrecedenceRead.the-variants as P
 use Rattle.formats.specs.Reading.{Read, got, refused}
+use Rattle.parts.specs.declared.FieldRead.the-variants as F
+use Rattle.parts.specs.declared.SizeRead.the-variants as S
+use Rattle.parts.specs.declared.ItemRead.the-variants as I
+use Rattle.parts.specs.declared.PrecedenceRead.the-variants as P
 
 -- a value that took so many of the bytes handed over
 abbrev pub taken : {A : Type 0} → ℕ → List ℕ → A → ℕ → Read A

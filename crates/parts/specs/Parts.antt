@@ -1,8 +1,5 @@
 -- The parts of a sheet as formats (document 01, "Sheet bytes").
-use Prim.Native.Nat.{ℕ, suc}
-use mathlib.Core.Bool.{not, cond}
-use mathlib.Core.List.{List, [], _∷_}
-use lib.Dec.{eqb, leb}
+use Rattle.prelude.specs.Names.{ℕ, suc, not, cond, List, [], _∷_, eqb, leb}
 use Rattle.refusal.specs.declared.Refusal.the-variants.{WrittenDefault, BadItem, NotRising}
 use Rattle.formats.specs.Formats.{Format, Test, byte, word, pair, converted, tested, count}
 use Rattle.formats.specs.Fields.{Optional, Fields, made, field, with-map}

@@ -1,8 +1,5 @@
 -- When a precedence may stand on a sheet (document 01, "Sheet bytes" and the refusals 5 and 6).
-use mathlib.Core.Bool.{Bool, true, false, not, _&&_, _||_}
-use mathlib.Core.List.{List, [], _∷_}
-use Prim.Native.Nat.{ℕ}
-use lib.Dec.{ltb, eqb}
+use Rattle.prelude.specs.Names.{Bool, true, not, _&&_, _||_, List, [], _∷_, ℕ, ltb, eqb}
 use Rattle.parts.specs.declared.Precedence.{Precedence}
 use Rattle.parts.specs.declared.Previous.{Previous}
 use Rattle.parts.specs.declared.Previous.the-variants.{Nothing, Was}

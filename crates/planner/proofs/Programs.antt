@@ -1,11 +1,8 @@
 -- Laws of the program's text by what reading the sheet answered.
-use mathlib.Core.Path.{_≡_, refl, sym, ap, _∙_}
-use mathlib.Core.List.{List}
-use Prim.Native.Nat.{ℕ, _≤_}
+use Rattle.prelude.specs.Names.{_≡_, List, ℕ, _≤_}
 use Rattle.refusal.specs.declared.Refusal.{Refusal}
 use Rattle.formats.specs.Reading.{Bytes}
 use Rattle.instance.specs.declared.ReadResult.{ReadResult}
-use Rattle.instance.specs.declared.ReadAnswer.the-variants as A
 use Rattle.instance.specs.Sheets.{decode}
 use Rattle.instance.specs.Answers.{read-result}
 use Rattle.instance.specs.Values.{opening-checkpoint}
@@ -13,10 +10,11 @@ use Rattle.instance.proofs.Sheets.{valid-says}
 use Rattle.instance.proofs.RoundTrips.{read-valid}
 use Rattle.instance.proofs.Readings.{was-read, was-refused}
 use Rattle.search.specs.Results.{search-result}
-use Rattle.search.specs.declared.results.Answer.the-variants as S
-use Rattle.search.specs.declared.results.SearchResult.{SearchResult}
+use Rattle.search.specs.declared.answer.SearchResult.{SearchResult}
 use Rattle.report.specs.Text.{packed-text, infeasible-text, spent-text, refused-text}
 use Rattle.planner.specs.Program.{result-text, program-text}
+use Rattle.instance.specs.declared.ReadAnswer.the-variants as A
+use Rattle.search.specs.declared.answer.Answer.the-variants as S
 
 module _ (s : List ℕ) (r : ReadResult) (e : r ≡ read-result (decode s)) where
   pub text-read : r .answer ≡ A.Read

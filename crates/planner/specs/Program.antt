@@ -1,14 +1,13 @@
 -- What the program prints for the bytes of a sheet (document 01, "The program").
-use mathlib.Core.List.{List}
-use Prim.Native.Nat.{ℕ}
+use Rattle.prelude.specs.Names.{List, ℕ}
 use Rattle.formats.specs.Reading.{Read, got, refused}
 use Rattle.instance.specs.declared.Instance.{Instance}
 use Rattle.instance.specs.declared.Packing.{Packing}
 use Rattle.instance.specs.Sheets.{decode}
 use Rattle.instance.specs.Values.{opening-checkpoint}
-use Rattle.search.specs.declared.results.Answer.{Answer}
-use Rattle.search.specs.declared.results.Answer.the-variants.{Packed, Infeasible, BudgetSpent, Refused}
-use Rattle.search.specs.declared.results.SearchResult.{SearchResult}
+use Rattle.search.specs.declared.answer.Answer.{Answer}
+use Rattle.search.specs.declared.answer.Answer.the-variants.{Packed, Infeasible, BudgetSpent, Refused}
+use Rattle.search.specs.declared.answer.SearchResult.{SearchResult}
 use Rattle.search.specs.Results.{search-result}
 use Rattle.report.specs.Text.{packed-text, infeasible-text, spent-text, refused-text}
 

@@ -8,8 +8,8 @@ ghost use lib.ListN.{length, drop};
 ghost use Rattle.planner.specs.Program.{result-text, program-text};
 use instance::Instance;
 use instance::ReadAnswer;
-use search::results::Answer;
-use search::results::SearchResult;
+use search::answer::Answer;
+use search::answer::SearchResult;
 
 // The steps of the program's one call.
 pub const BUDGET: u32 = 1_000_000;

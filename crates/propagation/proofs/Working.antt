@@ -1,46 +1,33 @@
 -- One pair of the queue is worked off: its link, where one order of it is known, and the clauses with a premise of it.
-use mathlib.Core.Bool.{Bool, true, false, _&&_, _||_, and-false}
-use mathlib.Core.List.{List}
-use mathlib.Core.Logic.{_⊎_, inl, inr}
-use mathlib.Core.Path.{_≡_, refl, sym, _∙_, ap₂}
-use Prim.Native.Nat.{ℕ, zero, suc, _+_, _*_, _/_, _^_, _≤_, _<_}
-use native.Mathlib.Omega.{arith}
-use lib.Bits.{bitOr}
+use Rattle.prelude.specs.Names.{Bool, true, false, _&&_, _||_, and-false, List, _⊎_, inl, inr, ⊎-elim, ⊎-map, _≡_, refl, sym, _∙_, ap₂, ℕ, _+_, _*_}
+use Rattle.prelude.specs.Names.{_/_, _^_, _≤_, _<_, arith, bitOr}
 use Rattle.model.specs.Problem.{Problem}
 use Rattle.model.specs.Domains.{Domains, fixed-before}
 use Rattle.model.specs.Order.{Proper, _⊑_}
-use Rattle.model.specs.Relations.{gone}
-use Rattle.model.specs.Claims.{overlaps, forced, says, Holds}
-use Rattle.model.specs.Clauses.{of, Lawful}
+use Rattle.model.specs.Relations.{gone, converse}
+use Rattle.model.specs.Claims.{overlaps, says}
+use Rattle.model.specs.Clauses.{Lawful}
 use Rattle.model.specs.Toward.{Direction, Linked}
 use Rattle.model.proofs.Below.{and-intro, and-both, or-case, or-left, or-right, clash}
 use Rattle.model.proofs.Slots.{proper-sym}
 use Rattle.model.proofs.Order.{below-refl}
 use Rattle.model.proofs.Claims.{gone-mono, says-mono, holds-mono, forced-converse, forced-before-is, forced-after-is}
 use Rattle.model.proofs.Untouched.{goal-lawful}
-use Rattle.model.proofs.Toward.{closed-wider}
+use Rattle.model.proofs.Toward.{by-direction, closed-wider}
 use Rattle.domains.specs.Bits.{bit-at}
 use Rattle.domains.specs.Rows.{row, Mirror}
-use Rattle.domains.specs.Queue.{end, Queued, Good, Long}
+use Rattle.domains.specs.Queue.{end, Good, Long}
 use Rattle.domains.specs.Narrowed.{Narrowed, Refuted, Outcome}
 use Rattle.rules.specs.Worked.{Clauses, Handled, Paths, Diagonal, Overlapping}
 use Rattle.chains.specs.Totals.{Tabled, SameMeasures, Fitting}
 use Rattle.chains.specs.NewLinks.{SamePair, Charted, Extended, ExtendedIf, KeptIf}
-use Rattle.rules.specs.Mentions.{Mentioning}
 use Rattle.propagation.specs.Events.{InOrder, Overlapped, WorkedIf}
 use Rattle.domains.proofs.BitLaws.{bit-or, bit-shr}
 use Rattle.domains.proofs.Narrowed.{good-long, narrowed-none, grown-then, outcome-as}
 use Rattle.domains.proofs.Mirror.{row-first}
 use Rattle.rules.proofs.Works.{hold-mono}
-use Rattle.propagation.proofs.Pending.{closed-on}
+use Rattle.chains.proofs.Linking.{same-none, closed-on}
 use Rattle.rules.proofs.Mentions.{mentioning-handled}
-
--- the measures stay
-pub same-none : {t : List ℕ} → SameMeasures t t
-same-none = record { long = refl; kept = λ i h. refl }
-
-pub same-then : {t s z : List ℕ} → SameMeasures t s → SameMeasures s z → SameMeasures t z
-same-then f g = record { long = g .long ∙ f .long; kept = λ i h. g .kept i h ∙ f .kept i h }
 
 -- one order of the pair is known
 abbrev pub known : Domains → ℕ → ℕ → ℕ → Bool
@@ -56,32 +43,26 @@ module _ {k : Domains} {rows : List ℕ} {a u v : ℕ} (m : Mirror k rows) (s : 
 
   -- on both orders together
   pub row-orders : r ≡ bit-at (bitOr (row rows a u) (row rows a u / 2 ^ 10)) (10 + v) → r ≡ b → (gone k 1 a u v || gone k 2 a u v) ≡ b
-  row-orders e f = sym (bit-or (row rows a u) (row rows a u / 2 ^ 10) (10 + v) ∙ ap₂ _||_ (at 1 (omega arith)) second) ∙ (sym e ∙ f)
-    where
-      at : (x : ℕ) → x < 3 → bit-at (row rows a u) (x * 10 + v) ≡ gone k x a u v
-      at x h = m .is x a u v h (s .axis) (s .item-u) (s .item-v)
-
-      second : bit-at (row rows a u / 2 ^ 10) (10 + v) ≡ gone k 2 a u v
-      second = let e : 10 + (10 + v) ≡ 2 * 10 + v = omega arith in bit-shr (row rows a u) 10 (10 + v) ∙ (rw e (at 2 (omega arith)))
+  row-orders e f =
+      let q : 10 + (10 + v) ≡ 2 * 10 + v = omega arith in
+      let first = m .is 1 a u v (omega arith) (s .axis) (s .item-u) (s .item-v) in
+      let second = m .is 2 a u v (omega arith) (s .axis) (s .item-u) (s .item-v) in
+      let both : bit-at (bitOr (row rows a u) (row rows a u / 2 ^ 10)) (10 + v) ≡ (gone k 1 a u v || gone k 2 a u v) =
+      rw (bit-or, bit-shr, q) (ap₂ _||_ first second) in
+      sym both ∙ (sym e ∙ f)
 
 -- A link of the pair is one of its orders
-module _ (k : Domains) (a u v : ℕ) where
-  forced-known : (x : ℕ) → Direction x → Holds k (of (forced x) a u v) → known k a u v ≡ true
-  unfolding says
-  forced-known zero d l = absurd (omega (arith, d .least))
-  forced-known (suc zero) d l = let (f, g) = and-both (gone k 0 a u v) (gone k 1 a u v) l in and-intro f (or-left (gone k 2 a u v) g)
-  forced-known (suc (suc zero)) d l = let (f, g) = and-both (gone k 0 a u v) (gone k 2 a u v) l in and-intro f (or-right (gone k 1 a u v) g)
-  forced-known (suc (suc (suc x))) d l = absurd (omega (arith, d .most))
+forced-known : (k : Domains) (a u v x : ℕ) → Direction x → Linked x k a u v → known k a u v ≡ true
+unfolding says
+forced-known k a u v = by-direction (λ x. Linked x k a u v → known k a u v ≡ true)
+    (λ l. let (f, g) = and-both (gone k 0 a u v) (gone k 1 a u v) l in and-intro f (or-left (gone k 2 a u v) g))
+    (λ l. let (f, g) = and-both (gone k 0 a u v) (gone k 2 a u v) l in and-intro f (or-right (gone k 1 a u v) g))
 
-  turned-known : (x : ℕ) → Direction x → Holds k (of (forced x) a v u) → known k a u v ≡ true
-  turned-known zero d l = absurd (omega (arith, d .least))
-  turned-known (suc zero) d l = forced-known 2 (omega arith) (sym (forced-converse k 2 a u v (omega arith)) ∙ l)
-  turned-known (suc (suc zero)) d l = forced-known 1 (omega arith) (sym (forced-converse k 1 a u v (omega arith)) ∙ l)
-  turned-known (suc (suc (suc x))) d l = absurd (omega (arith, d .most))
-
-  linked-known : (x b y z : ℕ) → Direction x → SamePair a u v b y z → Linked x k b y z → known k a u v ≡ true
-  linked-known x b y z d (e, inl (f, g)) l = forced-known x d (rw (e, f, g) at l)
-  linked-known x b y z d (e, inr (f, g)) l = turned-known x d (rw (e, f, g) at l)
+linked-known : (k : Domains) (a u v x b y z : ℕ) → Direction x → SamePair a u v b y z → Linked x k b y z → known k a u v ≡ true
+linked-known k a u v x b y z d (e, inl (f, g)) l = forced-known k a u v x d (rw (e, f, g) at l)
+linked-known k a u v x b y z d (e, inr (f, g)) l =
+    forced-known k a u v (converse x) (by-direction (λ x. Direction (converse x)) (omega arith) (omega arith) x d)
+    (forced-converse k x a v u (omega (arith, d .most)) ∙ (rw (e, f, g) at l))
 
 -- The pair with the earlier item first, by the row
 pub turned-fixed : {k : Domains} {rows : List ℕ} {a u v : ℕ} → Mirror k rows → Proper 10 a u v → known k a u v ≡ true → {b y z : ℕ}
@@ -109,39 +90,20 @@ module _ {p : Problem} {k : Domains} {q t : List ℕ} {from a u v : ℕ} (c : Ch
     measured = c .measured;
     first = c .first;
     within = c .within;
-    closed = closed-wider (λ x e i j w f l m. inr (on e i j m)) (λ e i j m. m) (c .closed);
+    closed = closed-wider (λ x e i j w f l m. inr (⊎-map (λ q. q) (same-turned b a u v d y z h e i j) m)) (λ e i j m. m) (c .closed);
   }
-    where
-      on : (e i j : ℕ) → Queued q from (end q) e i j ⊎ SamePair a u v e i j → Queued q from (end q) e i j ⊎ SamePair d y z e i j
-      on e i j (inl m) = inl m
-      on e i j (inr m) = inr (same-turned b a u v d y z h e i j m)
-
-  pub extended-none : {rows : List ℕ} → Good k rows q → Tabled t → known k a u v ≡ false → Extended p k q t from k rows q t
-  extended-none good tabled none = record {
-    narrowed = narrowed-none good (closed-wider (λ x e i j d w l m. inr (on x e i j d l m)) (λ e i j m. m) (c .closed));
-    measured = c .measured;
-    tabled = tabled;
-    under = λ f h b. h .under;
-  }
-    where
-      on : (x e i j : ℕ) → Direction x → Linked x k e i j → Queued q from (end q) e i j ⊎ SamePair a u v e i j → Queued q from (end q) e i j
-      on x e i j d l (inl m) = m
-      on x e i j d l (inr m) = absurd (clash (linked-known k a u v x e i j d m l) none)
 
   -- Rules 1 to 4 follow
   module _ {k₁ : Domains} {rows₁ q₁ s : List ℕ} (e : Extended p k q t from k₁ rows₁ q₁ s) where
-    lawful-below : (f : Domains) → Fitting p t f → f ⊑ k → Lawful f × (f ⊑ k₁)
-    lawful-below f h b = (goal-lawful p f (h .goal), e .narrowed .low f h b)
-
     pub extended-refuted : Refuted Lawful k₁ → Refuted (Fitting p t) k
-    extended-refuted none f h b = let (l, d) = lawful-below f h b in none f l d
+    extended-refuted none f h b = none f (goal-lawful p f (h .goal)) (e .narrowed .low f h b)
 
     pub extended-then : {D : Domains → Type 0} {j : Domains} {rows r : List ℕ} → 1 ≤ end q → Narrowed Lawful D k₁ q₁ j rows r
         → Extended p k q t from j rows r s
     extended-then least n = record {
       narrowed = record {
         grown = grown-then least (e .narrowed .grown) (n .grown);
-        low = λ f h b. let (l, d) = lawful-below f h b in n .low f l d;
+        low = λ f h b. n .low f (goal-lawful p f (h .goal)) (e .narrowed .low f h b);
         done = closed-on (n .grown) (omega (arith, c .measured .ten)) from (c .first) (omega (arith, c .within, e .narrowed .grown .up))
             (e .narrowed .done);
       };
@@ -154,12 +116,17 @@ pub unordered : {k : Domains} {rows q t : List ℕ} {a u v : ℕ} → Proper 10 
     → (gone k 0 a u v ≡ false) ⊎ ((gone k 1 a u v || gone k 2 a u v) ≡ false)
     → (Long k rows q × SameMeasures t t × KeptIf k rows q t true)
     × ((p : Problem) (from : ℕ) → Charted p k q t from a u v → ExtendedIf p k q t from k rows q t true)
-unordered {k} {a = a} {u} {v} s good tabled none =
-    ((good-long good, same-none, (good, tabled)), λ p from c. extended-none c good tabled (unknown none))
-  where
-    unknown : (gone k 0 a u v ≡ false) ⊎ ((gone k 1 a u v || gone k 2 a u v) ≡ false) → known k a u v ≡ false
-    unknown (inl e) = rw e refl
-    unknown (inr e) = rw e (and-false (gone k 0 a u v))
+unordered {k} {a = a} {u} {v} s good tabled e =
+    let unknown : known k a u v ≡ false = ⊎-elim (λ e. rw e refl) (λ e. rw e (and-false (gone k 0 a u v))) e in (
+      (good-long good, same-none, (good, tabled)),
+      λ p from c. record {
+        narrowed = narrowed-none good (closed-wider (λ x e i j d w l m.
+            inr (⊎-elim (λ q. q) (λ m. absurd (clash (linked-known k a u v x e i j d m l) unknown)) m)) (λ e i j m. m) (c .closed));
+        measured = c .measured;
+        tabled = tabled;
+        under = λ f h b. h .under;
+      },
+    )
 
 -- Rules 1 and 4: a filled pair is not known both to overlap and not to
 module _ {k : Domains} {rows q : List ℕ} (good : Good k rows q) {a u v : ℕ} (w : Proper 10 a u v) where
@@ -179,11 +146,10 @@ module _ {k : Domains} {rows q : List ℕ} (good : Good k rows q) {a u v : ℕ} 
 
     pub overlap-none : (gone k 1 a u v ≡ false) ⊎ (gone k 2 a u v ≡ false) → Narrowed Lawful (Overlapped a u v k) k q k rows q
     unfolding says
-    overlap-none e = narrowed-none good (record { across = λ h. absurd (clash h left); along = λ h. absurd (go e (and-both _ _ h)) })
-      where
-        go : (gone k 1 a u v ≡ false) ⊎ (gone k 2 a u v ≡ false) → (gone k 1 a u v ≡ true) × (gone k 2 a u v ≡ true) → ⊥
-        go (inl e) (f, g) = clash f e
-        go (inr e) (f, g) = clash g e
+    overlap-none e = narrowed-none good (record {
+      across = λ h. absurd (clash h left);
+      along = λ h. let (f, g) = and-both _ _ h in absurd (⊎-elim (clash f) (clash g) e);
+    })
 
 -- What is asked for by fewer premises and done with more left is done all the same
 handled-within : {H : Clauses} (k k₁ k₂ j : Domains) → k₁ ⊑ k → j ⊑ k₂ → Handled H k₁ k₂ → Handled H k j
@@ -191,23 +157,24 @@ handled-within k k₁ k₂ j before after h ps c r e = holds-mono j k₂ after c
 
 -- All rules
 module _ {k : Domains} {q t : List ℕ} {a u v : ℕ} {k₁ : Domains} {rows₁ q₁ s : List ℕ} {k₂ : Domains} {rows₂ q₂ : List ℕ}
-    (least : 1 ≤ end q) (w : Proper 10 a u v) (tabled : Tabled s)
-    (e : (p : Problem) (from : ℕ) → Charted p k q t from a u v → Extended p k q t from k₁ rows₁ q₁ s)
+    (least : 1 ≤ end q) (w : Proper 10 a u v)
+    (e : (Long k₁ rows₁ q₁ × SameMeasures t s × KeptIf k₁ rows₁ q₁ s true)
+    × ((p : Problem) (from : ℕ) → Charted p k q t from a u v → Extended p k q t from k₁ rows₁ q₁ s))
     (f : Narrowed Lawful (Handled (Paths a u v) k₁) k₁ q₁ k₂ rows₂ q₂) where
   pub worked-all : (j : Domains) (rows r : List ℕ) (b : Bool) → Outcome Lawful (Overlapped a u v k₂) k₂ q₂ j rows r b
-      → (Long j rows r × KeptIf j rows r s b)
+      → (Long j rows r × SameMeasures t s × KeptIf j rows r s b)
       × ((p : Problem) (from : ℕ) → Charted p k q t from a u v → WorkedIf p k q t from a u v j rows r s b)
-  worked-all j rows r false (long, none) = ((long, tt), λ p from c. extended-refuted c (extended-then c (e p from c) least f) none)
-  worked-all j rows r true g = ((good-long (g .grown .good), (g .grown .good, tabled)), worked)
-    where
-      handled : k₁ ⊑ k → k₂ ⊑ k → Handled (Mentioning a u v) k j
-      handled first less =
-          mentioning-handled k j w (handled-within k k₁ k₂ j first (g .grown .less) (f .done))
-          (λ h. handled-within k k₂ j j less (below-refl j) (g .done .across (gone-mono k₂ k less 0 a u v h)))
-          (λ h. handled-within k k₂ j j less (below-refl j) (g .done .along (says-mono k₂ k less overlaps a u v h)))
-
-      worked : (p : Problem) (from : ℕ) → Charted p k q t from a u v → Extended p k q t from j rows r s × Handled (Mentioning a u v) k j
-      worked p from c =
-          let x = e p from c in
-          let y = extended-then c x least f in
-          (extended-then c y least g, handled (x .narrowed .grown .less) (y .narrowed .grown .less))
+  worked-all j rows r false (long, nil) =
+      ((long, e .0 .1, tt), λ p from c. extended-refuted c (extended-then c (e .1 p from c) least f) nil)
+  worked-all j rows r true g = (
+    (good-long (g .grown .good), e .0 .1, (g .grown .good, e .0 .2 .1)),
+    λ p from c.
+        let x = e .1 p from c in
+        let y = extended-then c x least f in
+        let less = y .narrowed .grown .less in (
+          extended-then c y least g,
+          mentioning-handled k j w (handled-within k k₁ k₂ j (x .narrowed .grown .less) (g .grown .less) (f .done))
+              (λ h. handled-within k k₂ j j less (below-refl j) (g .done .across (gone-mono k₂ k less 0 a u v h)))
+              (λ h. handled-within k k₂ j j less (below-refl j) (g .done .along (says-mono k₂ k less overlaps a u v h))),
+        ),
+  )

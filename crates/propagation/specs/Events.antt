@@ -1,8 +1,5 @@
 -- Working off one pair of the queue.
-use mathlib.Core.Bool.{Bool, true, false, cond}
-use mathlib.Core.List.{List}
-use mathlib.Core.Path.{_≡_}
-use Prim.Native.Nat.{ℕ}
+use Rattle.prelude.specs.Names.{Bool, true, false, cond, List, _≡_, ℕ}
 use Rattle.model.specs.Problem.{Problem}
 use Rattle.model.specs.Domains.{Domains}
 use Rattle.model.specs.Relations.{gone}

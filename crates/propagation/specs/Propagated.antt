@@ -1,13 +1,8 @@
 -- What propagation in code comes to: domains with their rows, queue and totals, before it and after.
-use mathlib.Core.Bool.{Bool, true, false}
-use mathlib.Core.List.{List, [], _∷_}
-use mathlib.Core.Logic.{_⊎_}
-use mathlib.Core.Path.{_≡_}
-use Prim.Native.Nat.{ℕ, _≤_, _<_}
+use Rattle.prelude.specs.Names.{Bool, true, false, List, [], _∷_, _⊎_, _≡_, ℕ, _<_}
 use Rattle.model.specs.Problem.{Problem}
 use Rattle.model.specs.Domains.{Domains}
 use Rattle.model.specs.Rules.{greatest-ending}
-use Rattle.model.specs.Propagate as M
 use Rattle.model.specs.Branching.{inconsistent}
 use Rattle.model.specs.Claims.{Claim, Holds}
 use Rattle.model.specs.Clauses.{Rule, AllHold, Obeyed}
@@ -15,6 +10,7 @@ use Rattle.model.specs.Toward.{Under, ClosedBut, NoPair, Closed}
 use Rattle.domains.specs.Rows.{Laid}
 use Rattle.domains.specs.Queue.{end, Queued, Good}
 use Rattle.chains.specs.Totals.{table, Tabled, Measured}
+use Rattle.model.specs.Propagate as M
 
 -- one of the claims is of a pair on the queue
 abbrev pub SomeQueued : List ℕ → ℕ → ℕ → List Claim → Type 0

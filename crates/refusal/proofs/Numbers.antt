@@ -1,12 +1,7 @@
 -- Number and place tell the refusal.
-use mathlib.Core.List.{List, [], _∷_}
-use mathlib.Core.Path.{_≡_, refl, sym, ap, ap₂, _∙_}
-use Prim.Native.Nat.{ℕ, _≤_}
-use native.Mathlib.Omega.{arith}
-use lib.ListN.{getD}
+use Rattle.prelude.specs.Names.{List, [], _∷_, _≡_, refl, sym, ap, ap₂, _∙_, ℕ, _≤_, arith, getD}
 use Rattle.refusal.specs.declared.Refusal.{Refusal}
-use Rattle.refusal.specs.declared.Refusal.the-variants.{EndsEarly, UnknownBit, WrittenDefault}
-use Rattle.refusal.specs.declared.Refusal.the-variants.{BadCount, BadItem, NotRising, TrailingBytes}
+use Rattle.refusal.specs.declared.Refusal.the-variants.{EndsEarly, UnknownBit, WrittenDefault, BadCount, BadItem, NotRising, TrailingBytes}
 use Rattle.refusal.specs.declared.Refusal.the-variants.{BadArgument, InvalidInstance, NotFollowing}
 use Rattle.refusal.specs.Numbers.{number-of, place-of}
 

@@ -1,7 +1,8 @@
 -- The number and the place of each refusal (document 01, "Refusals": the columns "Number" and "What is returned").
-use Prim.Native.Nat.{ℕ}
+use Rattle.prelude.specs.Names.{ℕ}
 use Rattle.refusal.specs.declared.Refusal.{Refusal}
-use Rattle.refusal.specs.declared.Refusal.the-variants.{EndsEarly, UnknownBit, WrittenDefault, BadCount, BadItem, NotRising, TrailingBytes, BadArgument, InvalidInstance, NotFollowing}
+use Rattle.refusal.specs.declared.Refusal.the-variants.{EndsEarly, UnknownBit, WrittenDefault, BadCount, BadItem, NotRising, TrailingBytes}
+use Rattle.refusal.specs.declared.Refusal.the-variants.{BadArgument, InvalidInstance, NotFollowing}
 
 abbrev pub number-of : Refusal → ℕ
 number-of (EndsEarly place) = 1

@@ -1,13 +1,7 @@
 -- Laws of decimal numbers: the recursion that the code follows, and how many digits there are.
-use mathlib.Core.Path.{_≡_, refl, sym, ap, _∙_}
-use mathlib.Core.Logic.{_⊎_, inl, inr, ⊎-elim}
-use mathlib.Core.List.{List, [], _∷_, _++_}
-use Prim.Native.Nat.{ℕ, zero, suc, _+_, _*_, _/_, _%_, _^_, _≤_, _<_}
-use native.Mathlib.Omega.{arith}
-use native.Mathlib.Nat.{pow-suc, div-lt-self, div-lt-iff-lt-mul}
-use native.Mathlib.Decide.{decLt}
-use borrow.Author.Tests.{lt-ltb, le-ltb}
-use lib.ListN.{length, length-append}
+use Rattle.prelude.specs.Names.{_≡_, sym, _∙_, _⊎_, inl, inr, ⊎-elim, [], _∷_, _++_, ℕ, zero, suc, _+_, _/_, _%_, _^_, _≤_, _<_, arith, div-lt-self}
+use Rattle.prelude.specs.Names.{decLt, lt-ltb, le-ltb, length, length-append}
+use native.Mathlib.Nat.{pow-suc, div-lt-iff-lt-mul}
 use Rattle.report.specs.Decimal.{digits, decimal}
 
 digits-one : (f n : ℕ) → n < 10 → digits (suc f) n ≡ (48 + n) ∷ []

@@ -1,67 +1,68 @@
 -- Laws of the runs of stores that make a text, and of its length.
-use mathlib.Core.Path.{_≡_, refl, sym, ap, _∙_}
-use mathlib.Core.List.{List, [], _∷_, _++_}
-use Prim.Native.Nat.{ℕ, _+_, _≤_, _<_}
-use native.Mathlib.Omega.{arith}
-use native.Mathlib.Numerals.{add-one}
-use lib.ListN.{length, take, set, getD, length-append}
-use lib.Seq.{sets, take-suc, length-take-le}
+use Rattle.prelude.specs.Names.{_≡_, refl, _∙_, List, [], _∷_, _++_, ℕ, suc, _+_, _*_, _^_, _≤_, _<_, arith, add-one, length, take, drop, set, getD}
+use Rattle.prelude.specs.Names.{length-append, drop-of-length-le, sets, drop-cons, getD-take, length-take-le}
 use Rattle.formats.proofs.Stores.{sets-append}
 use Rattle.instance.specs.declared.Packing.{Packing}
-use Rattle.instance.specs.declared.Position.{Position}
 use Rattle.instance.specs.Values.{origin}
-use Rattle.report.specs.Decimal.{decimal}
+use Rattle.report.proofs.Decimals.{decimal-short}
 use Rattle.report.specs.Text.{field, fields, line, item-line, item-lines}
-
--- one byte more of a copy
-pub copy-next : (l bytes : List ℕ) (at i : ℕ) → i < length bytes
-    → set (sets l at (take i bytes)) (at + i) (getD bytes i 0) ≡ sets l at (take (i + 1) bytes)
-copy-next l bytes at i h =
-    let n : length (take i bytes) ≡ i = length-take-le i bytes (omega arith) in
-    let e = sets-append (take i bytes) (getD bytes i 0 ∷ []) l at in
-    rw (add-one, take-suc bytes i 0 h) (rw n at e)
 
 -- a run of stores that goes on where another ended
 pub joined : (l a b : List ℕ) (at i : ℕ) → i ≡ at + length a → sets (sets l at a) i b ≡ sets l at (a ++ b)
 joined l a b at i e = rw e (sets-append a b l at)
 
-pub answer-length : (word : List ℕ) (n : ℕ) → length (line word (n ∷ [])) ≡ length word + (length (field n) + 1)
+-- of the fields of the first n numbers those from the i-th on are still to be put, at k
+pub record Putting (l : List ℕ) (at : ℕ) (numbers : List ℕ) (n : ℕ) (out : List ℕ) (k i : ℕ) : Type 0 where
+  pub some : n ≤ length numbers
+  pub upto : i ≤ n
+  pub runs : sets out k (fields (drop i (take n numbers))) ≡ sets l at (fields (take n numbers))
+  pub ends : k + length (fields (drop i (take n numbers))) ≡ at + length (fields (take n numbers))
+  pub same : length out ≡ length l
+
+pub putting-none : {l : List ℕ} {at : ℕ} {numbers : List ℕ} {n : ℕ} → n ≤ length numbers → Putting l at numbers n l at 0
+putting-none h = record { some = h; upto = omega arith; runs = refl; ends = refl; same = refl }
+
+module _ {l : List ℕ} {at : ℕ} {numbers : List ℕ} {n : ℕ} {out : List ℕ} {k i : ℕ} (p : Putting l at numbers n out k i) where
+  next-fields : i < n → fields (drop i (take n numbers)) ≡ field (getD numbers i 0) ++ fields (drop (i + 1) (take n numbers))
+  next-fields h =
+      let s : i < length (take n numbers) = omega (arith, length-take-le n numbers (p .some)) in
+      rw (drop-cons (take n numbers) i 0 s, add-one, getD-take n numbers i 0 h)
+
+  pub putting-room : i < n → k + length (field (getD numbers i 0)) ≤ at + length (fields (take n numbers))
+  putting-room h = omega (arith, rw (next-fields h, length-append) at (p .ends))
+
+  pub putting-next : {out′ : List ℕ} {k′ : ℕ} → i < n → out′ ≡ sets out k (field (getD numbers i 0)) → k′ ≡ k + length (field (getD numbers i 0))
+      → length out′ ≡ length out → Putting l at numbers n out′ k′ (i + 1)
+  putting-next h eo ek el = record {
+    some = p .some;
+    upto = omega arith;
+    runs = rw eo (joined out (field (getD numbers i 0)) (fields (drop (i + 1) (take n numbers))) k _ ek ∙ (rw (next-fields h) at (p .runs)));
+    ends = omega (arith, rw (next-fields h, length-append) at (p .ends));
+    same = el ∙ p .same;
+  }
+
+  pub putting-done : n ≤ i → (k + 1 ≡ at + length (fields (take n numbers))) × (set out k 0x0a ≡ sets l at (fields (take n numbers)))
+  putting-done e =
+      let d : drop i (take n numbers) ≡ [] = drop-of-length-le (take n numbers) {i = i} (omega (arith, length-take-le n numbers (p .some))) in
+      (rw d at (p .ends), rw d at (p .runs))
+
+-- a line: its first part, and then the fields
+pub line-length : (first ns : List ℕ) → length (line first ns) ≡ length first + length (fields ns)
 unfolding line
-answer-length word n = simp length-append
+line-length first ns = length-append first (fields ns)
 
-pub answer-run : (l word : List ℕ) (n a b : ℕ) → a ≡ 0 + length word → b ≡ a + length (field n)
-    → set (sets (sets l 0 word) a (field n)) b 0x0a ≡ sets l 0 (line word (n ∷ []))
+pub line-run : (l first ns : List ℕ) (at a : ℕ) → a ≡ at + length first → sets (sets l at first) a (fields ns) ≡ sets l at (line first ns)
 unfolding line
-answer-run l word n a b ea eb = joined (sets l 0 word) (field n) (0x0a ∷ []) a b eb ∙ joined l word (fields (n ∷ [])) 0 a ea
+line-run l first ns at a e = joined l first (fields ns) at a e
 
-pub refused-length : (word : List ℕ) (n m : ℕ) → length (line word (n ∷ m ∷ [])) ≡ length word + (length (field n) + (length (field m) + 1))
-unfolding line
-refused-length word n m = simp length-append
+-- numbers of at most k + 1 digits take at most k + 2 bytes each, and the line's end 1
+abbrev pub Small : ℕ → List ℕ → Type 0
+Small k [] = Unit
+Small k (n ∷ ns) = (n < 10 ^ suc k) × Small k ns
 
-pub refused-run : (l word : List ℕ) (n m a b c : ℕ) → a ≡ 0 + length word → b ≡ a + length (field n) → c ≡ b + length (field m)
-    → set (sets (sets (sets l 0 word) a (field n)) b (field m)) c 0x0a ≡ sets l 0 (line word (n ∷ m ∷ []))
-unfolding line
-refused-run l word n m a b c ea eb ec =
-    joined (sets (sets l 0 word) a (field n)) (field m) (0x0a ∷ []) b c ec
-    ∙ joined (sets l 0 word) (field n) (fields (m ∷ [])) a b eb
-    ∙ joined l word (fields (n ∷ m ∷ [])) 0 a ea
-
-pub item-length : (u : ℕ) (p : Position)
-    → length (item-line u p) ≡ length (decimal u) + (length (field (p .x)) + (length (field (p .y)) + (length (field (p .t)) + 1)))
-unfolding item-line line
-item-length u p = simp length-append
-
-pub item-run : (l : List ℕ) (at u : ℕ) (p : Position) (a b c d : ℕ) → a ≡ at + length (decimal u) → b ≡ a + length (field (p .x))
-    → c ≡ b + length (field (p .y)) → d ≡ c + length (field (p .t))
-    → set (sets (sets (sets (sets l at (decimal u)) a (field (p .x))) b (field (p .y))) c (field (p .t))) d 0x0a ≡ sets l at (item-line u p)
-unfolding item-line line
-item-run l at u p a b c d ea eb ec ed =
-    let l₁ = sets l at (decimal u) in
-    let l₂ = sets l₁ a (field (p .x)) in
-    joined (sets l₂ b (field (p .y))) (field (p .t)) (0x0a ∷ []) c d ed
-    ∙ joined l₂ (field (p .y)) (fields (p .t ∷ [])) b c ec
-    ∙ joined l₁ (field (p .x)) (fields (p .y ∷ p .t ∷ [])) a b eb
-    ∙ joined l (decimal u) (fields (p .x ∷ p .y ∷ p .t ∷ [])) at a ea
+pub fields-short : (k : ℕ) (ns : List ℕ) → Small k ns → length (fields ns) ≤ (2 + k) * length ns + 1
+fields-short k [] h = omega arith
+fields-short k (n ∷ ns) h = rw length-append (omega (arith, decimal-short k n (h .0), fields-short k ns (h .1)))
 
 module _ (q : Packing) where
   pub items-none : item-lines q 0 ≡ []

@@ -1,8 +1,5 @@
 -- Numbers in decimal.
-use mathlib.Core.Bool.{cond}
-use mathlib.Core.List.{List, [], _∷_, _++_}
-use Prim.Native.Nat.{ℕ, zero, suc, _+_, _/_, _%_}
-use lib.Dec.{ltb}
+use Rattle.prelude.specs.Names.{cond, List, [], _∷_, _++_, ℕ, zero, suc, _+_, _/_, _%_, ltb}
 
 -- the last digits of n in ASCII: all that it has, and at most `places` of them
 unfoldable pub digits : ℕ → ℕ → List ℕ

@@ -1,7 +1,5 @@
 -- What the program prints, in ASCII (document 01, "The program").
-use mathlib.Core.List.{List, [], _∷_, _++_}
-use Prim.Native.Nat.{ℕ, zero, suc}
-use lib.ListN.{getD}
+use Rattle.prelude.specs.Names.{List, [], _∷_, _++_, ℕ, zero, suc, getD}
 use Rattle.refusal.specs.declared.Refusal.{Refusal}
 use Rattle.refusal.specs.Numbers.{number-of, place-of}
 use Rattle.instance.specs.declared.Packing.{Packing}

@@ -49,8 +49,5 @@ pub fn refused(out: &mut [u8], e: Refusal) -> usize
     ensures { λ _. ⌜ now (out .exit) ≡ refused-text e ++ drop (length (refused-text e)) (now (out .entry)) ⌝ }
 {
     let a = put::put_bytes(out, 0, b"refused");
-    let b = put::put_field(out, a, e.number() as u64);
-    let c = put::put_field(out, b, e.place() as u64);
-    out[c] = b'\n';
-    c + 1
+    put::put_fields(out, a, [e.number() as u64, e.place() as u64, 0], 2)
 }

@@ -2,10 +2,10 @@
 ghost use Rattle.sheet.specs.Sheet.{max-items};
 ghost use mathlib.Core.Path.{_≡_};
 ghost use Prim.Native.Nat.{_+_, _*_, _≤_, _<_};
-ghost use lib.ListN.{length};
+ghost use lib.ListN.{length, take};
 ghost use lib.Seq.{sets};
 ghost use Rattle.report.specs.Decimal.{decimal};
-ghost use Rattle.report.specs.Text.{field, answer-line, item-line, item-lines};
+ghost use Rattle.report.specs.Text.{field, fields, answer-line, item-line, item-lines};
 use instance::Packing;
 use instance::Position;
 
@@ -38,13 +38,29 @@ fn put_decimal(out: &mut [u8], at: usize, n: u64) -> usize
 }
 
 // A space and a number.
-pub fn put_field(out: &mut [u8], at: usize, n: u64) -> usize
+fn put_field(out: &mut [u8], at: usize, n: u64) -> usize
     requires { ⌜ at + length (field n) ≤ length (now out) ⌝ }
     ensures { λ r. ⌜ r ≡ at + length (field n) ⌝ }
     ensures { λ _. ⌜ now (out .exit) ≡ sets (now (out .entry)) at (field n) ⌝ }
 {
     out[at] = b' ';
     put_decimal(out, at + 1, n)
+}
+
+// The first n numbers, a space before each, and the end of the line.
+pub fn put_fields(out: &mut [u8], at: usize, numbers: [u64; 3], n: usize) -> usize
+    requires { ⌜ (n ≤ 3) × (at + length (fields (take n numbers)) ≤ length (now out)) ⌝ }
+    ensures { λ r. ⌜ r ≡ at + length (fields (take n numbers)) ⌝ }
+    ensures { λ _. ⌜ now (out .exit) ≡ sets (now (out .entry)) at (fields (take n numbers)) ⌝ }
+{
+    let mut k = at;
+    let mut i: usize = 0;
+    while i < n {
+        k = put_field(out, k, numbers[i]);
+        i = i + 1;
+    }
+    out[k] = b'\n';
+    k + 1
 }
 
 // An answer's word and the steps, at the front.
@@ -54,9 +70,7 @@ pub fn put_answer(out: &mut [u8], word: &[u8], steps: u32) -> usize
     ensures { λ _. ⌜ now (out .exit) ≡ sets (now (out .entry)) 0 (answer-line (now (word .entry)) steps) ⌝ }
 {
     let a = put_bytes(out, 0, word);
-    let b = put_field(out, a, steps as u64);
-    out[b] = b'\n';
-    b + 1
+    put_fields(out, a, [steps as u64, 0, 0], 1)
 }
 
 // An item's line.
@@ -66,11 +80,7 @@ fn put_item(out: &mut [u8], at: usize, u: usize, p: Position) -> usize
     ensures { λ _. ⌜ now (out .exit) ≡ sets (now (out .entry)) at (item-line u p) ⌝ }
 {
     let a = put_decimal(out, at, u as u64);
-    let b = put_field(out, a, p.x as u64);
-    let c = put_field(out, b, p.y as u64);
-    let d = put_field(out, c, p.t as u64);
-    out[d] = b'\n';
-    d + 1
+    put_fields(out, a, [p.x as u64, p.y as u64, p.t as u64], 3)
 }
 
 // The lines of n items.

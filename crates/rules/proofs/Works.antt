@@ -1,16 +1,13 @@
 -- The algebra of `Handled`, stated once for all rules: premises stay, one after another, other clauses that ask for the same.
-use mathlib.Core.Bool.{Bool}
-use mathlib.Core.List.{List, [], _∷_}
-use mathlib.Core.Logic.{_⊎_, inl, inr}
-use Prim.Native.Nat.{ℕ, _≤_}
+use Rattle.prelude.specs.Names.{Bool, List, [], _∷_, _⊎_, inl, inr, _≡_, ℕ, _≤_}
 use Rattle.model.specs.Domains.{Domains}
-use Rattle.model.specs.Order.{Proper, _⊑_}
-use Rattle.model.specs.Claims.{overlaps, Claim, Holds}
-use Rattle.model.specs.Clauses.{of, Rule, AllHold, Lawful}
-use Rattle.model.proofs.Claims.{says-mono, holds-mono}
+use Rattle.model.specs.Order.{_⊑_}
+use Rattle.model.specs.Claims.{Claim, Holds}
+use Rattle.model.specs.Clauses.{Rule, AllHold, Lawful}
+use Rattle.model.proofs.Claims.{holds-mono}
 use Rattle.domains.specs.Queue.{end}
 use Rattle.domains.specs.Narrowed.{Narrowed, Outcome}
-use Rattle.rules.specs.Worked.{Clauses, Handled}
+use Rattle.rules.specs.Worked.{Clauses, Handled, next-axis, Third, Sides, Overlapping}
 use Rattle.domains.proofs.Narrowed.{outcome-then}
 
 pub hold-mono : (f k : Domains) → f ⊑ k → (ps : List Claim) → AllHold k ps → AllHold f ps
@@ -25,20 +22,23 @@ lawful-holds {f} k l b {ps} {c} r s = l .obeyed ps c r (hold-mono f k b ps s)
 abbrev pub Either : Clauses → Clauses → Clauses
 Either H G ps c = H ps c ⊎ G ps c
 
-module _ (k j l : Domains) where
-  -- the premises are read in k and in j, the conclusions in j and in l
-  pub handled-then : (H G : Clauses) → j ⊑ k → l ⊑ j → Handled H k j → Handled G j l → Handled (Either H G) k l
-  handled-then H G b d h g ps c (inl x) s = holds-mono l j d c (h ps c x s)
-  handled-then H G b d h g ps c (inr x) s = g ps c x (hold-mono j k b ps s)
-
 -- One worker after another
 pub worked-then : (H G : Clauses) {k : Domains} {q : List ℕ} {j : Domains} {rows r : List ℕ} (l : Domains) (rows′ s : List ℕ) (b : Bool)
     → 1 ≤ end q → Narrowed Lawful (Handled H k) k q j rows r → Outcome Lawful (Handled G j) j r l rows′ s b
     → Outcome Lawful (Handled (Either H G) k) k q l rows′ s b
 worked-then H G {k} {j = j} l rows′ s b least f g =
-    outcome-then (Handled G j) (Handled (Either H G) k) l rows′ s b least f g (λ d h e. handled-then k j l H G (f .grown .less) d h e)
+    outcome-then (Handled G j) (Handled (Either H G) k) l rows′ s b least f g
+    (λ d h e ps c m p. elim m [ inl x ↦ holds-mono l j d c (h ps c x p) | inr x ↦ e ps c x (hold-mono j k (f .grown .less) ps p) ])
 
--- What is known stays so
-pub overlap-kept : {G D : Domains → Type 0} {k : Domains} {q : List ℕ} {j : Domains} {rows r : List ℕ} {n a u v : ℕ} → Proper n a u v
-    → Narrowed G D k q j rows r → Holds k (of overlaps a u v) → Holds j (of overlaps a u v)
-overlap-kept {k = k} {j = j} {a = a} {u} {v} s f = says-mono j k (f .grown .less) overlaps a u v
+-- Two items that overlap: rule 1 on the other axes and the rings on both sides, one after another, are all clauses with this premise
+pub overlapping-worked : {a b c u v : ℕ} → b ≡ next-axis a → c ≡ next-axis b → {k : Domains} {q : List ℕ} → 1 ≤ end q
+    → {k₁ : Domains} {rows₁ q₁ : List ℕ} → Narrowed Lawful (Handled (Third a b c u v) k) k q k₁ rows₁ q₁
+    → {k₂ : Domains} {rows₂ q₂ : List ℕ} → Narrowed Lawful (Handled (Third a c b u v) k₁) k₁ q₁ k₂ rows₂ q₂
+    → {k₃ : Domains} {rows₃ q₃ : List ℕ} → Narrowed Lawful (Handled (Sides a u v) k₂) k₂ q₂ k₃ rows₃ q₃
+    → (j : Domains) (rows r : List ℕ) (t : Bool) → Outcome Lawful (Handled (Sides a v u) k₃) k₃ q₃ j rows r t
+    → Outcome Lawful (Handled (Overlapping a u v) k) k q j rows r t
+overlapping-worked {a} {b} {c} {u} {v} e f {k} {q} least n₁ n₂ n₃ j rows r t o =
+    rw (f, e) at
+    (worked-then (Third a b c u v) (Either (Third a c b u v) (Either (Sides a u v) (Sides a v u))) j rows r t least n₁
+    (worked-then (Third a c b u v) (Either (Sides a u v) (Sides a v u)) j rows r t (n₁ .grown .good .least) n₂
+    (worked-then (Sides a u v) (Sides a v u) j rows r t (n₂ .grown .good .least) n₃ o)))

@@ -1,8 +1,5 @@
 -- The clauses that have a pair in a premise.
-use mathlib.Core.List.{List, [], _∷_}
-use mathlib.Core.Logic.{_⊎_}
-use mathlib.Core.Path.{_≡_}
-use Prim.Native.Nat.{ℕ}
+use Rattle.prelude.specs.Names.{List, [], _∷_, _⊎_, _≡_, ℕ}
 use Rattle.model.specs.Claims.{Claim}
 use Rattle.model.specs.Clauses.{Rule}
 use Rattle.rules.specs.Worked.{Clauses}

@@ -1,9 +1,5 @@
 -- The clauses that each function of rules 1 to 4 sees to.
-use mathlib.Core.Bool.{Bool, true, false, _&&_, _||_}
-use mathlib.Core.List.{List, [], _∷_}
-use mathlib.Core.Logic.{_⊎_}
-use mathlib.Core.Path.{_≡_}
-use Prim.Native.Nat.{ℕ, zero, suc, _+_, _*_, _^_, _<_}
+use Rattle.prelude.specs.Names.{Bool, true, false, _&&_, _||_, List, [], _∷_, _⊎_, _≡_, ℕ, zero, suc, _+_, _*_, _^_, _<_}
 use Rattle.model.specs.Domains.{Domains}
 use Rattle.model.specs.Order.{Proper}
 use Rattle.model.specs.Relations.{Filled}

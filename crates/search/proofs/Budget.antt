@@ -1,9 +1,5 @@
 -- Steps within a budget: the rest from here is the whole from the start.
-use mathlib.Core.List.{List}
-use mathlib.Core.Path.{_≡_, sym, _∙_, subst}
-use Prim.Native.Nat.{ℕ, suc, _+_, _-_, _≤_, _<_}
-use native.Mathlib.Nat.{sub-zero}
-use native.Mathlib.Omega.{arith}
+use Rattle.prelude.specs.Names.{List, _≡_, sym, _∙_, subst, ℕ, suc, _+_, _-_, _≤_, _<_, sub-zero, arith}
 use Rattle.model.proofs.Machine.{finished-stays, finished-takes-none}
 use Rattle.model.specs.Branching.{Branch}
 use Rattle.model.specs.Machine.{steps, taken, Finished}

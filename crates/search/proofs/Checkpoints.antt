@@ -1,24 +1,18 @@
 -- Laws of a path's branches in an array, and of checkpoints as values.
-use mathlib.Core.Bool.{Bool, true, false, _&&_}
-use mathlib.Core.List.{List, [], _∷_}
-use mathlib.Core.Path.{_≡_, refl, sym, ap, _∙_, subst}
-use Prim.Native.Nat.{ℕ, zero, suc, _+_, _-_, _≤_, _<_}
-use native.Mathlib.Decide.{ℕ-discrete, decLt}
-use native.Mathlib.Numerals.{add-one}
-use native.Mathlib.Omega.{arith}
-use lib.Dec.{leb, ltb}
-use lib.ListN.{length, getD, set, replicate, length-set, length-replicate}
-use lib.Seq.{ext-getD, getD-set-same, getD-set-other, set-getD, set-set, set-out}
-use borrow.Author.Tests.{eqb-true, le-leb, lt-ltb, le-ltb, leb-true, ltb-true}
+use Rattle.prelude.specs.Names.{true, false, List, [], _∷_, _≡_, refl, sym, ap, _∙_, subst, ℕ, zero, suc, _+_, _-_, _≤_, _<_, ℕ-discrete, decLt}
+use Rattle.prelude.specs.Names.{add-one, arith, leb, length, getD, set, replicate, length-set, length-replicate, ext-getD, getD-set-same}
+use Rattle.prelude.specs.Names.{getD-set-other, set-getD, eqb-true, le-leb, lt-ltb, le-ltb, leb-true, ltb-true}
+use lib.Seq.{set-set}
 use Rattle.model.proofs.Below.{and-intro, and-both, all-at, all-of}
 use Rattle.model.specs.Below.{all-below}
 use Rattle.model.specs.Branching.{Branch, first, second}
-use Rattle.model.specs.Search as S
 use Rattle.instance.specs.declared.Checkpoint.{Checkpoint}
 use Rattle.instance.specs.declared.Status.{Status}
 use Rattle.instance.specs.declared.Status.the-variants.{Open, Infeasible, Packed}
-use Rattle.search.specs.Checkpoints.{branch-of, branch-number, path-of, with-status, checkpoint-of, length-allowed, all-branches, well-formed, Bits, branches-of, value-of}
-use Rattle.search.specs.Standing.{without-seconds, Holds}
+use Rattle.search.specs.Checkpoints.{branch-of, branch-number, path-of, with-status, checkpoint-of, length-allowed, all-branches, well-formed}
+use Rattle.search.specs.Checkpoints.{Bits, branches-of, value-of}
+use Rattle.search.specs.Standing.{Holds, Backed, some-left, none-left}
+use Rattle.model.specs.Search as S
 
 -- a branch and its number
 pub branch-back : (b : Branch) → branch-of (branch-number b) ≡ b
@@ -71,18 +65,23 @@ path-back (b ∷ path) h =
     let l : length path < length (branches-of path) = omega (arith, branches-length path) in
     rw (getD-set-same (branches-of path) (length path) (branch-number b) 0 l, branch-back, path-set (length path) (branches-of path) (length path) (branch-number b) (omega arith), path-back path (omega arith))
 
+set-small : (l : List ℕ) (i j v : ℕ) → v < 2 → getD l j 0 < 2 → getD (set l i v) j 0 < 2
+set-small [] i j v small h = h
+set-small (x ∷ l) zero zero v small h = small
+set-small (x ∷ l) zero (suc j) v small h = h
+set-small (x ∷ l) (suc i) zero v small h = h
+set-small (x ∷ l) (suc i) (suc j) v small h = set-small l i j v small h
+
 pub branches-small : (path : List Branch) (i : ℕ) → getD (branches-of path) i 0 < 2
 unfolding branches-of
 branches-small [] i = omega (arith, blank 270 i)
-branches-small (b ∷ path) i = go (ℕ-discrete i (length path)) (branches-small path i)
-  where
-    inside : i ≡ length path → Dec (i < length (branches-of path)) → getD (branches-of path) i 0 < 2 → getD (set (branches-of path) (length path) (branch-number b)) i 0 < 2
-    inside e (yes h) g = rw (← e, getD-set-same (branches-of path) i (branch-number b) 0 h) (number-small b)
-    inside e (no h) g = rw (← e, set-out (branches-of path) i (branch-number b) (omega arith)) g
+branches-small (b ∷ path) i = set-small (branches-of path) (length path) i (branch-number b) (number-small b) (branches-small path i)
 
-    go : Dec (i ≡ length path) → getD (branches-of path) i 0 < 2 → getD (set (branches-of path) (length path) (branch-number b)) i 0 < 2
-    go (yes e) g = inside e (decLt i (length (branches-of path))) g
-    go (no d) g = rw (getD-set-other (branches-of path) (length path) i (branch-number b) 0 d) g
+-- no branch is written for a first one
+pub first-held : (path : List Branch) → branches-of (first ∷ path) ≡ branches-of path
+unfolding branches-of
+first-held path =
+    ap (set (branches-of path) (length path)) (sym (branches-past path (length path) (omega arith))) ∙ set-getD (branches-of path) (length path) 0
 
 branches-bits : (path : List Branch) (n : ℕ) → all-branches n (branches-of path) ≡ true
 unfolding all-branches
@@ -119,45 +118,37 @@ unfolding checkpoint-of
 checkpoint-as c e = ap (λ (s : Status). with-status s (path-of (c .length) (c .branches))) e
 
 -- what a well-formed value says of its length and its branches
-well-formed-says : (c : Checkpoint) → well-formed c ≡ true
-    → (c .length ≤ 270) × (length-allowed (c .status) (c .length) ≡ true) × (all-branches (c .length) (c .branches) ≡ true)
-unfolding well-formed
-well-formed-says c h =
-    let rest = length-allowed (c .status) (c .length) && all-branches (c .length) (c .branches) in
-    let (l, r) = and-both (leb (c .length) 270) rest h in
-    let (a, b) = and-both (length-allowed (c .status) (c .length)) (all-branches (c .length) (c .branches)) r in
-    (leb-true _ _ l, a, b)
-
 pub well-formed-bits : (c : Checkpoint) → well-formed c ≡ true → Bits (c .length) (c .branches)
-well-formed-bits c h = let (l, a, b) = well-formed-says c h in record { within = l; bits = b }
+unfolding well-formed
+well-formed-bits c h =
+    let (l, r) = and-both (leb (c .length) 270) _ h in
+    record { within = leb-true _ _ l; bits = and-both (length-allowed (c .status) (c .length)) _ r .1 }
 
 pub well-formed-length : (c : Checkpoint) → well-formed c ≡ true → length-allowed (c .status) (c .length) ≡ true
-well-formed-length c h = let (l, a, b) = well-formed-says c h in a
-
--- the first n branches, written anew
-pub path-again : (n : ℕ) (bs : List ℕ) → n ≤ 270 → path-of n (branches-of (path-of n bs)) ≡ path-of n bs
-path-again n bs h =
-    subst (λ (m : ℕ). path-of m (branches-of (path-of n bs)) ≡ path-of n bs) (path-length n bs) (path-back (path-of n bs) (rw path-length h))
+unfolding well-formed
+well-formed-length c h = and-both (length-allowed (c .status) (c .length)) _ (and-both (leb (c .length) 270) _ h .1) .0
 
 -- the array of a path that was read from an array
 pub again-at : (n : ℕ) (bs : List ℕ) → n ≤ 270 → (k : ℕ) → k < n → getD (branches-of (path-of n bs)) k 0 ≡ branch-number (branch-of (getD bs k 0))
 unfolding branches-of
 again-at zero bs l k h = absurd (omega arith)
-again-at (suc n) bs l k h = rw (path-length n bs) (go (ℕ-discrete k n) (λ j. again-at n bs (omega arith) k j))
-  where
-    go : Dec (k ≡ n) → (k < n → getD (branches-of (path-of n bs)) k 0 ≡ branch-number (branch-of (getD bs k 0)))
-        → getD (set (branches-of (path-of n bs)) n (branch-number (branch-of (getD bs n 0)))) k 0 ≡ branch-number (branch-of (getD bs k 0))
-    go (yes e) ih = rw e (getD-set-same (branches-of (path-of n bs)) n _ 0 (omega (arith, branches-length (path-of n bs))))
-    go (no d) ih = getD-set-other (branches-of (path-of n bs)) n k _ 0 d ∙ ih (omega arith)
+again-at (suc n) bs l k h = rw (path-length n bs) (elim (ℕ-discrete k n) [
+  | yes e ↦ rw e (getD-set-same (branches-of (path-of n bs)) n _ 0 (omega (arith, branches-length (path-of n bs))))
+  | no d ↦ getD-set-other (branches-of (path-of n bs)) n k _ 0 d ∙ again-at n bs (omega arith) k (omega arith)
+])
+
+-- one branch more of an array of branches
+pub bits-next : {n : ℕ} {bs : List ℕ} (i : ℕ) → Bits n bs → i < n → branch-number (branch-of (getD bs i 0)) ≡ getD bs i 0
+unfolding all-branches
+bits-next {n} {bs} i β h = number-back (getD bs i 0) (ltb-true _ _ (all-at n _ (β .bits) i h))
 
 module _ (n : ℕ) (bs : List ℕ) (long : length bs ≡ 270) (β : Bits n bs) (past : (k : ℕ) → n ≤ k → getD bs k 0 ≡ 0) where
   branches-again : branches-of (path-of n bs) ≡ bs
   unfolding all-branches
-  branches-again = ext-getD 0 (branches-of (path-of n bs)) bs (branches-length (path-of n bs) ∙ sym long) (λ k h. go k (decLt k n))
-    where
-      go : (k : ℕ) → Dec (k < n) → getD (branches-of (path-of n bs)) k 0 ≡ getD bs k 0
-      go k (yes h) = again-at n bs (β .within) k h ∙ number-back (getD bs k 0) (ltb-true _ _ (all-at n _ (β .bits) k h))
-      go k (no h) = branches-past (path-of n bs) k (rw (path-length n bs) (omega arith)) ∙ sym (past k (omega arith))
+  branches-again = ext-getD 0 (branches-of (path-of n bs)) bs (branches-length (path-of n bs) ∙ sym long) (λ k _. elim (decLt k n) [
+    | yes h ↦ again-at n bs (β .within) k h ∙ bits-next k β h
+    | no h ↦ branches-past (path-of n bs) k (rw (path-length n bs) (omega arith)) ∙ sym (past k (omega arith))
+  ])
 
   -- the value of what a value holds is that value, where it is well-formed and 0 past its length
   pub value-again : (s : Status) → length-allowed s n ≡ true → value-of (with-status s (path-of n bs)) ≡ record { status = s; length = n; branches = bs }
@@ -182,72 +173,49 @@ holds-next b h = record { many = omega (arith, h .many); values = rw (h .many, h
 pub path-next : (n : ℕ) (bs : List ℕ) → path-of (n + 1) bs ≡ branch-of (getD bs n 0) ∷ path-of n bs
 path-next n bs = rw add-one
 
--- one branch more of an array of branches
-pub bits-next : {n : ℕ} {bs : List ℕ} (i : ℕ) → Bits n bs → i < n → branch-number (branch-of (getD bs i 0)) ≡ getD bs i 0
-unfolding all-branches
-bits-next {n} {bs} i β h = number-back (getD bs i 0) (ltb-true _ _ (all-at n _ (β .bits) i h))
+-- the last branch of a path: a first one is turned, a second one dropped
+module _ {path : List Branch} {bs : List ℕ} {n : ℕ} where
+  last-number : {b : Branch} → Holds (b ∷ path) bs n → n ≤ 270 → getD bs (n - 1) 0 ≡ branch-number b
+  unfolding branches-of
+  last-number {b} h l =
+      let e : n - 1 ≡ length path = omega (arith, h .many) in
+      rw (e, h .values) (getD-set-same (branches-of path) (length path) (branch-number b) 0 (omega (arith, h .many, branches-length path)))
 
--- the last branch of a path, turned or dropped
+  turned : Holds (first ∷ path) bs n → Holds (second ∷ path) (set bs (n - 1) 1) n
+  unfolding branches-of
+  turned h =
+      let e : n - 1 ≡ length path = omega (arith, h .many) in
+      record { many = h .many; values = rw (e, h .values, set-set) }
+
+  dropped : Holds (second ∷ path) bs n → Holds path (set bs (n - 1) 0) (n - 1)
+  unfolding branches-of
+  dropped h =
+      let e : n - 1 ≡ length path = omega (arith, h .many) in
+      record { many = e; values = rw (e, h .values, set-set) (first-held path) }
+
 module _ {bs : List ℕ} {n : ℕ} where
-  last-number : (b : Branch) (path : List Branch) → Holds (b ∷ path) bs n → n ≤ 270 → getD bs (n - 1) 0 ≡ branch-number b
-  unfolding branches-of
-  last-number b path h l =
-      let e : n - 1 ≡ length path = omega (arith, h .many) in
-      let r : length path < length (branches-of path) = omega (arith, h .many, branches-length path) in
-      rw (e, h .values) (getD-set-same (branches-of path) (length path) (branch-number b) 0 r)
+  -- a last branch 0 is turned; any other is dropped; none is left to turn
+  pub back-turned : (path : List Branch) → Holds path bs n → 0 < n → n ≤ 270 → getD bs (n - 1) 0 ≡ 0 → Backed (S.backtrack path) (set bs (n - 1) 1) n
+  back-turned [] h g l e = absurd (omega (arith, h .many))
+  back-turned (first ∷ path) h g l e = some-left (turned h)
+  back-turned (second ∷ path) h g l e = absurd (omega (arith, last-number h l))
 
-  pub turned : {b : Branch} {path : List Branch} (c : Branch) → Holds (b ∷ path) bs n → Holds (c ∷ path) (set bs (n - 1) (branch-number c)) n
-  unfolding branches-of
-  turned {b} {path} c h =
-      let e : n - 1 ≡ length path = omega (arith, h .many) in
-      record { many = h .many; values = rw (e, h .values) (set-set (branches-of path) (length path) (branch-number b) (branch-number c)) }
+  pub back-dropped : (path : List Branch) → Holds path bs n → 0 < n → n ≤ 270 → (getD bs (n - 1) 0 ≡ 0 → ⊥)
+      → (rest : List Branch) × Holds rest (set bs (n - 1) 0) (n - 1) × (S.backtrack path ≡ S.backtrack rest)
+  back-dropped [] h g l f = absurd (omega (arith, h .many))
+  back-dropped (first ∷ path) h g l f = absurd (f (last-number h l))
+  back-dropped (second ∷ path) h g l f = (path, dropped h, refl)
 
-  pub dropped : {b : Branch} {path : List Branch} → Holds (b ∷ path) bs n → Holds path (set bs (n - 1) 0) (n - 1)
-  unfolding branches-of
-  dropped {b} {path} h =
-      let e : n - 1 ≡ length path = omega (arith, h .many) in
-      record {
-        many = e;
-        values = rw (e, h .values) (set-set (branches-of path) (length path) (branch-number b) 0 ∙ ap (set (branches-of path) (length path)) (sym (branches-past path (length path) (omega arith))) ∙ set-getD (branches-of path) (length path) 0);
-      }
-
-  -- a last branch 0 is a first one; any other is dropped
-  pub first-stays : (path : List Branch) → Holds path bs n → 0 < n → n ≤ 270 → getD bs (n - 1) 0 ≡ 0 → without-seconds path ≡ path
-  first-stays [] h g l e = absurd (omega (arith, h .many))
-  first-stays (first ∷ path) h g l e = refl
-  first-stays (second ∷ path) h g l e = absurd (omega (arith, last-number second path h l))
-
-  pub second-dropped : (path : List Branch) → Holds path bs n → 0 < n → n ≤ 270 → (getD bs (n - 1) 0 ≡ 0 → ⊥)
-      → (rest : List Branch) × Holds rest (set bs (n - 1) 0) (n - 1) × (without-seconds path ≡ without-seconds rest)
-  second-dropped [] h g l f = absurd (omega (arith, h .many))
-  second-dropped (first ∷ path) h g l f = absurd (f (last-number first path h l))
-  second-dropped (second ∷ path) h g l f = (path, dropped h, refl)
-
--- nothing is left of a path
-pub holds-none : {path : List Branch} {bs : List ℕ} → Holds path bs 0 → path ≡ []
-holds-none {path = path} h = go path (h .many)
-  where
-    go : (l : List Branch) → 0 ≡ length l → l ≡ []
-    go [] e = refl
-    go (b ∷ l) e = absurd (omega arith)
+  pub back-none : (path : List Branch) → Holds path bs n → n ≡ 0 → Backed (S.backtrack path) bs 0
+  back-none [] h e = none-left
+  back-none (b ∷ path) h e = absurd (omega (arith, h .many))
 
 -- the test of one branch more
-below-fail : (n : ℕ) (f : ℕ → Bool) → f n ≡ false → all-below (suc n) f ≡ false
-below-fail n f e = ap (λ (b : Bool). elim b as (λ _. Bool) [ true ↦ all-below n f | false ↦ false ]) e
-
-below-pass : (n : ℕ) (f : ℕ → Bool) → f n ≡ true → all-below (suc n) f ≡ all-below n f
-below-pass n f e = ap (λ (b : Bool). elim b as (λ _. Bool) [ true ↦ all-below n f | false ↦ false ]) e
-
-module _ (i : ℕ) (bs : List ℕ) (some-left : 0 < i) where
-  one-more : suc (i - 1) ≡ i
-  one-more = omega arith
-
-  pub branches-fail : 1 < getD bs (i - 1) 0 → all-branches i bs ≡ false
+module _ {i j : ℕ} (bs : List ℕ) (next : i ≡ suc j) where
+  pub branches-fail : 1 < getD bs j 0 → all-branches i bs ≡ false
   unfolding all-branches
-  branches-fail g =
-      subst (λ (n : ℕ). all-branches n bs ≡ false) one-more (below-fail (i - 1) (λ j. ltb (getD bs j 0) 2) (le-ltb (getD bs (i - 1) 0) 2 (omega arith)))
+  branches-fail g = rw (next, le-ltb (getD bs j 0) 2 (omega arith), all-below)
 
-  pub branches-pass : getD bs (i - 1) 0 ≤ 1 → all-branches i bs ≡ all-branches (i - 1) bs
+  pub branches-pass : getD bs j 0 ≤ 1 → all-branches i bs ≡ all-branches j bs
   unfolding all-branches
-  branches-pass g =
-      subst (λ (n : ℕ). all-branches n bs ≡ all-branches (i - 1) bs) one-more (below-pass (i - 1) (λ j. ltb (getD bs j 0) 2) (lt-ltb (getD bs (i - 1) 0) 2 (omega arith)))
+  branches-pass g = rw (next, lt-ltb (getD bs j 0) 2 (omega arith), all-below)

@@ -1,23 +1,14 @@
 -- What one call and every list of calls come to, in values, from the contract of `search`: its result is `search-result`.
 -- An instance's array of items holds ten, as every value of the type does.
-use mathlib.Core.Bool.{Bool, true, false}
-use mathlib.Core.List.{List}
-use mathlib.Core.Logic.{_↔_}
-use mathlib.Core.Path.{_≡_, refl, sym, ap, _∙_, subst}
-use Prim.Native.Nat.{ℕ, _+_, _≤_, _<_}
-use native.Mathlib.Omega.{arith}
-use lib.ListN.{length}
+use Rattle.prelude.specs.Names.{Bool, true, false, List, _↔_, _≡_, refl, sym, ap, _∙_, subst, ℕ, _+_, _≤_, _<_, arith, length}
 use Rattle.model.proofs.Below.{and-intro, and-both, clash, not-so}
 use Rattle.model.proofs.Lists.{all-refused}
-use Rattle.model.proofs.Theorems as T
 use Rattle.model.specs.Admits.{Sound}
 use Rattle.model.specs.Branching.{plan}
-use Rattle.model.specs.Calls as C
 use Rattle.model.specs.Lists.{Reaches, call-served, Serves, AllRefused}
 use Rattle.model.specs.Machine.{steps, taken}
 use Rattle.model.specs.Problem.{Problem, Positions, Feasible}
 use Rattle.model.specs.Run.{look, machine, plan-at, search}
-use Rattle.model.specs.Search as S
 use Rattle.refusal.specs.declared.Refusal.the-variants.{InvalidInstance, NotFollowing}
 use Rattle.instance.specs.Meaning.{problem-of, positions-of}
 use Rattle.instance.specs.Valid.{valid}
@@ -27,10 +18,13 @@ use Rattle.instance.specs.declared.Instance.{Instance}
 use Rattle.search.specs.Calls.{values}
 use Rattle.search.specs.Checkpoints.{checkpoint-of, well-formed, following, Following, branches-of, value-of}
 use Rattle.search.specs.Results.{answer-number, answer-of, packing-with, result-of, refused, result-if, search-result, SearchFault, nine, ten}
-use Rattle.search.specs.declared.results.SearchResult.{SearchResult}
+use Rattle.search.specs.declared.answer.SearchResult.{SearchResult}
 use Rattle.search.proofs.Checkpoints.{Short, checkpoint-back, value-well-formed}
 use Rattle.search.proofs.Packing.{packing-back, feasible-same}
 use Rattle.opening.proofs.Sound.{valid-sound}
+use Rattle.model.proofs.Theorems as T
+use Rattle.model.specs.Calls as C
+use Rattle.model.specs.Search as S
 
 -- the value of the opening checkpoint
 pub opening-value : value-of S.opening ≡ opening-checkpoint
@@ -65,12 +59,11 @@ module _ (p : Problem) (σ : Sound p) (κ : S.Checkpoint) (f : S.Follows (look p
 -- an answer of the search is no refusal
 pub answered-small : (p : Problem) (r : C.Result S.Checkpoint Positions) → answer-number (result-of p r .answer) < 100
 unfolding result-of
-answered-small p r = go (r .answer)
-  where
-    go : (a : C.Answer Positions) → answer-number (answer-of a) < 100
-    go C.budget-spent = omega arith
-    go C.no-packing = omega arith
-    go (C.packing q) = omega arith
+answered-small p r = elim (r .answer) as (λ a. answer-number (answer-of a) < 100) [
+  | C.budget-spent ↦ omega arith
+  | C.no-packing ↦ omega arith
+  | C.packing q ↦ omega arith
+]
 
 -- One call by the table: it is refused with 9, or with 10, or it is the search's
 pub data CallIs (i : Instance) (c : Checkpoint) (budget : ℕ) (r : SearchResult) : Type 0 where
@@ -98,12 +91,7 @@ module _ (i : Instance) (c : Checkpoint) (budget : ℕ) where
 
   -- a call on a checkpoint that follows is refused for nothing
   pub served-is : valid i ≡ true → Following (problem-of i) c → result ≡ own
-  served-is v φ = go call-is
-    where
-      go : CallIs i c budget result → result ≡ own
-      go (invalid d r) = absurd (clash v d)
-      go (not-following d n r) = absurd (n φ)
-      go (searched d f r) = r
+  served-is v φ = elim call-is [ invalid d r ↦ absurd (clash v d) | not-following d n r ↦ absurd (n φ) | searched d f r ↦ r ]
 
   code : {r : SearchResult} → result ≡ r → answer-number (result .answer) ≡ answer-number (r .answer)
   code e = ap (λ (x : SearchResult). answer-number (x .answer)) e
@@ -119,23 +107,24 @@ module _ (i : Instance) (c : Checkpoint) (budget : ℕ) where
   -- "A call that meets no condition of the table is not refused", and any other gets its number
   pub refuses : (n : ℕ) → (answer-number (search-result i c budget .answer) ≡ 100 + n) ↔ SearchFault i c n
   unfolding refused
-  refuses n = (fore call-is, fault-code)
-    where
-      fore : CallIs i c budget result → answer-number (result .answer) ≡ 100 + n → SearchFault i c n
-      fore (invalid d r) e = nine d (omega (arith, code r))
-      fore (not-following d f r) e = ten d f (omega (arith, code r))
-      fore (searched d φ r) e = absurd (omega (arith, code r, own-small))
+  refuses n = (
+    (λ e. elim call-is [
+      | invalid d r ↦ nine d (omega (arith, code r))
+      | not-following d f r ↦ ten d f (omega (arith, code r))
+      | searched d φ r ↦ absurd (omega (arith, code r, own-small))
+    ]),
+    fault-code,
+  )
 
   -- "a refused search hands its note back with 0 steps", and "all ten are 0": 100 and above are a refusal's numbers
   pub handed-back : 100 ≤ answer-number (search-result i c budget .answer) → let r = search-result i c budget in
       (r .checkpoint ≡ c) × (r .steps ≡ 0) × (r .packing ≡ origin-packing)
   unfolding refused
-  handed-back h = go call-is
-    where
-      go : CallIs i c budget result → (result .checkpoint ≡ c) × (result .steps ≡ 0) × (result .packing ≡ origin-packing)
-      go (invalid d r) = (rw r, rw r, rw r)
-      go (not-following d f r) = (rw r, rw r, rw r)
-      go (searched d φ r) = absurd (omega (arith, code r, own-small))
+  handed-back h = elim call-is [
+    | invalid d r ↦ (rw r, rw r, rw r)
+    | not-following d f r ↦ (rw r, rw r, rw r)
+    | searched d φ r ↦ absurd (omega (arith, code r, own-small))
+  ]
 
 module _ (i : Instance) (v : valid i ≡ true) (long : length (i .items) ≡ 10) where
   sound : Sound (problem-of i)
@@ -170,7 +159,13 @@ module _ (i : Instance) (v : valid i ≡ true) (long : length (i .items) ≡ 10)
   pub placed-fits : (c : Checkpoint) (budget : ℕ) → answer-number (search-result i c budget .answer) ≡ 1
       → Feasible p (positions-of (search-result i c budget .packing))
   unfolding refused result-of
-  placed-fits c budget e = go (call-is i c budget)
+  placed-fits c budget e = elim (call-is i c budget) [
+    | invalid d r ↦ absurd (omega (arith, code i c budget r))
+    | not-following d n r ↦ absurd (omega (arith, code i c budget r))
+    | searched d φ r ↦
+        let f = T.reached-follows p budget (checkpoint-of c) (φ .follows) in
+        rw r (fits (steps (machine p) budget (checkpoint-of c)) f (sym (code i c budget r) ∙ e))
+  ]
     where
       fits : (μ : S.Checkpoint) → S.Follows (look p) μ → answer-number (answer-of (C.answer (machine p) (plan-at p) μ)) ≡ 1
           → Feasible p (positions-of (packing-with p (C.answer (machine p) (plan-at p) μ)))
@@ -178,14 +173,6 @@ module _ (i : Instance) (v : valid i ≡ true) (long : length (i .items) ≡ 10)
       fits S.infeasible f e = absurd (omega arith)
       fits (S.packed-at path) f e =
           feasible-same p sound (plan p path) _ (packing-back p (sound .limited) (plan p path)) (T.packed-feasible p sound path f)
-
-      go : CallIs i c budget (search-result i c budget) → Feasible p (positions-of (search-result i c budget .packing))
-      go (invalid d r) = absurd (omega (arith, code i c budget r))
-      go (not-following d n r) = absurd (omega (arith, code i c budget r))
-      go (searched d φ r) =
-          let f = T.reached-follows p budget (checkpoint-of c) (φ .follows) in
-          subst (λ (x : SearchResult). Feasible p (positions-of (x .packing))) (sym r)
-          (fits (steps (machine p) budget (checkpoint-of c)) f (sym (code i c budget r) ∙ e))
 
 -- 0 is the number of "spent" alone
 pub zero-is-spent : (a : C.Answer Positions) → answer-number (answer-of a) ≡ 0 → a ≡ C.budget-spent
@@ -197,14 +184,11 @@ zero-is-spent (C.packing q) e = absurd (omega arith)
 pub spent-exactly : (i : Instance) (c : Checkpoint) (budget : ℕ) → answer-number (search-result i c budget .answer) ≡ 0
     → search-result i c budget .steps ≡ budget
 unfolding refused result-of
-spent-exactly i c budget e = go (call-is i c budget)
-  where
-    go : CallIs i c budget (search-result i c budget) → search-result i c budget .steps ≡ budget
-    go (invalid d r) = absurd (omega (arith, code i c budget r))
-    go (not-following d n r) = absurd (omega (arith, code i c budget r))
-    go (searched d φ r) =
-        ap (λ (x : SearchResult). x .steps) r
-        ∙ T.spent-exactly (problem-of i) budget (checkpoint-of c) (zero-is-spent _ (sym (code i c budget r) ∙ e))
+spent-exactly i c budget e = elim (call-is i c budget) [
+  | invalid d r ↦ absurd (omega (arith, code i c budget r))
+  | not-following d n r ↦ absurd (omega (arith, code i c budget r))
+  | searched d φ r ↦ rw r (T.spent-exactly (problem-of i) budget (checkpoint-of c) (zero-is-spent _ (sym (code i c budget r) ∙ e)))
+]
 
 -- "on a refused sheet every call is refused, and the note stays the opening one": 109 is 9's
 pub every-call-refused : (i : Instance) → valid i ≡ false → (budgets : List ℕ) → AllRefused (values i) 109 budgets

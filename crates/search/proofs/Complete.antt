@@ -1,16 +1,15 @@
 -- The packing of a complete path.
-use mathlib.Core.List.{List}
-use mathlib.Core.Path.{_≡_, sym, ap₂, _∙_}
-use Prim.Native.Nat.{ℕ, _-_, _≤_, _<_}
-use native.Mathlib.Omega.{arith}
-use lib.ListN.{length}
+use Rattle.prelude.specs.Names.{List, _≡_, sym, ap₂, _∙_, ℕ, _-_, _≤_, _<_, arith, length}
 use Rattle.model.proofs.Chains.{greatest-ending-size}
 use Rattle.model.proofs.Wide.{wide-size, wide-ending}
+use Rattle.model.proofs.Outside.{path-untouched}
+use Rattle.model.specs.Admits.{Sound}
 use Rattle.model.specs.Branching.{Branch, starts, plan}
 use Rattle.model.specs.Domains.{Domains}
 use Rattle.model.specs.Problem.{Problem}
 use Rattle.model.specs.Relations.{Untouched}
 use Rattle.model.specs.Rules.{greatest-ending}
+use Rattle.model.specs.Run.{look}
 use Rattle.model.specs.Wide.{wide}
 use Rattle.instance.specs.declared.Packing.{Packing}
 use Rattle.search.specs.Results.{packing-of}
@@ -18,6 +17,7 @@ use Rattle.nodes.specs.Nodes.{Seen}
 use Rattle.nodes.specs.Starts.{start-at, Startable, Started}
 use Rattle.chains.specs.Totals.{table, size-at}
 use Rattle.search.proofs.Packing.{plan-is}
+use Rattle.model.specs.Search as S
 
 -- the totals of a path's domains give its packing
 module _ (p : Problem) (limited : p .items ≤ 10) (path : List Branch) {k : Domains} {rows t : List ℕ} (s : Seen p k rows t path) where
@@ -36,8 +36,12 @@ module _ (p : Problem) (limited : p .items ≤ 10) (path : List Branch) {k : Dom
     whole = λ a u ha hu. omega (arith, total-is a u ha hu, size-is a u ha hu, wide-size p a u hu, greatest-ending-size (wide p) k a u);
   }
 
-  pub started-plan : Untouched (p .items) k → {q : Packing} → Started (p .items) t q → length (q .positions) ≡ 10 → q ≡ packing-of p (plan p path)
-  started-plan plain {q} r long = plan-is p path k (s .is) q long (λ a u ha hu. r .placed a u ha hu ∙ start-is a u ha hu) (r .past)
+  pub started-plan : Sound p → S.Forking (look p) path → {q : Packing} → Started (p .items) t q → length (q .positions) ≡ 10
+      → q ≡ packing-of p (plan p path)
+  started-plan sound forks {q} r long = plan-is p path k (s .is) q long (λ a u ha hu. r .placed a u ha hu ∙ start-is a u ha hu) (r .past)
     where
+      plain : Untouched (p .items) k
+      plain = rw (s .is) (path-untouched p sound path forks)
+
       start-is : (a u : ℕ) → a < 3 → u < p .items → start-at t a u ≡ starts p k a u
       start-is a u ha hu = unfold starts in ap₂ _-_ (total-is a u ha hu ∙ wide-ending p limited k plain a u ha hu) (size-is a u ha hu)

@@ -1,17 +1,11 @@
 -- The results of a call as values.
-use mathlib.Core.Bool.{Bool, true, false, _&&_}
-use mathlib.Core.List.{List, [], _∷_}
-use mathlib.Core.Path.{_≡_, refl, sym, ap, _∙_, subst}
-use Prim.Native.Nat.{ℕ, zero, suc, _<_}
-use native.Mathlib.Decide.{ℕ-discrete}
-use native.Mathlib.Omega.{arith}
-use Rattle.model.proofs.Below.{and-intro}
+use Rattle.prelude.specs.Names.{Bool, true, false, List, [], _∷_, _⊎_, inl, inr, _≡_, refl, ap, _∙_, ℕ, zero, suc, _<_, ℕ-discrete, arith}
+use Rattle.model.proofs.Below.{clash, not-so}
+use Rattle.model.proofs.Run.{forking-so}
 use Rattle.model.specs.Branching.{Branch, first, second, plan}
-use Rattle.model.specs.Calls as C
 use Rattle.model.specs.Problem.{Problem}
 use Rattle.model.specs.Machine.{Finished}
-use Rattle.model.specs.Run.{look, machine, plan-at, search}
-use Rattle.model.specs.Search as S
+use Rattle.model.specs.Run.{look, machine, plan-at}
 use Rattle.refusal.specs.declared.Refusal.the-variants.{NotFollowing}
 use Rattle.instance.specs.Meaning.{problem-of}
 use Rattle.instance.specs.Valid.{valid}
@@ -19,147 +13,88 @@ use Rattle.instance.specs.declared.Checkpoint.{Checkpoint}
 use Rattle.instance.specs.declared.Instance.{Instance}
 use Rattle.instance.specs.declared.Packing.{Packing}
 use Rattle.instance.specs.declared.Status.{Status}
-use Rattle.search.specs.Checkpoints.{path-of, with-status, well-formed, following, branches-of, value-of}
-use Rattle.search.specs.Results.{answer-number, answer-of, packing-of, result-of, refused, followed, infeasible-after, spent-after, packed-after, search-result}
+use Rattle.search.specs.Checkpoints.{path-of, with-status, well-formed, following, value-of}
+use Rattle.search.specs.Results.{answer-number, answer-of, packing-of, result-of, refused, followed, infeasible-after, spent-after}
+use Rattle.search.specs.Results.{packed-after, search-result}
 use Rattle.search.specs.Standing.{Holds}
-use Rattle.search.specs.declared.results.SearchResult.{SearchResult}
-use Rattle.search.proofs.Budget.{Comes, rest-start, rest-next, rest-finished, rest-spent}
-use Rattle.search.proofs.Checkpoints.{holds-root, checkpoint-as}
+use Rattle.search.specs.declared.answer.SearchResult.{SearchResult}
+use Rattle.search.proofs.Budget.{Comes, rest-start, rest-finished}
+use Rattle.search.proofs.Checkpoints.{checkpoint-as}
+use Rattle.model.specs.Calls as C
+use Rattle.model.specs.Search as S
 
-module _ (p : Problem) (budget : ℕ) (start : S.Checkpoint) where
-  -- a call comes to this checkpoint in so many steps
-  at-end : {t : ℕ} {κ : S.Checkpoint} → Comes (look p) budget start t κ
-      → result-of p (record { answer = C.answer (machine p) (plan-at p) κ; steps = t; checkpoint = κ }) ≡ result-of p (search p budget start)
-  at-end {t} {κ} γ = rw (γ .checkpoint, γ .count)
-
-  pub comes-infeasible : {t : ℕ} → Comes (look p) budget start t S.infeasible → infeasible-after t ≡ result-of p (search p budget start)
-  unfolding infeasible-after result-of value-of
-  comes-infeasible γ = at-end γ
-
-  pub comes-spent : {t : ℕ} {path : List Branch} {bs : List ℕ} {n : ℕ} → Holds path bs n → Comes (look p) budget start t (S.open-at path)
-      → spent-after t bs n ≡ result-of p (search p budget start)
-  unfolding spent-after result-of value-of
-  comes-spent h γ = rw (h .many, h .values) (at-end γ)
-
-  pub comes-packed : {t : ℕ} {path : List Branch} {bs : List ℕ} {n : ℕ} {q : Packing} → Holds path bs n → q ≡ packing-of p (plan p path)
-      → Comes (look p) budget start t (S.packed-at path) → packed-after t bs n q ≡ result-of p (search p budget start)
-  unfolding packed-after result-of value-of
-  comes-packed h e γ = rw (h .many, h .values, e) (at-end γ)
+-- a call from κ, by whether the checkpoint c that it is of follows
+module _ (p : Problem) (budget : ℕ) (c : Checkpoint) (κ : S.Checkpoint) where
+  pub refused-result : S.follows (look p) κ ≡ false → refused NotFollowing c ≡ followed p budget c κ
+  refused-result e = rw e
 
   -- a finished checkpoint repeats its answer
-  pub comes-again : Finished (machine p) start → Comes (look p) budget start 0 start
-  comes-again f = rest-finished (look p) budget start (rest-start (look p) budget start) f
+  pub comes-again : Finished (machine p) κ → Comes (look p) budget κ 0 κ
+  comes-again f = rest-finished (look p) budget κ (rest-start (look p) budget κ) f
 
-  -- a checkpoint that follows, and one that does not
-  module _ (c : Checkpoint) where
-    pub follows-result : S.follows (look p) start ≡ true → result-of p (search p budget start) ≡ followed p budget c start
-    follows-result e = rw e
+  module _ (follows : S.follows (look p) κ ≡ true) where
+    comes : {t : ℕ} {μ : S.Checkpoint} → Comes (look p) budget κ t μ
+        → result-of p (record { answer = C.answer (machine p) (plan-at p) μ; steps = t; checkpoint = μ }) ≡ followed p budget c κ
+    comes γ = rw (follows, γ .checkpoint, γ .count)
 
-    pub refused-result : S.follows (look p) start ≡ false → refused NotFollowing c ≡ followed p budget c start
-    refused-result e = rw e
+    pub comes-infeasible : {t : ℕ} → Comes (look p) budget κ t S.infeasible → infeasible-after t ≡ followed p budget c κ
+    unfolding infeasible-after result-of value-of
+    comes-infeasible γ = comes γ
 
-module _ (p : Problem) (path : List Branch) where
-  pub complete-follows : S.forking (look p) path ≡ true → look p path ≡ S.complete → S.follows (look p) (S.packed-at path) ≡ true
-  complete-follows f e = and-intro f (rw e)
+    module _ {t n : ℕ} {path : List Branch} {bs : List ℕ} (h : Holds path bs n) where
+      pub comes-spent : Comes (look p) budget κ t (S.open-at path) → spent-after t bs n ≡ followed p budget c κ
+      unfolding spent-after result-of value-of
+      comes-spent γ = rw (h .many, h .values) (comes γ)
 
-  pub incomplete : S.is-complete (look p path) ≡ false → S.follows (look p) (S.packed-at path) ≡ false
-  incomplete e = go (S.forking (look p) path)
-    where
-      go : (b : Bool) → (b && S.is-complete (look p path)) ≡ false
-      go true = e
-      go false = refl
+      pub comes-packed : {q : Packing} → q ≡ packing-of p (plan p path) → Comes (look p) budget κ t (S.packed-at path)
+          → packed-after t bs n q ≡ followed p budget c κ
+      unfolding packed-after result-of value-of
+      comes-packed e γ = rw (h .many, h .values, e) (comes γ)
 
 -- a path with a beginning that is no branching point
-pub forking-fails : (look : List Branch → S.Outlook) (bs : List ℕ) (i n : ℕ) → i < n → S.is-fork (look (path-of i bs)) ≡ false
-    → S.forking look (path-of n bs) ≡ false
-forking-fails look bs i zero h e = absurd (omega arith)
-forking-fails look bs i (suc n) h e = go (ℕ-discrete i n) (forking-fails look bs i n)
-  where
-    either : (a b : Bool) → b ≡ false → (a && b) ≡ false
-    either true b d = d
-    either false b d = refl
+module _ (look : List Branch → S.Outlook) (bs : List ℕ) (i : ℕ) where
+  fork-within : (n : ℕ) → i < n → S.Forking look (path-of n bs) → look (path-of i bs) ≡ S.fork
+  fork-within zero h f = absurd (omega arith)
+  fork-within (suc n) h f = elim (ℕ-discrete i n) [ yes e ↦ rw e (f .0) | no d ↦ fork-within n (omega arith) (f .1) ]
 
-    go : Dec (i ≡ n) → (i < n → S.is-fork (look (path-of i bs)) ≡ false → S.forking look (path-of n bs) ≡ false)
-        → (S.is-fork (look (path-of n bs)) && S.forking look (path-of n bs)) ≡ false
-    go (yes d) ih = ap (λ (b : Bool). b && S.forking look (path-of n bs)) (rw d at e)
-    go (no d) ih = either (S.is-fork (look (path-of n bs))) (S.forking look (path-of n bs)) (ih (omega arith) e)
-
--- The call where the root is inconsistent
-module _ (p : Problem) (budget : ℕ) (c : Checkpoint) (e : look p [] ≡ S.conflict) where
-  abbrev Dead : SearchResult → Type 0
-  Dead r = r ≡ followed p budget c (S.open-at (path-of (c .length) (c .branches)))
-
-  pub dead-refused : 0 < c .length → Dead (refused NotFollowing c)
-  dead-refused h =
-      refused-result p budget (S.open-at (path-of (c .length) (c .branches))) c (forking-fails (look p) (c .branches) 0 (c .length) h (rw e))
-
-  at-root : c .length ≡ 0 → {r : SearchResult} → r ≡ result-of p (search p budget (S.open-at [])) → Dead r
-  at-root z {r} h = subst (λ (n : ℕ). r ≡ followed p budget c (S.open-at (path-of n (c .branches)))) (sym z) h
-
-  pub dead-spent : c .length ≡ 0 → budget ≡ 0 → Dead (spent-after 0 (branches-of []) 0)
-  dead-spent z b =
-      at-root z
-      (comes-spent p budget (S.open-at []) holds-root
-      (rest-spent (look p) budget (S.open-at []) (rest-start (look p) budget (S.open-at [])) (omega arith)))
-
-  pub dead-infeasible : c .length ≡ 0 → 0 < budget → Dead (infeasible-after 1)
-  dead-infeasible z b =
-      at-root z
-      (comes-infeasible p budget (S.open-at [])
-      (rest-finished (look p) budget (S.open-at []) (rest-next (look p) budget (S.open-at []) (rest-start (look p) budget (S.open-at [])) b e) tt))
+  pub forking-fails : (n : ℕ) → i < n → S.is-fork (look (path-of i bs)) ≡ false → S.forking look (path-of n bs) ≡ false
+  forking-fails n h e = not-so _ (forking-so look (path-of n bs)) (λ f. clash (rw (fork-within n h f)) e)
 
 -- The call on a packed checkpoint, by what one step from its path comes to
-module _ (p : Problem) (path : List Branch) (c : Checkpoint) {r : SearchResult} (is : r ≡ followed p 1 c (S.open-at path)) where
-  data Again : Type 0 where
-    packed-again : S.follows (look p) (S.packed-at path) ≡ true
-        → r ≡ result-of p (record { answer = C.packing (plan p path); steps = 1; checkpoint = S.packed-at path }) → Again
-    not-packed : S.follows (look p) (S.packed-at path) ≡ false → (answer-number (r .answer) ≡ 1 → ⊥) → Again
+module _ (p : Problem) (c : Checkpoint) {r : SearchResult}
+    (is : r ≡ followed p 1 c (S.open-at (path-of (c .length) (c .branches)))) (budget : ℕ) where
+  abbrev path : List Branch
+  path = path-of (c .length) (c .branches)
+
+  abbrev Packed : SearchResult → Type 0
+  Packed s = s ≡ followed p budget c (S.packed-at path)
+
+  abbrev none-taken : SearchResult → SearchResult
+  none-taken s = record { answer = s .answer; steps = 0; checkpoint = s .checkpoint; packing = s .packing }
 
   back-not : (l : List Branch) → answer-number (answer-of (C.answer (machine p) (plan-at p) (S.backtrack l))) ≡ 1 → ⊥
   back-not [] e = omega arith
   back-not (first ∷ l) e = omega arith
   back-not (second ∷ l) e = back-not l e
 
-  stepped : (o : S.Outlook) → look p path ≡ o → S.forking (look p) path ≡ true
-      → r ≡ result-of p (record { answer = C.answer (machine p) (plan-at p) (S.act o path); steps = 1; checkpoint = S.act o path })
-  stepped o e f =
-      let κ = S.open-at path in
-      is ∙ rw f (sym (at-end p 1 κ (rest-spent (look p) 1 κ (rest-next (look p) 1 κ (rest-start (look p) 1 κ) (omega arith) e) (omega arith))))
-
-  again : Again
+  again : ((answer-number (r .answer) ≡ 1) × Packed (none-taken r)) ⊎ ((answer-number (r .answer) ≡ 1 → ⊥) × Packed (refused NotFollowing c))
   unfolding refused result-of
   again = go (S.forking (look p) path) (look p path) refl refl
     where
-      go : (f : Bool) (o : S.Outlook) → S.forking (look p) path ≡ f → look p path ≡ o → Again
-      go false o f e =
-          let q : r ≡ refused NotFollowing c = is ∙ rw f in
-          not-packed (rw f) (λ n. omega (arith, ap (λ (x : SearchResult). answer-number (x .answer)) q))
-      go true S.conflict f e = not-packed (incomplete p path (rw e)) (λ n. back-not path (rw (stepped S.conflict e f) at n))
-      go true S.complete f e = packed-again (complete-follows p path f e) (stepped S.complete e f)
-      go true S.fork f e = not-packed (incomplete p path (rw e)) (λ n. let m = rw (stepped S.fork e f) at n in omega arith)
+      go : (f : Bool) (o : S.Outlook) → S.forking (look p) path ≡ f → look p path ≡ o
+          → ((answer-number (r .answer) ≡ 1) × Packed (none-taken r)) ⊎ ((answer-number (r .answer) ≡ 1 → ⊥) × Packed (refused NotFollowing c))
+      go false o f e = inr ((λ n. let q = rw f at is in omega (arith, ap (λ (x : SearchResult). answer-number (x .answer)) q)), rw f)
+      go true S.conflict f e = inr ((λ n. let q = rw (f, e) at is in back-not path (rw q at n)), rw (f, e))
+      go true S.fork f e = inr ((λ n. let q = rw (f, e) at is in let m = rw q at n in omega arith), rw (f, e))
+      go true S.complete f e =
+          let q = rw (f, e) at is in
+          inl (rw q, ap none-taken q ∙ comes p budget c (S.packed-at path) (rw (f, e)) (comes-again p budget c (S.packed-at path) tt))
 
-  module _ (budget : ℕ) where
-    pub again-packed : answer-number (r .answer) ≡ 1
-        → record { answer = r .answer; steps = 0; checkpoint = r .checkpoint; packing = r .packing } ≡ followed p budget c (S.packed-at path)
-    unfolding result-of
-    again-packed n = go again
-      where
-        taken-none : SearchResult → SearchResult
-        taken-none x = record { answer = x .answer; steps = 0; checkpoint = x .checkpoint; packing = x .packing }
+  pub again-packed : answer-number (r .answer) ≡ 1 → Packed (none-taken r)
+  again-packed n = elim again [ inl (m, e) ↦ e | inr (h, e) ↦ absurd (h n) ]
 
-        go : Again → taken-none r ≡ followed p budget c (S.packed-at path)
-        go (packed-again f e) =
-            ap taken-none e ∙ at-end p budget (S.packed-at path) (comes-again p budget (S.packed-at path) tt)
-            ∙ follows-result p budget (S.packed-at path) c f
-        go (not-packed f h) = absurd (h n)
-
-    pub again-refused : (answer-number (r .answer) ≡ 1 → ⊥) → refused NotFollowing c ≡ followed p budget c (S.packed-at path)
-    unfolding result-of
-    again-refused h = go again
-      where
-        go : Again → refused NotFollowing c ≡ followed p budget c (S.packed-at path)
-        go (packed-again f e) = absurd (h (ap (λ (x : SearchResult). answer-number (x .answer)) e))
-        go (not-packed f g) = refused-result p budget (S.packed-at path) c f
+  pub again-refused : (answer-number (r .answer) ≡ 1 → ⊥) → Packed (refused NotFollowing c)
+  again-refused h = elim again [ inl (n, e) ↦ absurd (h n) | inr (g, e) ↦ e ]
 
 -- A call on a well-formed checkpoint, by its status
 pub searched : (i : Instance) (c : Checkpoint) (budget : ℕ) → valid i ≡ true → well-formed c ≡ true → {s : Status} → c .status ≡ s

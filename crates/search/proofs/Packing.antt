@@ -1,13 +1,6 @@
 -- A packing as a value.
-use mathlib.Core.List.{List, [], _∷_, map}
-use mathlib.Core.Logic.{_⊎_, inl, inr}
-use mathlib.Core.Path.{_≡_, refl, sym, ap, _∙_}
-use Prim.Native.Nat.{ℕ, zero, suc, _≤_, _<_}
-use native.Mathlib.Decide.{decLt}
-use native.Mathlib.Omega.{arith}
-use lib.ListN.{length, getD}
-use lib.Seq.{ext-getD}
-use borrow.Author.Tests.{lt-ltb, le-ltb}
+use Rattle.prelude.specs.Names.{List, [], _∷_, map, _⊎_, inl, inr, _≡_, refl, sym, ap, _∙_, ℕ, zero, suc, _≤_, _<_, decLt, arith, length, getD}
+use Rattle.prelude.specs.Names.{ext-getD, lt-ltb, le-ltb}
 use Rattle.model.specs.Admits.{Sound}
 use Rattle.model.specs.Branching.{Branch, path-domains, starts, plan}
 use Rattle.model.specs.Domains.{Domains}
@@ -32,12 +25,6 @@ entry f (suc (suc (suc (suc (suc (suc (suc (suc zero)))))))) h = refl
 entry f (suc (suc (suc (suc (suc (suc (suc (suc (suc zero))))))))) h = refl
 entry f (suc (suc (suc (suc (suc (suc (suc (suc (suc (suc u)))))))))) h = absurd (omega arith)
 
-placed-there : (n : ℕ) (q : Positions) (u : ℕ) → u < n → position-of n q u ≡ record { x = q 0 u; y = q 1 u; t = q 2 u }
-placed-there n q u h = rw (lt-ltb u n h)
-
-past-there : (n : ℕ) (q : Positions) (u : ℕ) → n ≤ u → position-of n q u ≡ origin
-past-there n q u h = rw (le-ltb u n h)
-
 -- a value that has a packing's positions at its items, and 0 past them, is the packing's value
 module _ (p : Problem) (q : Positions) (r : Packing) (long : length (r .positions) ≡ 10)
     (placed : (a u : ℕ) → a < 3 → u < p .items → positions-of r a u ≡ q a u) (past : (u : ℕ) → p .items ≤ u → getD (r .positions) u origin ≡ origin) where
@@ -47,8 +34,8 @@ module _ (p : Problem) (q : Positions) (r : Packing) (long : length (r .position
       let x : getD (r .positions) u origin .x ≡ q 0 u = placed 0 u (omega arith) h in
       let y : getD (r .positions) u origin .y ≡ q 1 u = placed 1 u (omega arith) h in
       let t : getD (r .positions) u origin .t ≡ q 2 u = placed 2 u (omega arith) h in
-      rw (placed-there (p .items) q u h) (λ i. record { x = x i; y = y i; t = t i })
-  entry-is u (no h) = past u (omega arith) ∙ sym (past-there (p .items) q u (omega arith))
+      rw (lt-ltb u (p .items) h) (λ i. record { x = x i; y = y i; t = t i })
+  entry-is u (no h) = past u (omega arith) ∙ rw (le-ltb u (p .items) (omega arith))
 
   pub packing-is : r ≡ packing-of p q
   unfolding packing-of
@@ -60,7 +47,7 @@ module _ (p : Problem) (q : Positions) (r : Packing) (long : length (r .position
 -- and back: its positions are the packing's
 pub packing-back : (p : Problem) → p .items ≤ 10 → (q : Positions) (a u : ℕ) → a < 3 → u < p .items → positions-of (packing-of p q) a u ≡ q a u
 unfolding positions-of packing-of
-packing-back p l q a u la lu = rw (entry (position-of (p .items) q) u (omega arith), placed-there (p .items) q u lu) (go a la)
+packing-back p l q a u la lu = rw (entry (position-of (p .items) q) u (omega arith), lt-ltb u (p .items) lu) (go a la)
   where
     go : (a : ℕ) → a < 3 → start a (record { x = q 0 u; y = q 1 u; t = q 2 u }) ≡ q a u
     go zero h = refl

@@ -1,18 +1,12 @@
 -- What propagation and the branching place show of a path. Propagation in code is of the problem widened to ten items.
-use mathlib.Core.Bool.{true, false}
-use mathlib.Core.List.{List}
-use mathlib.Core.Path.{_≡_, sym, _∙_, subst}
-use Prim.Native.Nat.{ℕ, _≤_}
+use Rattle.prelude.specs.Names.{true, false, List, _≡_, sym, _∙_, subst, ℕ, _≤_}
 use Rattle.model.proofs.Search.{look-by, look-inconsistent}
-use Rattle.model.proofs.Untouched.{propagate-untouched}
 use Rattle.model.proofs.Wide.{wide-propagates, wide-verdict}
 use Rattle.model.specs.Branching.{Branch, inconsistent, path-domains}
 use Rattle.model.specs.Domains.{Domains}
 use Rattle.model.specs.Problem.{Problem}
 use Rattle.model.specs.Propagate.{propagate}
-use Rattle.model.specs.Relations.{Untouched}
 use Rattle.model.specs.Run.{look}
-use Rattle.model.specs.Search as S
 use Rattle.model.specs.Turns.{Passed}
 use Rattle.model.specs.Wide.{wide}
 use Rattle.nodes.specs.Choice.{Chosen}
@@ -20,8 +14,9 @@ use Rattle.propagation.specs.Propagated.{Propagated}
 use Rattle.nodes.specs.Nodes.{At, Seen}
 use Rattle.search.specs.Standing.{Looked}
 use Rattle.domains.specs.declared.Place.{Place}
-use Rattle.nodes.specs.declared.branching.Branching.the-variants as B
 use Rattle.search.specs.declared.outlook.Outlook.the-variants.{Complete, Fork}
+use Rattle.model.specs.Search as S
+use Rattle.nodes.specs.declared.branching.Branching.the-variants as B
 
 module _ (p : Problem) (limited : p .items ≤ 10) (path : List Branch) {k : Domains} {rows q t : List ℕ} (at : At p k rows q t path) where
   verdict : inconsistent (wide p) (propagate (wide p) k) ≡ inconsistent p (path-domains p path)
@@ -35,12 +30,6 @@ module _ (p : Problem) (limited : p .items ≤ 10) (path : List Branch) {k : Dom
       let c : inconsistent p (path-domains p path) ≡ false = sym verdict ∙ (rw (φ .is) at (φ .consistent)) in
       let e = φ .is ∙ wide-propagates p limited k (at .ready .good .laid .well-formed) (at .untouched) (at .leads .verdict ∙ c) ∙ at .leads .same c in
       record { is = e; rested = φ .rested; consistent = rw e c }
-
-  -- nothing is removed of items that the problem does not have
-  pub seen-untouched : {j : Domains} {rows′ t′ : List ℕ} → Seen p j rows′ t′ path → Untouched (p .items) j
-  seen-untouched s =
-      let c : inconsistent p (path-domains p path) ≡ false = rw (s .is) at (s .consistent) in
-      rw (s .is, ← (at .leads .same c)) (propagate-untouched p k (at .ready .good .laid .well-formed) (at .untouched))
 
 module _ (p : Problem) (path : List Branch) {j : Domains} {rows t : List ℕ} (s : Seen p j rows t path) {n : ℕ} (count : p .items ≡ n) where
   consistent : inconsistent p (path-domains p path) ≡ false

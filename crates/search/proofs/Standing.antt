@@ -1,16 +1,11 @@
 -- Where a search stands between two looks: a path, its domains ready to be looked at, and the snapshots to go back to.
-use mathlib.Core.Bool.{true, not}
-use mathlib.Core.List.{List, [], _∷_, _++_}
-use mathlib.Core.Logic.{_⊎_, inl, inr, _≢_}
-use mathlib.Core.Path.{_≡_, refl, sym, ap, _∙_, subst}
-use Prim.Native.Nat.{ℕ, zero, suc, _+_, _*_, _-_, _/_, _%_, _≤_, _<_}
-use native.Mathlib.Omega.{arith}
-use lib.Dec.{eqb, eqb·suc-zero}
-use lib.ListN.{length, getD, set, take, drop, length-set, length-drop, take-append-drop}
-use lib.Seq.{ext-getD, take-all, getD-drop, getD-set-same, getD-set-other}
+use Rattle.prelude.specs.Names.{true, not, List, [], _∷_, _++_, _⊎_, inl, inr, _≢_, _≡_, refl, sym, ap, _∙_, subst, ℕ, zero, suc, _+_, _*_, _-_, _/_}
+use Rattle.prelude.specs.Names.{_%_, _≤_, _<_, arith, eqb, eqb·suc-zero, length, getD, set, take, drop, length-set, length-drop, ext-getD, take-all}
+use Rattle.prelude.specs.Names.{getD-drop, getD-set-same, getD-set-other}
+use lib.ListN.{take-append-drop}
 use Rattle.model.proofs.Path.{path-fork}
 use Rattle.model.proofs.Search.{look-fork, limit-270}
-use Rattle.model.proofs.Theorems.{fork-most, path-270}
+use Rattle.model.proofs.Theorems.{fork-most}
 use Rattle.model.proofs.Turns.{saved-count, firsts-90, fork-firsts-90, branch-passed}
 use Rattle.model.specs.Admits.{Sound}
 use Rattle.model.specs.Branching.{Branch, first, second, choice, path-domains}
@@ -19,17 +14,17 @@ use Rattle.model.specs.Order.{Rising}
 use Rattle.model.specs.Problem.{Problem}
 use Rattle.model.specs.Propagate.{Slot}
 use Rattle.model.specs.Run.{look}
-use Rattle.model.specs.Search as S
 use Rattle.model.specs.Turns.{saved, Passed, choice-number}
 use Rattle.search.specs.Checkpoints.{branch-of}
-use Rattle.nodes.specs.Choice.{branch-by, Branched}
-use Rattle.nodes.specs.Levels.{Storable, Stored, Loaded}
+use Rattle.nodes.specs.Choice.{branch-by, Branchable, Branched}
+use Rattle.nodes.specs.Levels.{Stored, Loaded}
 use Rattle.domains.specs.Queue.{max-queue, code}
 use Rattle.nodes.specs.Nodes.{slot-of, slot-coded, At, Seen}
-use Rattle.search.specs.Standing.{Kept, Stacked, without-seconds, Holds}
+use Rattle.search.specs.Standing.{Kept, Stacked, Holds, Backed, some-left, none-left}
 use Rattle.chains.specs.Totals.{SameMeasures}
 use Rattle.domains.specs.declared.Place.{Place}
-use Rattle.nodes.proofs.Branches.{branch-at-path}
+use Rattle.nodes.proofs.Branches.{branchable, branch-at-path}
+use Rattle.model.specs.Search as S
 
 -- the snapshots have room for 90
 pub record Roomy (kd kr kt places : List ℕ) : Type 0 where
@@ -37,9 +32,6 @@ pub record Roomy (kd kr kt places : List ℕ) : Type 0 where
   pub rows : length kr ≡ 90 * 30
   pub totals : length kt ≡ 90 * 60
   pub placed : length places ≡ 90
-
-pub storable : {n level : ℕ} {kept l : List ℕ} → length kept ≡ 90 * n → level < 90 → n ≤ length l → Storable n kept level l
-storable r b e = record { room = r; level-below = b; enough = e }
 
 -- domains k with rows, queue and totals that lead to the path's; kd, kr, kt and places keep what there was before each first branch
 pub record Standing (p : Problem) (k : Domains) (rows q t kd kr kt places : List ℕ) (kept depth from : ℕ) (path : List Branch) : Type 0 where
@@ -89,6 +81,9 @@ module _ (p : Problem) (sound : Sound p) (path : List Branch) (fork : look p pat
     fork-rising =
         let (i, u) = look-fork p path fork in
         subst (λ (s : Slot). Rising (p .items) (s .axis) (s .u) (s .v)) e (path-fork p sound path i u .place)
+
+    pub fork-pair : (c .u < c .v) × (c .v < 10)
+    fork-pair = (fork-rising .rising, omega (arith, fork-rising .item, sound .limited))
 
     fork-passed : (b : Branch) → Passed (path-domains p (b ∷ path)) (pair-number (c .u) (c .v))
     unfolding choice-number
@@ -141,43 +136,53 @@ module _ {p : Problem} (sound : Sound p) {k₀ : Domains} {rows₀ q₀ t₀ kd 
           at = rw (side-of m) at (branch-at-path p sound path (σ .forks) fork κ c e l β);
           passed = rw f (fork-passed p sound path fork c e (branch-of m));
           deep = omega (arith, σ .deep);
-          many = counted m small;
+          many = going-on m small .0;
           roomy = record {
             domains = σd .long ∙ σ .roomy .domains;
             rows = σr .long ∙ σ .roomy .rows;
             totals = σt .long ∙ σ .roomy .totals;
             placed = simp length-set (σ .roomy .placed);
           };
-          stacked = stacked m small;
+          stacked = going-on m small .1;
         }
           where
-            counted : (m : ℕ) → m < 2 → kept + 1 - m ≡ length (saved (branch-of m ∷ path))
-            counted zero h = omega (arith, σ .many)
-            counted (suc zero) h = omega (arith, σ .many)
-            counted (suc (suc m)) h = absurd (omega arith)
-
-            stacked : (m : ℕ) → m < 2 → Stacked p kd′ kr′ kt′ (set places kept x) (drop 60 t) (saved (branch-of m ∷ path))
-            stacked zero h = (rw (← (σ .many)) kept-here, stacked-below (saved path) (omega (arith, σ .many)) (σ .stacked))
-            stacked (suc m) h = stacked-below (saved path) (omega (arith, σ .many)) (σ .stacked)
+            going-on : (m : ℕ) → m < 2 → (kept + 1 - m ≡ length (saved (branch-of m ∷ path)))
+                × Stacked p kd′ kr′ kt′ (set places kept x) (drop 60 t) (saved (branch-of m ∷ path))
+            going-on zero h = (omega (arith, σ .many), (rw (← (σ .many)) kept-here, stacked-below (saved path) (omega (arith, σ .many)) (σ .stacked)))
+            going-on (suc zero) h = (omega (arith, σ .many), stacked-below (saved path) (omega (arith, σ .many)) (σ .stacked))
+            going-on (suc (suc m)) h = absurd (omega arith)
 
 -- Where the search goes back to: the last first branch becomes second
 pub record Turn (p : Problem) (path : List Branch) : Type 0 where
   pub to : List Branch
-  pub left : without-seconds path ≡ first ∷ to
   pub back : S.backtrack path ≡ S.open-at (second ∷ to)
   pub forks : S.Forking (look p) (second ∷ to)
   pub saves : saved path ≡ to ∷ saved to
 
-pub turn : (p : Problem) (path : List Branch) → S.Forking (look p) path
-    → ((without-seconds path ≡ []) × (S.backtrack path ≡ S.infeasible)) ⊎ Turn p path
-turn p [] f = inl (refl, refl)
-turn p (first ∷ path) f = inr (record { to = path; left = refl; back = refl; forks = f; saves = refl })
-turn p (second ∷ path) f = go (turn p path (f .1))
-  where
-    go : ((without-seconds path ≡ []) × (S.backtrack path ≡ S.infeasible)) ⊎ Turn p path
-        → ((without-seconds path ≡ []) × (S.backtrack path ≡ S.infeasible)) ⊎ Turn p (second ∷ path)
-    go (inl e) = inl e
-    go (inr τ) = inr (record { to = τ .to; left = τ .left; back = τ .back; forks = τ .forks; saves = τ .saves })
+turn : (p : Problem) (path : List Branch) → S.Forking (look p) path → (S.backtrack path ≡ S.infeasible) ⊎ Turn p path
+turn p [] f = inl refl
+turn p (first ∷ path) f = inr (record { to = path; back = refl; forks = f; saves = refl })
+turn p (second ∷ path) f = elim (turn p path (f .1)) [
+  | inl e ↦ inl e
+  | inr τ ↦ inr (record { to = τ .to; back = τ .back; forks = τ .forks; saves = τ .saves })
+]
+
+-- by how many branches are left of the path
+module _ (p : Problem) (path : List Branch) (forks : S.Forking (look p) path) {cs : List ℕ} {left : ℕ} (δ : Backed (S.backtrack path) cs left) where
+  pub turn-held : (τ : Turn p path) → Holds (second ∷ τ .to) cs left
+  turn-held τ = held (rw (τ .back) at δ)
+    where
+      held : {l : List Branch} → Backed (S.open-at l) cs left → Holds l cs left
+      held (some-left h) = h
+
+  pub turn-none : left ≡ 0 → S.backtrack path ≡ S.infeasible
+  turn-none e = elim (turn p path forks) [ inl b ↦ b | inr τ ↦ absurd (omega (arith, turn-held τ .many)) ]
+
+  pub turn-there : (left ≡ 0 → ⊥) → Turn p path
+  turn-there f = elim (turn p path forks) [ inl b ↦ absurd (f (none (rw b at δ))) | inr τ ↦ τ ]
+    where
+      none : {bs : List ℕ} {n : ℕ} → Backed S.infeasible bs n → n ≡ 0
+      none none-left = refl
 
 module _ {p : Problem} (sound : Sound p) {k₀ : Domains} {rows₀ q₀ t₀ kd kr kt places : List ℕ} {kept depth from : ℕ} {path : List Branch}
     (σ : Standing p k₀ rows₀ q₀ t₀ kd kr kt places kept depth from path) (τ : Turn p path) where
@@ -192,48 +197,35 @@ module _ {p : Problem} (sound : Sound p) {k₀ : Domains} {rows₀ q₀ t₀ kd 
       let e : length (saved (τ .to)) ≡ kept - 1 = omega (arith, turn-level) in
       rw e at (subst (Stacked p kd kr kt places (drop 60 t₀)) (τ .saves) (σ .stacked) .0)
 
-  pub turn-place : (c : Place) → slot-of c ≡ slot-coded (getD places (kept - 1) 0) → choice (path-domains p (τ .to)) ≡ slot-of c
+  turn-place : (c : Place) → slot-of c ≡ slot-coded (getD places (kept - 1) 0) → choice (path-domains p (τ .to)) ≡ slot-of c
   turn-place c e = last-level .place ∙ sym e
+
+  pub turn-pair : (c : Place) → slot-of c ≡ slot-coded (getD places (kept - 1) 0) → (c .u < c .v) × (c .v < 10)
+  turn-pair c e = fork-pair p sound (τ .to) (τ .forks .0) c (turn-place c e)
 
   -- what is loaded is what was kept
   module _ {k k₁ : Domains} {rows t rows₁ t₁ : List ℕ} (behind : drop 60 t ≡ drop 60 t₀)
       (ld : Loaded 135 kd (kept - 1) k k₁) (lr : Loaded 30 kr (kept - 1) rows rows₁)
       (lt : Loaded 60 kt (kept - 1) t t₁) (dl : length k ≡ 135) (rl : length rows ≡ 30) where
-    pub turn-seen : Seen p k₁ rows₁ t₁ (τ .to)
+    turn-seen : Seen p k₁ rows₁ t₁ (τ .to)
     turn-seen =
         let a = whole-is 135 k₁ (ld .long ∙ dl) (ld .front) in
         let b = whole-is 30 rows₁ (lr .long ∙ rl) (lr .front) in
         rw (a, b, split-is 60 t₁ (lt .front) (lt .back ∙ behind)) (last-level .seen)
 
+    pub turn-branchable : (c : Place) → slot-of c ≡ slot-coded (getD places (kept - 1) 0) → {q : List ℕ} → length q ≡ max-queue
+        → Branchable k₁ rows₁ q c
+    turn-branchable c e {q} l = branchable p sound (τ .to) (τ .forks .1) (τ .forks .0) turn-seen c (turn-place c e) q l
+
     pub stand-back : (c : Place) → slot-of c ≡ slot-coded (getD places (kept - 1) 0) → {q rows′ r : List ℕ} {j : Domains} → length q ≡ max-queue
-        → Branched k₁ q c true j rows′ r → {from′ : ℕ} → from′ ≡ pair-number (c .u) (c .v) → {d : ℕ} → d ≡ length (without-seconds path)
+        → Branched k₁ q c true j rows′ r → {from′ : ℕ} → from′ ≡ pair-number (c .u) (c .v) → {d : ℕ} → d ≡ length (second ∷ τ .to)
         → Standing p j rows′ r t₁ kd kr kt places (kept - 1) d from′ (second ∷ τ .to)
     stand-back c e l β f d = record {
       forks = τ .forks;
       at = branch-at-path p sound (τ .to) (τ .forks .1) (τ .forks .0) turn-seen c (turn-place c e) l β;
       passed = rw f (fork-passed p sound (τ .to) (τ .forks .0) c (turn-place c e) second);
-      deep = d ∙ ap length (τ .left);
+      deep = d;
       many = omega (arith, turn-level);
       roomy = σ .roomy;
       stacked = rw (lt .back ∙ behind) (subst (Stacked p kd kr kt places (drop 60 t₀)) (τ .saves) (σ .stacked) .1);
     }
-
--- by what is left of the path without its trailing second branches
-module _ (p : Problem) (path : List Branch) (forks : S.Forking (look p) path) {cs : List ℕ} {left : ℕ}
-    (δ : Holds (without-seconds path) cs left) where
-  pub turn-none : left ≡ 0 → S.backtrack path ≡ S.infeasible
-  turn-none e = go (turn p path forks)
-    where
-      go : ((without-seconds path ≡ []) × (S.backtrack path ≡ S.infeasible)) ⊎ Turn p path → S.backtrack path ≡ S.infeasible
-      go (inl (n, b)) = b
-      go (inr τ) = absurd (omega (arith, δ .many ∙ ap length (τ .left)))
-
-  pub turn-there : (left ≡ 0 → ⊥) → Turn p path
-  turn-there f = go (turn p path forks)
-    where
-      go : ((without-seconds path ≡ []) × (S.backtrack path ≡ S.infeasible)) ⊎ Turn p path → Turn p path
-      go (inl (n, b)) = absurd (f (δ .many ∙ ap length n))
-      go (inr τ) = τ
-
-  pub turn-depth : Sound p → Turn p path → left ≤ 270
-  turn-depth σ τ = omega (arith, δ .many ∙ ap length (τ .left), path-270 p σ (second ∷ τ .to) (τ .forks))

@@ -1,10 +1,8 @@
 -- A list of calls in values (document 01, "The search": "A list is all in values or all on the screen"). A call is its budget; each is handed
 -- the checkpoint that the last returned, which follows, so none meets a condition of the table.
-use mathlib.Core.Bool.{true}
-use Prim.Native.Nat.{ℕ}
+use Rattle.prelude.specs.Names.{true, ℕ}
 use Rattle.model.specs.Lists.{Service}
 use Rattle.model.specs.Run.{plan-at}
-use Rattle.model.specs.Search as S
 use Rattle.instance.specs.Meaning.{problem-of}
 use Rattle.instance.specs.Values.{opening-checkpoint, origin-packing}
 use Rattle.instance.specs.declared.Checkpoint.{Checkpoint}
@@ -12,6 +10,7 @@ use Rattle.instance.specs.declared.Instance.{Instance}
 use Rattle.instance.specs.declared.Packing.{Packing}
 use Rattle.search.specs.Checkpoints.{value-of}
 use Rattle.search.specs.Results.{answer-number, packing-of, search-result}
+use Rattle.model.specs.Search as S
 
 -- what `Instance::opening` and `search::search` return
 abbrev pub values : Instance → Service S.Checkpoint ℕ Checkpoint Packing

@@ -1,20 +1,15 @@
 -- Checkpoints as values (document 01, "The search"; a note is a checkpoint, a turn a branch, a row of turns a path).
 -- The model keeps a path with its last branch first; a value has the first branch first.
-use mathlib.Core.Bool.{Bool, true, _&&_}
-use mathlib.Core.List.{List, [], _∷_}
-use mathlib.Core.Path.{_≡_}
-use Prim.Native.Nat.{ℕ, zero, suc, _≤_}
-use lib.Dec.{leb, ltb, eqb}
-use lib.ListN.{length, getD, set, replicate}
+use Rattle.prelude.specs.Names.{Bool, true, _&&_, List, [], _∷_, _≡_, ℕ, zero, suc, _≤_, leb, ltb, eqb, length, getD, set, replicate}
 use Rattle.model.specs.Below.{all-below}
 use Rattle.model.specs.Branching.{Branch, first, second}
 use Rattle.model.specs.Problem.{Problem}
 use Rattle.model.specs.Run.{look}
-use Rattle.model.specs.Search as S
 use Rattle.instance.specs.declared.Checkpoint.{Checkpoint}
 use Rattle.instance.specs.declared.Status.{Status}
 use Rattle.instance.specs.declared.Status.the-variants.{Open, Infeasible, Packed}
 use Rattle.sheet.specs.Sheet.{max-branches}
+use Rattle.model.specs.Search as S
 
 -- "270 turns (0 first, 1 second, ..)"
 abbrev pub branch-of : ℕ → Branch

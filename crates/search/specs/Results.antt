@@ -1,14 +1,6 @@
 -- One call of the search as a value (document 01, "The search").
-use mathlib.Core.Bool.{Bool, true, false}
-use mathlib.Core.List.{List, [], _∷_, map}
-use mathlib.Core.Path.{_≡_}
-use Prim.Native.Nat.{ℕ, _+_}
-use lib.Dec.{ltb}
-use Rattle.model.specs.Calls as C
+use Rattle.prelude.specs.Names.{Bool, true, false, List, [], _∷_, map, _≡_, ℕ, _+_, ltb}
 use Rattle.model.specs.Problem.{Problem, Positions}
-use Rattle.model.specs.Run as R
-use Rattle.model.specs.Search as S
-use Rattle.refusal.specs.Numbers as N
 use Rattle.refusal.specs.declared.Refusal.{Refusal}
 use Rattle.refusal.specs.declared.Refusal.the-variants.{InvalidInstance, NotFollowing}
 use Rattle.instance.specs.Meaning.{problem-of}
@@ -18,11 +10,15 @@ use Rattle.instance.specs.declared.Checkpoint.{Checkpoint}
 use Rattle.instance.specs.declared.Instance.{Instance}
 use Rattle.instance.specs.declared.Packing.{Packing}
 use Rattle.instance.specs.declared.Position.{Position}
-use Rattle.instance.specs.declared.Status.the-variants as Status
 use Rattle.search.specs.Checkpoints.{checkpoint-of, following, Following, value-of}
-use Rattle.search.specs.declared.results.Answer.{Answer}
-use Rattle.search.specs.declared.results.Answer.the-variants.{Packed, Infeasible, BudgetSpent, Refused}
-use Rattle.search.specs.declared.results.SearchResult.{SearchResult}
+use Rattle.search.specs.declared.answer.Answer.{Answer}
+use Rattle.search.specs.declared.answer.Answer.the-variants.{Packed, Infeasible, BudgetSpent, Refused}
+use Rattle.search.specs.declared.answer.SearchResult.{SearchResult}
+use Rattle.model.specs.Calls as C
+use Rattle.model.specs.Run as R
+use Rattle.model.specs.Search as S
+use Rattle.refusal.specs.Numbers as N
+use Rattle.instance.specs.declared.Status.the-variants as Status
 
 -- "It returns 0 spent, 1 placed, 2 none, or a refusal as check does": "100 plus the number for a refusal"
 abbrev pub answer-number : Answer → ℕ

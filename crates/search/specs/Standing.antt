@@ -1,19 +1,16 @@
 -- Where a search stands within a call: the terms in which the inner functions' contracts are stated.
-use mathlib.Core.List.{List, [], _∷_, _++_}
-use mathlib.Core.Path.{_≡_}
-use Prim.Native.Nat.{ℕ}
-use lib.ListN.{length, getD}
-use Rattle.model.specs.Branching.{Branch, first, second, choice, path-domains}
+use Rattle.prelude.specs.Names.{List, [], _∷_, _++_, _≡_, ℕ, length, getD}
+use Rattle.model.specs.Branching.{Branch, choice, path-domains}
 use Rattle.model.specs.Domains.{Domains}
 use Rattle.model.specs.Problem.{Problem}
 use Rattle.model.specs.Run.{look}
-use Rattle.model.specs.Search as S
 use Rattle.model.specs.Turns.{Passed}
 use Rattle.nodes.specs.Levels.{chunk}
 use Rattle.nodes.specs.Nodes.{slot-of, slot-coded, At, Seen}
 use Rattle.search.specs.Checkpoints.{branches-of}
 use Rattle.search.specs.declared.outlook.Outlook.{Outlook}
 use Rattle.search.specs.declared.outlook.Outlook.the-variants.{Conflict, Complete, Fork}
+use Rattle.model.specs.Search as S
 
 -- what is seen of a path, and what its domains are where they are consistent
 abbrev pub Looked : Problem → List Branch → Domains → List ℕ → List ℕ → Outlook → Type 0
@@ -38,13 +35,12 @@ Stacked p domains rows totals places m [] = Unit {0}
 Stacked p domains rows totals places m (path ∷ l) =
     Kept p domains rows totals places m (length l) path × Stacked p domains rows totals places m l
 
--- "drop the trailing second turns"
-abbrev pub without-seconds : List Branch → List Branch
-without-seconds [] = []
-without-seconds (second ∷ path) = without-seconds path
-without-seconds (first ∷ path) = first ∷ path
-
 -- the branches of a path in an array, and how many they are
 pub record Holds (path : List Branch) (bs : List ℕ) (n : ℕ) : Type 0 where
   pub many : n ≡ length path
   pub values : bs ≡ branches-of path
+
+-- what the step back comes to: branches in the array, or none left
+pub data Backed : S.Checkpoint → List ℕ → ℕ → Type 0 where
+  some-left : {path : List Branch} {bs : List ℕ} {n : ℕ} → Holds path bs n → Backed (S.open-at path) bs n
+  none-left : {bs : List ℕ} → Backed S.infeasible bs 0

@@ -2,15 +2,16 @@
 ghost use mathlib.Core.Path.{_≡_};
 ghost use Rattle.instance.specs.Reads.{Full};
 ghost use Rattle.search.specs.Results.{search-result};
-use crate::results::SearchResult;
+use crate::answer::SearchResult;
 use instance::Checkpoint;
 use instance::Instance;
 use instance::Status;
 use refusal::Refusal;
 
+pub mod answer;
 mod outlook;
 mod path;
-pub mod results;
+mod results;
 mod steps;
 
 // One call: the answer, the steps taken, the checkpoint that they lead to and, where packed, the packing.

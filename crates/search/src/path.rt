@@ -5,8 +5,9 @@ ghost use mathlib.Core.List.{List};
 ghost use Prim.Native.Nat.{_≤_};
 ghost use lib.ListN as L;
 ghost use Rattle.model.specs.Branching.{Branch};
+ghost use Rattle.model.specs.Search as S;
 ghost use Rattle.search.specs.Checkpoints.{well-formed, all-branches, length-allowed, Bits, branches-of, path-of};
-ghost use Rattle.search.specs.Standing.{Holds, without-seconds};
+ghost use Rattle.search.specs.Standing.{Holds, Backed};
 use instance::Checkpoint;
 use instance::Instance;
 use instance::Status;
@@ -70,14 +71,15 @@ pub fn path_branches(
     branches
 }
 
-// Drops the trailing second branches: how many are left.
-pub fn drop_seconds(branches: &mut [u8; Instance::MAX_BRANCHES], length: usize) -> usize
+// Drops the trailing second branches and turns the last first one: how many are left.
+pub fn back(branches: &mut [u8; Instance::MAX_BRANCHES], length: usize) -> usize
     requires { ⌜ (L.length (now branches) ≡ max-branches) × (length ≤ max-branches) ⌝ }
-    ensures { λ r. ⌜ ((path : List Branch) → Holds path (now (branches .entry)) length → Holds (without-seconds path) (now (branches .exit)) r) ⌝ }
+    ensures { λ r. ⌜ ((path : List Branch) → Holds path (now (branches .entry)) length → Backed (S.backtrack path) (now (branches .exit)) r) ⌝ }
 {
     let mut left = length;
     while 0 < left {
         if branches[left - 1] == 0 {
+            branches[left - 1] = 1;
             return left;
         }
         branches[left - 1] = 0;

@@ -11,12 +11,12 @@ ghost use Rattle.instance.specs.Meaning.{problem-of};
 ghost use Rattle.search.specs.Checkpoints.{Bits, path-of};
 ghost use Rattle.search.specs.Results.{followed};
 ghost use Rattle.nodes.specs.Nodes.{slot-of, slot-coded};
+use crate::answer::Answer;
+use crate::answer::SearchResult;
 use crate::outlook::Outlook;
 use crate::outlook::look;
 use crate::path;
 use crate::results;
-use crate::results::Answer;
-use crate::results::SearchResult;
 use domains::Place;
 use domains::queue::code;
 use instance::Checkpoint;
@@ -95,11 +95,10 @@ pub fn run(instance: Instance, checkpoint: Checkpoint, budget: u32) -> SearchRes
                 if looks <= length {
                     return results::refused(Refusal::NotFollowing, checkpoint);
                 }
-                depth = path::drop_seconds(&mut branches, depth);
+                depth = path::back(&mut branches, depth);
                 if depth == 0 {
                     return results::infeasible((looks - length) as u32);
                 }
-                branches[depth - 1] = 1;
                 kept = kept - 1;
                 levels::load_domains(&kept_domains, kept, &mut k);
                 levels::load_rows(&kept_rows, kept, &mut rows);

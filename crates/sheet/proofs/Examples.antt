@@ -1,8 +1,5 @@
 -- Document 01's byte examples, and more for the limits and the order of the fields.
-use mathlib.Core.Path.{_≡_}
-use mathlib.Core.List.{List, [], _∷_}
-use Prim.Native.Nat.{ℕ}
-use lib.ListN.{length}
+use Rattle.prelude.specs.Names.{_≡_, List, [], _∷_, ℕ, length}
 use Rattle.refusal.specs.declared.Refusal.the-variants.{EndsEarly, UnknownBit, WrittenDefault, BadCount, BadItem, NotRising, TrailingBytes}
 use Rattle.formats.specs.Reading.{Read, got, refused, run}
 use Rattle.formats.specs.Formats.{whole}

@@ -1,69 +1,62 @@
 -- "Reading goes left to right and gives the first fault; at one place the lower number": what reading a sheet gives, by the faults of its bytes.
-use mathlib.Core.Path.{_≡_, refl, sym, _∙_}
-use mathlib.Core.Bool.{Bool, true, false, not, cond, _&&_, _||_, false≢true, and-false}
-use mathlib.Core.List.{List, []}
-use mathlib.Core.Logic.{_⊎_, inl, inr, _↔_, Iff·rfl}
-use Prim.Native.Nat.{ℕ, zero, suc, _+_, _*_, _≤_, _<_}
-use native.Mathlib.Omega.{arith}
-use native.Mathlib.Nat.{add-zero, eq-or-lt-of-le}
-use lib.Dec.{eqb, ltb, leb}
-use lib.ListN.{length, getD, drop}
+use Rattle.prelude.specs.Names.{_≡_, refl, sym, _∙_, Bool, true, false, not, cond, false≢true, and-false, Bool·not-not, List, [], _⊎_, inl, inr, _↔_}
+use Rattle.prelude.specs.Names.{Iff·rfl, ℕ, zero, suc, _+_, _*_, _≤_, _<_, arith, decLe, decLt, add-zero, add-assoc, eq-or-lt-of-le, leb, length}
+use Rattle.prelude.specs.Names.{getD, drop, eqb-true, eq-eqb, ne-eqb, lt-ltb, le-ltb, leb-true, le-leb}
 use lib.Seq.{drop-length}
-use borrow.Author.Tests.{eqb-true, eqb-false, eq-eqb, ne-eqb, ltb-false, le-ltb, leb-true, le-leb}
 use Rattle.refusal.specs.declared.Refusal.{Refusal}
 use Rattle.refusal.specs.declared.Refusal.the-variants.{WrittenDefault, BadItem, NotRising}
 use Rattle.formats.specs.Reading.{got, refused, run, _>>=_}
 use Rattle.formats.specs.Formats.{up-to, Format, Test, byte, word, pair, converted, testing, tested, keyed, row, count, counted, whole}
 use Rattle.formats.specs.Fields.{Fields, optional-reading, is-set, fields-reading, fields, map-byte, with-map}
-use Rattle.formats.proofs.Spans.{length-up-to, getD-up-to, Gives, reads, gives-as, first-given, none-given, given-none, gives-test}
-use Rattle.formats.proofs.Spans.{Spans, spans-as, spans-done, spans-two-bytes, spans-then, spans-tested, spans-one-test, spans-untested}
-use Rattle.formats.proofs.Spans.{Unknown, spans-map, Miscounted, spans-count, Parts, spans-row, OrTrailing, gives-whole}
+use Rattle.formats.proofs.Spans.{length-up-to, getD-up-to, Gives, reads, gives-as, first-given, none-given, given-none, gives-test, Spans, spans-as}
+use Rattle.formats.proofs.Spans.{spans-done, spans-two-bytes, spans-then, spans-tested, spans-one-test, spans-untested, Unknown, spans-map}
+use Rattle.formats.proofs.Spans.{Miscounted, spans-count, Parts, spans-row, OrTrailing, gives-whole}
 use Rattle.parts.specs.declared.Size.{Size}
-use Rattle.parts.specs.declared.Item.{Item}
 use Rattle.parts.specs.declared.Precedence.{Precedence}
 use Rattle.parts.specs.declared.Previous.{Previous}
 use Rattle.parts.specs.declared.Previous.the-variants.{Nothing, Was}
 use Rattle.parts.specs.Parts.{number, measure, measures, item-fields, item, precedence, precedence-tests}
 use Rattle.parts.specs.Precedences.{names-items, above, rises}
 use Rattle.parts.specs.Sizes.{no-item}
-use Rattle.sheet.specs.Sheet as S
 use Rattle.sheet.specs.Sheet.{Sheet, max-items, max-precedences, list-of, item-list, precedence-list, sheet-fields, sheet}
 use Rattle.sheet.specs.Places.{two-if, measures-length, byte-at, word-at, precedence-at, has, hall-end, items-on, after-item, item-place}
 use Rattle.sheet.specs.Places.{items-end, precedences-on, precedence-place, precedences-end, sheet-end}
 use Rattle.sheet.specs.Faults.{MeasureAt, width, depth, shifts, Misnames, Fault, FirstFault, ends-early, unknown-bit, item-unknown-bit}
 use Rattle.sheet.specs.Faults.{hall-measure, item-measure, yard-number, item-count, precedence-count, bad-item, not-rising, trailing-bytes}
 use Rattle.sheet.specs.Told.{size-at, item-at, items-at, sheet-at}
+use Rattle.sheet.specs.Sheet as S
 
 -- the tests of a precedence, and what they test
 misnames : (n u v : ℕ) → (not (names-items n (record { predecessor = u; successor = v })) ≡ true) ↔ ((n ≤ u) ⊎ ((n ≤ v) ⊎ (u ≡ v)))
 unfolding names-items
 misnames n u v = (
-  go (ltb u n) refl (ltb v n) refl (eqb u v) refl,
+  λ h. elim (decLe n u) [
+    | yes l ↦ inl l
+    | no i ↦ elim (decLe n v) [
+      | yes l ↦ inr (inl l)
+      | no j ↦
+          inr (inr (eqb-true u v (simp (lt-ltb u n (omega arith), lt-ltb v n (omega arith), Bool·not-not) at h)))
+    ]
+  ],
   elim [ inl l ↦ rw (le-ltb u n l) | inr (inl l) ↦ simp (le-ltb v n l, and-false) | inr (inr q) ↦ simp (eq-eqb u v q, and-false) ],
 )
-  where
-    go : (x : Bool) → ltb u n ≡ x → (y : Bool) → ltb v n ≡ y → (z : Bool) → eqb u v ≡ z → not (x && (y && not z)) ≡ true → (n ≤ u) ⊎ ((n ≤ v) ⊎ (u ≡ v))
-    go false l y _ z _ h = inl (ltb-false u n l)
-    go true _ false l z _ h = inr (inl (ltb-false v n l))
-    go true _ true _ true q h = inr (inr (eqb-true u v q))
-    go true _ true _ false _ h = absurd (false≢true h)
 
 not-above : (a b c d : ℕ) → (not (above (record { predecessor = a; successor = b }) (record { predecessor = c; successor = d })) ≡ true)
     ↔ ((c < a) ⊎ ((c ≡ a) × (d ≤ b)))
 unfolding above
 not-above a b c d = (
-  go (ltb a c) refl (eqb a c) refl (ltb b d) refl,
+  λ h. elim (decLt c a) [
+    | yes l ↦ inl l
+    | no i ↦
+        let j : ¬ (a < c) = λ l. false≢true (simp (lt-ltb a c l) at h) in
+        let k : ¬ (b < d) = λ l. false≢true (simp (le-ltb a c (omega arith), eq-eqb a c (omega arith), lt-ltb b d l) at h) in
+        inr (omega arith, omega arith)
+  ],
   elim [
     | inl l ↦ rw (le-ltb a c (omega arith), ne-eqb a c (omega arith))
     | inr (q, l) ↦ rw (le-ltb a c (omega arith), eq-eqb a c (sym q), le-ltb b d l)
   ],
 )
-  where
-    go : (x : Bool) → ltb a c ≡ x → (y : Bool) → eqb a c ≡ y → (z : Bool) → ltb b d ≡ z → not (x || (y && z)) ≡ true → (c < a) ⊎ ((c ≡ a) × (d ≤ b))
-    go true _ y _ z _ h = absurd (false≢true h)
-    go false _ true _ true _ h = absurd (false≢true h)
-    go false _ true q false l h = inr (sym (eqb-true a c q), ltb-false b d l)
-    go false l false q z _ h = inl (omega (arith, ltb-false a c l, eqb-false a c q))
 
 module _ (s : List ℕ) where
   -- 3 at a two-byte field
@@ -90,12 +83,10 @@ module _ (s : List ℕ) where
   spans-measures size rest m σ =
       let a = two-if (is-set (byte-at s m) 1) in
       let b = two-if (is-set (byte-at s m) 2) in
-      let c = two-if (is-set (byte-at s m) 4) in
-      let p : m + 1 + (a + b + c) ≡ m + 1 + a + b + c = omega arith in
       spans-as s
       (spans-then s _ _ (spans-number 1 (is-set (byte-at s m) 1) (m + 1))
       (spans-then s _ _ (spans-number 1 (is-set (byte-at s m) 2) (m + 1 + a))
-      (spans-then s _ _ (spans-number 1 (is-set (byte-at s m) 4) (m + 1 + a + b)) (rw p at σ))))
+      (spans-then s _ _ (spans-number 1 (is-set (byte-at s m) 4) (m + 1 + a + b)) (rw (← add-assoc, ← add-assoc) at σ))))
       (λ e. (
         elim [
           | inl (t, w) ↦ inl (_, width t, w)
@@ -231,14 +222,13 @@ module _ (s : List ℕ) where
   pub refused-first : (e : Refusal) → (run (whole sheet) 0 s ≡ refused e) ↔ FirstFault s e
   refused-first e =
       let (to, from) = first-given s sheet-gives e in
-      (λ h. let (fault, first) = to h in record { fault = fault; first = first }, λ φ. from (φ .fault, φ .first))
+      (λ h. record { fault = to h .0; first = to h .1 }, λ φ. from (φ .fault, φ .first))
 
   -- a sheet with no fault ends after its last field
   ends : ((e : Refusal) → Fault s e → ⊥) → sheet-end s ≡ length s
   ends none =
       let a : ¬ (length s < sheet-end s) = λ l. none _ (ends-early l) in
-      let b : ¬ (sheet-end s < length s) = λ l. none _ (trailing-bytes l) in
-      omega arith
+      let b : ¬ (sheet-end s < length s) = λ l. none _ (trailing-bytes l) in omega arith
 
   -- and reads as its bytes tell
   pub faultless-got : ((e : Refusal) → Fault s e → ⊥) → run (whole sheet) 0 s ≡ got (sheet-at s) (length s) []
@@ -258,33 +248,24 @@ module _ (s : List ℕ) where
 
   item-inside : (k : ℕ) → k < items-on s → item-place s (suc k) ≤ items-end s
   unfolding items-on items-end
-  item-inside k l = go (has s 8) (byte-at s (hall-end s)) l
-    where
-      go : (bit : Bool) (n : ℕ) → k < cond bit n 0 → item-place s (suc k) ≤ cond bit (item-place s (cond bit n 0)) (hall-end s)
-      go true n l = item-before n k l
-      go false n l = absurd (omega arith)
+  item-inside k =
+      let n = byte-at s (hall-end s) in
+      elim (has s 8) as (λ bit. k < cond bit n 0 → item-place s (suc k) ≤ cond bit (item-place s (cond bit n 0)) (hall-end s))
+      [ true ↦ item-before n k | false ↦ λ l. absurd (omega arith) ]
 
   module _ {x : Sheet} {at : ℕ} {rest : List ℕ} (h : run (whole sheet) 0 s ≡ got x at rest) where
     none : (e : Refusal) → Fault s e → ⊥
     none = given-none s sheet-gives h
-
-    -- a sheet is read to its end
-    pub read-to-the-end : (at ≡ length s) × (rest ≡ [])
-    read-to-the-end = let q = faultless-got none in (cc, cc)
 
     -- every item was read at its place
     pub item-read-there : (length (x .items) ≡ items-on s) × ((k : ℕ) → k < items-on s → (item-place s (suc k) ≤ length s)
         × (run (item .reading) (item-place s k) (drop (item-place s k) s)
         ≡ got (getD (x .items) k no-item) (item-place s (suc k)) (drop (item-place s (suc k)) s)))
     unfolding item-place sheet-end
-    item-read-there = let q : x ≡ (sheet-at s) = cc (faultless-got none) in rw q (length-up-to (items-on s) _, λ k l. (inside k l, there k l))
-      where
-        inside : (k : ℕ) → k < items-on s → item-place s (suc k) ≤ length s
-        inside k l = omega (arith, item-inside k l, spans-precedences (items-on s) refl .onward, ends none)
-
-        there : (k : ℕ) → k < items-on s → run (item .reading) (item-place s k) (drop (item-place s k) s)
-            ≡ got (getD (items-at s) k no-item) (item-place s (suc k)) (drop (item-place s (suc k)) s)
-        there k l =
-            let σ = spans-item (item-place s k) in
-            let i = inside k l in
-            rw getD-up-to (none-given s (σ .gives (omega arith)) (λ e. elim [ inl w ↦ none e (item-told k l w) | inr (m, _) ↦ omega arith ]))
+    item-read-there = let q : x ≡ (sheet-at s) = cc (faultless-got none) in rw q (
+      length-up-to (items-on s) _,
+      λ k l.
+          let σ = spans-item (item-place s k) in
+          let i : item-place s (suc k) ≤ length s = omega (arith, item-inside k l, spans-precedences (items-on s) refl .onward, ends none) in
+          (i, rw getD-up-to (none-given s (σ .gives (omega arith)) (λ e. elim [ inl w ↦ none e (item-told k l w) | inr (m, _) ↦ omega arith ]))),
+    )

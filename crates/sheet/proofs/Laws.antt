@@ -1,18 +1,11 @@
 -- The sheet has its laws: what that says of reading and writing.
-use mathlib.Core.Path.{_≡_, refl}
-use mathlib.Core.Bool.{Bool, true, false, not, _&&_, _||_, false≢true}
-use mathlib.Core.List.{List, [], _∷_}
-use Prim.Native.Nat.{ℕ}
-use native.Mathlib.Omega.{arith}
-use lib.Dec.{eqb}
-use lib.ListN.{length}
-use borrow.Author.Tests.{eqb-true}
+use Rattle.prelude.specs.Names.{_≡_, refl, Bool, true, false, not, _&&_, _||_, false≢true, List, [], _∷_, ℕ, arith, eqb, length, eqb-true}
 use Rattle.formats.specs.Reading.{Bytes, got, run}
 use Rattle.formats.specs.Formats.{Format, Test, byte, tested, passes, keyed, count, counted, whole}
 use Rattle.formats.proofs.Laws.{Lawful, both-true, counted-lawful, whole-written-read, whole-read-written}
 use Rattle.formats.proofs.Maps.{OptionalLaws, FieldsLaws, with-map-lawful}
-use Rattle.parts.specs.Parts.{measures}
-use Rattle.parts.proofs.Laws.{number-laws, measure-laws, item-lawful, precedence-lawful}
+use Rattle.parts.specs.Parts.{measure, measures}
+use Rattle.parts.proofs.Laws.{number-laws, item-lawful, precedence-lawful}
 use Rattle.sheet.specs.Sheet.{Sheet, list-of, item-list, precedence-list, yard-number, sheet-fields, sheet}
 
 module _ {P A : Type 0} (part : Format A) (tests : P → A → List Test) (next : P → A → P) (φ : Lawful part) where
@@ -35,8 +28,8 @@ module _ {P A : Type 0} (part : Format A) (tests : P → A → List Test) (next 
   }
 
 pub sheet-fields-laws : FieldsLaws sheet-fields
-unfolding sheet-fields measures item-list precedence-list yard-number
-sheet-fields-laws = search (number-laws, measure-laws, list-laws, item-lawful, precedence-lawful) depth 20
+unfolding sheet-fields measures measure item-list precedence-list yard-number
+sheet-fields-laws = search (number-laws, list-laws, item-lawful, precedence-lawful) depth 20
 
 pub sheet-lawful : Lawful sheet
 unfolding sheet sheet-fields measures

@@ -1,11 +1,7 @@
 -- What may stand on a sheet, part by part.
-use mathlib.Core.Path.{_≡_, refl, _∙_}
-use mathlib.Core.Bool.{Bool, true, false, not, _&&_, and-true, and-assoc}
-use mathlib.Core.List.{List, [], _∷_}
-use Prim.Native.Nat.{ℕ}
-use lib.Dec.{leb, ltb, leb·zero, eqb·suc-zero}
-use lib.ListN.{length}
-use borrow.Author.Tests.{leb-true, leb-false, lt-ltb, le-ltb}
+use Rattle.prelude.specs.Names.{_≡_, refl, sym, _∙_, Bool, true, false, not, _&&_, and-true, and-false, and-assoc, List, [], _∷_, ℕ, decLe, arith}
+use Rattle.prelude.specs.Names.{leb, ltb, eqb·suc-zero, length, le-leb, lt-leb, lt-ltb, le-ltb}
+use lib.Dec.{leb·zero}
 use Rattle.formats.specs.Formats.{Format, Test, byte, tested, passes, keyed, row-valid, row, count, counted}
 use Rattle.formats.specs.Fields.{optional-valid, fields-valid}
 use Rattle.formats.proofs.Maps.{with-map-valid}
@@ -18,15 +14,11 @@ use Rattle.parts.specs.Precedences.{all-stand}
 use Rattle.parts.specs.Parts.{measure, measures, item, precedence, precedence-tests}
 use Rattle.parts.proofs.Laws.{number-valid, item-valid, precedence-valid}
 use Rattle.sheet.specs.Sheet.{Sheet, max-items, max-precedences, list-of, item-list, precedence-list, yard-number, sheet-fields, sheet}
-use Rattle.sheet.proofs.Laws.{sheet-fields-laws}
 
 -- not above a is at most a
 not-above : (a b : ℕ) → not (ltb a b) ≡ leb b a
-not-above a b = go (leb b a) refl
-  where
-    go : (t : Bool) → leb b a ≡ t → not (ltb a b) ≡ t
-    go true e = rw (le-ltb a b (leb-true b a e))
-    go false e = rw (lt-ltb a b (leb-false b a e))
+not-above a b = elim (decLe b a)
+    [ yes l ↦ rw (le-ltb a b l, le-leb b a l) | no k ↦ rw (lt-ltb a b (omega arith), lt-leb b a (omega arith)) ]
 
 -- a list has at most so many parts, each as its row asks
 pub list-valid : {P A : Type 0} (part : Format A) (tests : P → A → List Test) (next : P → A → P) (p : P) (limit : ℕ) (xs : List A)
@@ -48,8 +40,7 @@ precedences-valid n (o ∷ os) last = rw (precedence-valid n last o, precedences
 
 and-left-comm : (a b c : Bool) → (a && (b && c)) ≡ (b && (a && c))
 and-left-comm true b c = refl
-and-left-comm false true c = refl
-and-left-comm false false c = refl
+and-left-comm false b c = sym (and-false b)
 
 -- not "over 10 pieces, over 90 orders, a measure 0, or an order that would get 5 or 6"
 pub sheet-valid : (x : Sheet) → sheet .valid x
@@ -57,5 +48,5 @@ pub sheet-valid : (x : Sheet) → sheet .valid x
     && (positive (x .container) && (all-have-size (x .items) && all-stand (length (x .items)) Nothing (x .precedences)))))
 unfolding sheet sheet-fields measures measure item-list precedence-list yard-number fields-valid positive
 sheet-valid x =
-    with-map-valid sheet-fields sheet-fields-laws x
+    with-map-valid sheet-fields x
     ∙ simp (number-valid, list-valid, items-valid, precedences-valid, leb·zero, and-true, and-assoc, and-left-comm)

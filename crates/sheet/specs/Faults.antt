@@ -1,18 +1,13 @@
 -- Document 01's table of refusals for reading, on the bytes of a sheet: each line with its number, its place and its condition. A line
 -- speaks of bytes that are there. It does not ask whether the bytes before are in order: which line is given is said by `FirstFault`.
-use Prim.Native.Nat.{ℕ, suc, _+_, _≤_, _<_}
-use mathlib.Core.Bool.{true, false}
-use mathlib.Core.List.{List}
-use mathlib.Core.Logic.{_⊎_}
-use mathlib.Core.Path.{_≡_}
-use lib.ListN.{length}
+use Rattle.prelude.specs.Names.{ℕ, suc, _+_, _≤_, _<_, true, List, _⊎_, _≡_, length}
 use Rattle.refusal.specs.declared.Refusal.{Refusal}
 use Rattle.refusal.specs.declared.Refusal.the-variants.{EndsEarly, UnknownBit, WrittenDefault, BadCount, BadItem, NotRising, TrailingBytes}
 use Rattle.formats.specs.Reading.{Before}
 use Rattle.formats.specs.Fields.{is-set}
 use Rattle.sheet.specs.Sheet.{max-items, max-precedences}
-use Rattle.sheet.specs.Places.{two-if, byte-at, word-at, has, hall-end, items-on, item-place, items-end, precedences-on}
-use Rattle.sheet.specs.Places.{precedence-place, precedences-end, sheet-end}
+use Rattle.sheet.specs.Places.{two-if, byte-at, word-at, has, hall-end, items-on, item-place, items-end, precedences-on, precedence-place}
+use Rattle.sheet.specs.Places.{precedences-end, sheet-end}
 
 module _ (s : List ℕ) where
   -- a measure is at p, of the hall or piece whose map byte is at m: width, depth or shifts

@@ -1,8 +1,5 @@
 -- Where the parts of a sheet are, told from its bytes alone (document 01, "Sheet bytes"). Bytes past the end count as 0.
-use Prim.Native.Nat.{ℕ, zero, suc, _+_, _*_}
-use mathlib.Core.Bool.{Bool, cond}
-use mathlib.Core.List.{List}
-use lib.ListN.{getD}
+use Rattle.prelude.specs.Names.{ℕ, zero, suc, _+_, _*_, Bool, cond, List, getD}
 use Rattle.formats.specs.Fields.{is-set}
 use Rattle.parts.specs.declared.Precedence.{Precedence}
 

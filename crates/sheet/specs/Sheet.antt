@@ -1,8 +1,5 @@
 -- The sheet (document 01, "Sheet bytes").
-use Prim.Native.Nat.{ℕ}
-use mathlib.Core.List.{List, []}
-use lib.Dec.{eqb}
-use lib.ListN.{length}
+use Rattle.prelude.specs.Names.{ℕ, List, [], eqb, length}
 use Rattle.formats.specs.Formats.{Format, Test, counted}
 use Rattle.formats.specs.Fields.{Optional, Fields, made, field, with-map}
 use Rattle.parts.specs.declared.Size.{Size}

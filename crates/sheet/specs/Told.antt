@@ -1,13 +1,12 @@
 -- What a sheet says, told from its bytes and the places of its parts alone. This is a second account of the format, beside `Sheet`: that
 -- a sheet without a fault reads as it is a theorem (proofs/Faults).
-use Prim.Native.Nat.{ℕ, _+_}
-use mathlib.Core.Bool.{cond}
-use mathlib.Core.List.{List}
+use Rattle.prelude.specs.Names.{ℕ, _+_, cond, List}
 use Rattle.formats.specs.Fields.{is-set}
 use Rattle.formats.specs.Formats.{up-to}
 use Rattle.parts.specs.declared.Size.{Size}
 use Rattle.parts.specs.declared.Item.{Item}
-use Rattle.sheet.specs.Places.{two-if, byte-at, word-at, precedence-at, has, items-on, item-place, precedences-on, precedence-place, precedences-end}
+use Rattle.sheet.specs.Places.{two-if, byte-at, word-at, precedence-at, has, items-on, item-place, precedences-on, precedence-place}
+use Rattle.sheet.specs.Places.{precedences-end}
 use Rattle.sheet.specs.Sheet.{Sheet}
 
 module _ (s : List ℕ) where

@@ -1,11 +1,7 @@
 -- A signed number of 32 bits, and its negation, in 64 bits.
-use mathlib.Core.Path.{_≡_}
-use mathlib.Core.Bool.{true, false, true≢false}
-use native.Mathlib.Omega.{arith}
-use borrow.Author.Tests.{ltb-true}
+use Rattle.prelude.specs.Names.{_≡_, true, false, true≢false, arith, ltb-true, ℤ, pos, negsuc, _-ℤ_, natAbs, ltZ}
 use lib.Dec.{T}
-use lib.IntN.{ℤ, pos, negsuc, _-ℤ_, natAbs}
-use lib.Signed.{nonNeg, ltZ}
+use lib.Signed.{nonNeg}
 use mir.Syntax.{w32, w64}
 use mir.Val.{Fits, SFits}
 

@@ -1,12 +1,6 @@
 -- Laws of an array that is filled entry by entry.
-use mathlib.Core.Path.{_≡_, refl, sym, _∙_}
-use mathlib.Core.List.{List}
-use Prim.Native.Nat.{ℕ, _+_, _≤_, _<_}
-use native.Mathlib.Nat.{le-of-eq}
-use native.Mathlib.Numerals.{add-one}
-use native.Mathlib.Omega.{arith}
-use lib.ListN.{length, take, set, length-set}
-use lib.Seq.{take-all, take-suc-set}
+use Rattle.prelude.specs.Names.{_≡_, refl, sym, _∙_, List, ℕ, _+_, _≤_, _<_, le-of-eq, add-one, arith, length, take, set, length-set, take-all}
+use lib.Seq.{take-suc-set}
 use Rattle.test_values.specs.Values.{table}
 
 -- of n entries the first i are those of a table

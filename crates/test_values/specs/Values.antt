@@ -1,7 +1,5 @@
 -- Instances and packings from bytes at fixed places. The low byte is first; a byte past the end counts as 0.
-use mathlib.Core.List.{List, [], _∷_, _++_}
-use Prim.Native.Nat.{ℕ, zero, suc, _+_, _*_}
-use lib.ListN.{getD}
+use Rattle.prelude.specs.Names.{List, [], _∷_, _++_, ℕ, zero, suc, _+_, _*_, getD}
 use Rattle.parts.specs.declared.Size.{Size}
 use Rattle.parts.specs.declared.Item.{Item}
 use Rattle.parts.specs.declared.Precedence.{Precedence}

@@ -1,16 +1,8 @@
 -- Writing a sheet is refused exactly for the table's conditions; what it leaves in the room, and that reading undoes it.
-use mathlib.Core.Bool.{Bool, true, false, not, cond}
-use mathlib.Core.List.{List, _++_}
-use mathlib.Core.Logic.{_↔_, _⊎_, inl, inr}
-use mathlib.Core.Path.{_≡_, refl, subst}
-use Prim.Native.Nat.{ℕ, _≤_, _<_}
-use lib.Dec.{ltb}
-use lib.ListN.{length, take, drop}
-use lib.Seq.{take-append-seam}
-use borrow.Author.Tests.{ltb-true, ltb-false, lt-ltb, le-ltb, lt-leb, le-leb, not-true, not-false}
+use Rattle.prelude.specs.Names.{Bool, true, false, List, _++_, _↔_, _⊎_, inl, inr, _≡_, refl, subst, ℕ, _≤_, _<_, decLt, arith, length, take, drop}
+use Rattle.prelude.specs.Names.{take-append-seam, lt-ltb, le-ltb, lt-leb, le-leb}
 use Rattle.formats.specs.Reading.{Bytes}
 use Rattle.instance.specs.declared.Instance.{Instance}
-use Rattle.writer.specs.declared.WriteAnswer.{WriteAnswer}
 use Rattle.instance.specs.Valid.{valid}
 use Rattle.instance.specs.Sheets.{decode, encode}
 use Rattle.instance.specs.Answers.{read-result, read-values}
@@ -20,42 +12,35 @@ use Rattle.writer.specs.Refusing.{WriteFault}
 use Rattle.instance.proofs.RoundTrips.{read-valid, decode-encodes, blanked, encode-decodes, same-blanked}
 use Rattle.instance.proofs.Readings.{read-reads}
 
-by-cond : {A : Type 0} (P : A → Type 0) (b : Bool) (x y : A) → (b ≡ true → P x) → (b ≡ false → P y)
-    → P (cond b x y)
-by-cond P true x y f g = f refl
-by-cond P false x y f g = g refl
-
 module _ (i : Instance) (room : ℕ) where
   -- what holds where these values are given
   abbrev Grounds : ℕ ⊎ (ℕ × ℕ) → Type 0
   Grounds (inl n) = (valid i ≡ true) × (length (encode i) ≤ room) × (n ≡ length (encode i))
   Grounds (inr (n, place)) = WriteFault i room n × (place ≡ 0)
 
-  grounds : Grounds (write-values (write-answer i room))
+  grounds : (b : Bool) → valid i ≡ b → Dec (room < length (encode i)) → Grounds (write-values (write-answer i room))
   unfolding write-answer
-  grounds =
-      by-cond (λ (a : WriteAnswer). Grounds (write-values a)) (not (valid i)) _ _ (λ v. (WriteFault.nine (not-true _ v) refl, refl)) λ v.
-      by-cond (λ (a : WriteAnswer). Grounds (write-values a)) (ltb room (length (encode i))) _ _
-      (λ l. (WriteFault.eight (not-false _ v) (ltb-true _ _ l) refl, refl))
-      (λ l. (not-false _ v, ltb-false _ _ l, refl))
+  grounds false v l = rw v (WriteFault.nine v refl, refl)
+  grounds true v (yes l) = rw (v, lt-ltb room (length (encode i)) l) (WriteFault.eight v l refl, refl)
+  grounds true v (no l) = rw (v, le-ltb room (length (encode i)) (omega arith)) (v, omega arith, refl)
 
-  refuses : {n place : ℕ} → WriteFault i room n → place ≡ 0 → write-values (write-answer i room) ≡ inr (n, place)
+  ends-so : (a : ℕ ⊎ (ℕ × ℕ)) → Grounds a → write-values (write-answer i room) ≡ a
   unfolding write-answer
-  refuses (WriteFault.nine v k) z = rw (v, k, z)
-  refuses (WriteFault.eight v l k) z = rw (v, lt-ltb room (length (encode i)) l, k, z)
+  ends-so (inl n) (v, l, k) = rw (v, le-ltb room (length (encode i)) l, k)
+  ends-so (inr (n, place)) (WriteFault.nine v k, z) = rw (v, k, z)
+  ends-so (inr (n, place)) (WriteFault.eight v l k, z) = rw (v, lt-ltb room (length (encode i)) l, k, z)
+
+  told : (a : ℕ ⊎ (ℕ × ℕ)) → (write-values (write-answer i room) ≡ a) ↔ Grounds a
+  told a = ((λ k. subst Grounds k (grounds (valid i) refl (decLt room (length (encode i))))), ends-so a)
 
   -- 9, then 8, each with place 0
   pub write-refuses : (n place : ℕ) → (write-values (write-answer i room) ≡ inr (n, place)) ↔ (WriteFault i room n × (place ≡ 0))
-  write-refuses n place = ((λ k. subst Grounds k grounds), (λ (f, z). refuses f z))
+  write-refuses n place = told (inr (n, place))
 
   -- "Writing returns the sheet's length"
   pub write-writes : (n : ℕ) → (write-values (write-answer i room) ≡ inl n)
       ↔ ((valid i ≡ true) × (length (encode i) ≤ room) × (n ≡ length (encode i)))
-  unfolding write-answer
-  write-writes n = (
-    (λ k. subst Grounds k grounds),
-    (λ (v, l, k). rw (v, le-ltb room (length (encode i)) l, k)),
-  )
+  write-writes n = told (inl n)
 
 -- "Every refusal leaves lent buffers untouched"
 pub room-untouched : (i : Instance) (room : List ℕ) (n place : ℕ)

@@ -1,10 +1,5 @@
 -- What writing answers, and what it leaves in the lent room.
-use mathlib.Core.Bool.{cond, not, _&&_}
-use mathlib.Core.List.{List, _++_}
-use mathlib.Core.Logic.{_⊎_, inl, inr}
-use Prim.Native.Nat.{ℕ}
-use lib.Dec.{leb, ltb}
-use lib.ListN.{length, drop}
+use Rattle.prelude.specs.Names.{cond, not, _&&_, List, _++_, _⊎_, inl, inr, ℕ, leb, ltb, length, drop}
 use Rattle.refusal.specs.declared.Refusal.the-variants.{BadArgument, InvalidInstance}
 use Rattle.refusal.specs.Numbers.{number-of, place-of}
 use Rattle.instance.specs.declared.Instance.{Instance}

@@ -1,8 +1,6 @@
 -- Rows of parts with their count, as they are written.
-use mathlib.Core.List.{List, _++_}
-use Prim.Native.Nat.{ℕ}
-use lib.ListN.{take}
-use Rattle.formats.specs.Formats.{Format, row-bytes}
+use Rattle.prelude.specs.Names.{List, _++_, ℕ, take}
+use Rattle.formats.specs.Formats.{row-bytes}
 use Rattle.parts.specs.declared.Item.{Item}
 use Rattle.parts.specs.declared.Precedence.{Precedence}
 use Rattle.parts.specs.Parts.{count-bytes, item, precedence}

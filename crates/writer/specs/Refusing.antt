@@ -1,8 +1,5 @@
 -- Document 01's table for writing a sheet, in the order of the tests.
-use mathlib.Core.Bool.{true, false}
-use mathlib.Core.Path.{_≡_}
-use Prim.Native.Nat.{ℕ, _<_}
-use lib.ListN.{length}
+use Rattle.prelude.specs.Names.{true, false, _≡_, ℕ, _<_, length}
 use Rattle.instance.specs.declared.Instance.{Instance}
 use Rattle.instance.specs.Valid.{valid}
 use Rattle.instance.specs.Sheets.{encode}

@@ -1,12 +1,8 @@
 -- `c_api::check_instance` meets its contract.
-use native.Mathlib.Omega.{arith}
-use mathlib.Core.Path.{sym, ap, _∙_}
-use borrow.Author.Tests.{ne-eqb}
+use Rattle.prelude.specs.Names.{arith, sym, ap, _∙_, ne-eqb, needs}
 use Rattle.instance.proofs.Sheets.{valid-says}
 use Rattle.packing.specs.Check.{check-number}
 use Rattle.c_api.proofs.Outcomes.{checked-is}
-use borrow.Author.Needs.{needs}
-use Rattle.c_api.proofs.check_instance.Statement.{statement}
 use Rattle.c_api.proofs.check_instance.Tie as tie
 
 mul-if1 : tie.Need-mul-if1
@@ -33,8 +29,6 @@ returns-4 c =
     let a = c .before .before .before .before .before .before .before .before .args in
     c .refusal-code2 .ensures ∙ sym (ap check-number (c .before .before .e .given .1)) ∙ checked-is (a .instance) (a .plan .now) _ _ (c .before .before .before .before .before .before .if1 .left) (c .before .before .before .before .before .read-packing .ensures) (c .before .before .before .before .check .ensures .0)
 
-pub check-instance-spec : {M : Type 1} → statement M
-check-instance-spec =
-    tie.close
-    (tie.spec mul-if1 (λ c κs. search needs) returns read-packing-requires (λ c κs. search needs) (λ c. search needs)
+pub check-instance-spec : {M : Type 1} → Rattle.c_api.proofs.check_instance.Statement.statement M
+check-instance-spec = tie.close (tie.spec mul-if1 (λ c κs. search needs) returns read-packing-requires (λ c κs. search needs) (λ c. search needs)
     (λ c. search needs) (λ c. search needs) (λ c κs. search needs) returns-2 returns-3 returns-4)

@@ -1,11 +1,9 @@
 -- `c_api::hallplan_check` meets its contract.
-use native.Mathlib.Omega.{arith}
+use Rattle.prelude.specs.Names.{arith, needs}
 use Rattle.instance.specs.Sheets.{decode}
 use Rattle.instance.proofs.RoundTrips.{read-valid}
 use Rattle.instance.proofs.Readings.{was-read, was-refused}
 use Rattle.c_api.specs.Calls.{check-code}
-use borrow.Author.Needs.{needs}
-use Rattle.c_api.proofs.hallplan_check.Statement.{statement}
 use Rattle.c_api.proofs.hallplan_check.Tie as tie
 
 check-instance-requires : tie.Need-check-instance-requires
@@ -28,8 +26,6 @@ returns-2 c =
     let w = was-read (decode s) (c .before .before .before .before .read .result) (c .before .before .before .before .read .ensures) (c .before .enum-told .given .1) in
     rw (w .was) (c .check-instance .ensures, (λ k. omega (arith, c .before .before .before .before .before .before .shared-slice-known .given k)))
 
-pub hallplan-check-spec : {M : Type 1} → statement M
-hallplan-check-spec =
-    tie.close
-    (tie.spec (λ c κs. search needs) (λ c. search needs) (λ c κs. search needs) (λ c. search needs) check-instance-requires
-    returns returns-2)
+pub hallplan-check-spec : {M : Type 1} → Rattle.c_api.proofs.hallplan_check.Statement.statement M
+hallplan-check-spec = tie.close (tie.spec (λ c κs. search needs) (λ c. search needs) (λ c κs. search needs) (λ c. search needs)
+    check-instance-requires returns returns-2)

@@ -1,14 +1,11 @@
 -- `c_api::hallplan_search` meets its contract.
-use native.Mathlib.Omega.{arith}
-use mathlib.Core.Path.{refl}
+use Rattle.prelude.specs.Names.{arith, refl, needs}
 use Rattle.formats.specs.Reading.{Bytes}
 use Rattle.instance.specs.Sheets.{decode}
 use Rattle.instance.proofs.RoundTrips.{read-valid}
 use Rattle.instance.proofs.Readings.{was-read, was-refused}
 use Rattle.search.specs.Results.{refused}
 use Rattle.c_api.specs.Calls.{search-call}
-use borrow.Author.Needs.{needs}
-use Rattle.c_api.proofs.hallplan_search.Statement.{statement}
 use Rattle.c_api.proofs.hallplan_search.Tie as tie
 
 -- the elements of sheet and note, by their type
@@ -35,8 +32,6 @@ returns-2 c =
     let q = c .before .before .before .before .before .before .search-instance .ensures in
     rw (w .was) (q .0, (q .1 .0, (q .1 .1 .0, (q .1 .1 .1, are-bytes (c .before .before .before .before .before .before .before .before .before .before .before .before .before .before .before .before)))))
 
-pub hallplan-search-spec : {M : Type 1} → statement M
-hallplan-search-spec =
-    tie.close
-    (tie.spec (λ c κs. search needs) (λ c. search needs) (λ c κs. search needs) (λ c. search needs) search-instance-requires
-    returns (λ c. search needs) (λ c. search needs) (λ c. search needs) returns-2)
+pub hallplan-search-spec : {M : Type 1} → Rattle.c_api.proofs.hallplan_search.Statement.statement M
+hallplan-search-spec = tie.close (tie.spec (λ c κs. search needs) (λ c. search needs) (λ c κs. search needs) (λ c. search needs)
+    search-instance-requires returns (λ c. search needs) (λ c. search needs) (λ c. search needs) returns-2)

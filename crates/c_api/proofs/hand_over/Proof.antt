@@ -1,7 +1,5 @@
 -- `c_api::hand_over` meets its contract.
-use mathlib.Core.Path.{refl}
-use borrow.Author.Needs.{needs}
-use Rattle.c_api.proofs.hand_over.Statement.{statement}
+use Rattle.prelude.specs.Names.{refl, needs}
 use Rattle.c_api.proofs.hand_over.Tie as tie
 
 write-checkpoint-requires : tie.Need-write-checkpoint-requires
@@ -25,11 +23,8 @@ returns-3 c = rw (c .before .before .before .before .before .before .before .bef
 returns-4 : tie.Need-returns-4
 returns-4 c = rw (c .before .before .answer .given .1) (c .refusal-code .ensures, (refl, (refl, refl)))
 
-pub hand-over-spec : {M : Type 1} → statement M
-hand-over-spec =
-    tie.close
-    (tie.spec (λ c. search needs) write-checkpoint-requires (λ c κs. search needs) (λ c. search needs)
-    write-checkpoint-requires-2 (λ c κs. search needs) (λ c κs. search needs) (λ c. search needs)
-    write-checkpoint-requires-3 (λ c κs. search needs) (λ c. search needs) (λ c κs. search needs) (λ c. search needs)
-    (λ c. search needs) returns (λ c. search needs) (λ c. search needs) (λ c. search needs) returns-2 (λ c. search needs)
-    (λ c. search needs) returns-3 returns-4)
+pub hand-over-spec : {M : Type 1} → Rattle.c_api.proofs.hand_over.Statement.statement M
+hand-over-spec = tie.close (tie.spec (λ c. search needs) write-checkpoint-requires (λ c κs. search needs) (λ c. search needs)
+    write-checkpoint-requires-2 (λ c κs. search needs) (λ c κs. search needs) (λ c. search needs) write-checkpoint-requires-3 (λ c κs. search needs)
+    (λ c. search needs) (λ c κs. search needs) (λ c. search needs) (λ c. search needs) returns (λ c. search needs) (λ c. search needs)
+    (λ c. search needs) returns-2 (λ c. search needs) (λ c. search needs) returns-3 returns-4)

@@ -1,8 +1,6 @@
 -- `c_api::lengths_fit` meets its contract.
-use native.Mathlib.Omega.{arith}
-use borrow.Author.Tests.{eq-eqb, ne-eqb}
+use Rattle.prelude.specs.Names.{arith, eq-eqb, ne-eqb}
 use Rattle.instance.proofs.Sheets.{valid-says}
-use Rattle.c_api.proofs.lengths_fit.Statement.{statement}
 use Rattle.c_api.proofs.lengths_fit.Tie as tie
 
 returns : tie.Need-returns
@@ -17,5 +15,5 @@ mul-result c = omega (arith, valid-says (c .before .before .before .args .instan
 returns-3 : tie.Need-returns-3
 returns-3 c = rw (eq-eqb _ _ (c .before .before .if1 .left), eq-eqb _ _ (c .before .if2 .left))
 
-pub lengths-fit-spec : {M : Type 1} → statement M
+pub lengths-fit-spec : {M : Type 1} → Rattle.c_api.proofs.lengths_fit.Statement.statement M
 lengths-fit-spec = tie.close (tie.spec returns returns-2 mul-result returns-3)

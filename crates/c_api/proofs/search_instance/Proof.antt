@@ -1,17 +1,12 @@
 -- `c_api::search_instance` meets its contract.
-use mathlib.Core.Path.{_≡_, refl, sym, ap, _∙_}
-use lib.ListN.{length}
-use borrow.Author.Tests.{not-true, not-false}
+use Rattle.prelude.specs.Names.{_≡_, refl, sym, ap, _∙_, length, not-true, not-false, true, needs}
 use Rattle.instance.proofs.Sheets.{valid-says}
 use Rattle.instance.proofs.Arrays.{length-mapped}
 use Rattle.search.specs.Results.{refused, search-result}
 use Rattle.instance.specs.declared.Checkpoint.{Checkpoint}
 use Rattle.c_api.specs.Notes.{Lengths}
 use Rattle.c_api.proofs.Outcomes.{lengths-so, wrong-lengths, no-checkpoint, as-searched, path-fits}
-use mathlib.Core.Bool.{true}
 use Rattle.c_api.specs.Calls.{lengths-fit}
-use borrow.Author.Needs.{needs}
-use Rattle.c_api.proofs.search_instance.Statement.{statement}
 use Rattle.c_api.proofs.search_instance.Tie as tie
 
 long : (c : tie.Start) → length (c .args .instance .items) ≡ 10
@@ -35,18 +30,12 @@ returns c =
     let l = sym (c .before .before .lengths-fit .ensures) ∙ not-true _ (c .before .if1 .taken) in
     rw (wrong-lengths (a .instance) (a .note .now) (a .allowance) _ _ l) (c .refusal-code .ensures, (refl, (refl, refl)))
 
-is-checkpoint-requires : tie.Need-is-checkpoint-requires
-is-checkpoint-requires c κs = right (c .before) .note-is
-
 returns-2 : tie.Need-returns-2
 unfolding refused
 returns-2 c =
     let a = c .before .before .before .before .before .before .before .before .before .args in
     let k = sym (c .before .before .is-checkpoint .ensures) ∙ not-true _ (c .before .if2 .taken) in
     rw (no-checkpoint (a .instance) (a .note .now) (a .allowance) _ _ (fit (c .before .before .before .before)) k) (c .refusal-code2 .ensures, (refl, (refl, refl)))
-
-read-checkpoint-requires : tie.Need-read-checkpoint-requires
-read-checkpoint-requires c κs = right (c .before .before .before .before) .note-is
 
 hand-over-requires : tie.Need-hand-over-requires
 hand-over-requires c κs =
@@ -64,9 +53,7 @@ returns-3 c =
     ∙ sym (c .before .before .before .before .before .before .before .before .before .before .search .ensures .0 ∙ ap (λ (x : Checkpoint). search-result (a .instance) x (a .allowance)) (c .before .before .before .before .before .before .before .before .before .before .before .read-checkpoint .ensures)) in
     rw e (c .before .before .before .before .before .before .hand-over .ensures)
 
-pub search-instance-spec : {M : Type 1} → statement M
-search-instance-spec =
-    tie.close
-    (tie.spec (λ c κs. search needs) (λ c κs. search needs) returns is-checkpoint-requires (λ c κs. search needs)
-    (λ c. search needs) returns-2 read-checkpoint-requires (λ c κs. search needs) hand-over-requires (λ c. search needs)
-    (λ c. search needs) (λ c. search needs) returns-3)
+pub search-instance-spec : {M : Type 1} → Rattle.c_api.proofs.search_instance.Statement.statement M
+search-instance-spec = tie.close (tie.spec (λ c κs. search needs) (λ c κs. search needs) returns (λ c κs. right (c .before) .note-is)
+    (λ c κs. search needs) (λ c. search needs) returns-2 (λ c κs. right (c .before .before .before .before) .note-is) (λ c κs. search needs)
+    hand-over-requires (λ c. search needs) (λ c. search needs) (λ c. search needs) returns-3)

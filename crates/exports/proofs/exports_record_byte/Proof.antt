@@ -1,13 +1,6 @@
 -- Within the record its byte, past its end 256.
-use mathlib.Core.Path.{_≡_, sym, ap, _∙_}
-use mathlib.Core.Bool.{Bool, cond}
-use mathlib.Core.List.{List}
-use Prim.Native.Nat.{ℕ, _<_, _≤_}
-use lib.ListN.{length, getD}
-use borrow.Author.Tests.{lt-ltb, le-ltb}
+use Rattle.prelude.specs.Names.{_≡_, sym, ap, _∙_, Bool, cond, List, ℕ, _<_, _≤_, length, getD, lt-ltb, le-ltb, needs}
 use Rattle.exports.specs.Exports.{byte-at}
-use borrow.Author.Needs.{needs}
-use Rattle.exports.proofs.exports_record_byte.Statement.{statement}
 use Rattle.exports.proofs.exports_record_byte.Tie as tie
 
 within : (s : List ℕ) (i : ℕ) → i < length s → getD s i 0 ≡ byte-at s i
@@ -26,7 +19,5 @@ returns-2 c =
     let i = c .before .before .before .before .before .args .i in
     c .wide .ensures .0 ∙ within _ i (c .before .before .if1 .left) ∙ ap (λ s. byte-at s i) (c .before .before .before .item-record .ensures)
 
-pub exports-record-byte-spec : {M : Type 1} → statement M
-exports-record-byte-spec =
-    tie.close
-    (tie.spec (λ c κs. search needs) returns (λ c. search needs) (λ c κs. search needs) returns-2)
+pub exports-record-byte-spec : {M : Type 1} → Rattle.exports.proofs.exports_record_byte.Statement.statement M
+exports-record-byte-spec = tie.close (tie.spec (λ c κs. search needs) returns (λ c. search needs) (λ c κs. search needs) returns-2)

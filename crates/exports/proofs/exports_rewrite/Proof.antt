@@ -1,13 +1,10 @@
 -- Where the sheet reads, what writing returns and leaves; else nothing.
-use mathlib.Core.Path.{_≡_, refl, sym}
-use mathlib.Core.Logic.{inl, inr}
+use Rattle.prelude.specs.Names.{_≡_, refl, sym, inl, inr, needs}
 use Rattle.refusal.specs.declared.Refusal.{Refusal}
 use Rattle.refusal.specs.Numbers.{number-of, place-of}
 use Rattle.instance.specs.declared.ReadResult.{ReadResult}
-use Rattle.instance.specs.declared.ReadAnswer.the-variants as R
 use Rattle.instance.specs.Answers.{read-values}
-use borrow.Author.Needs.{needs}
-use Rattle.exports.proofs.exports_rewrite.Statement.{statement}
+use Rattle.instance.specs.declared.ReadAnswer.the-variants as R
 use Rattle.exports.proofs.exports_rewrite.Tie as tie
 
 read : (r r′ : ReadResult) → r ≡ r′ → r .answer ≡ R.Read → read-values r′ ≡ inl (r .instance)
@@ -27,5 +24,5 @@ returns-2 c =
     let e = refused _ _ (c .before .before .before .read .ensures) _ (c .enum-told2 .given .1) in
     (rw e, rw e)
 
-pub exports-rewrite-spec : {M : Type 1} → statement M
+pub exports-rewrite-spec : {M : Type 1} → Rattle.exports.proofs.exports_rewrite.Statement.statement M
 exports-rewrite-spec = tie.close (tie.spec (λ c κs. search needs) (λ c. search needs) (λ c κs. search needs) (λ c κs. search needs) (λ c. search needs) (λ c. search needs) returns returns-2)

@@ -1,6 +1,5 @@
 -- `writer::write` of the value.
-use borrow.Author.Needs.{needs}
-use Rattle.exports.proofs.exports_write.Statement.{statement}
+use Rattle.prelude.specs.Names.{needs}
 use Rattle.exports.proofs.exports_write.Tie as tie
 
 returns : tie.Need-returns
@@ -9,5 +8,5 @@ returns c =
     let v = c .before .before .before .before .before .instance-in .ensures in
     (rw (c .write-length .ensures, w .0, v), rw (w .1 .0, v))
 
-pub exports-write-spec : {M : Type 1} → statement M
+pub exports-write-spec : {M : Type 1} → Rattle.exports.proofs.exports_write.Statement.statement M
 exports-write-spec = tie.close (tie.spec (λ c κs. search needs) (λ c κs. search needs) (λ c κs. search needs) (λ c. search needs) returns)

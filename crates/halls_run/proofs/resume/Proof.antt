@@ -1,8 +1,4 @@
-use native.Mathlib.Omega.{arith}
-use mathlib.Core.Path.{sym}
-use lib.Seq.{length-take-le}
-use borrow.Author.Needs.{needs}
-use Rattle.halls_run.proofs.resume.Statement.{statement}
+use Rattle.prelude.specs.Names.{arith, sym, length-take-le, needs}
 use Rattle.halls_run.proofs.resume.Tie as tie
 use Rattle.halls_run.proofs.resume.Reads as reads
 use Rattle.halls_run.proofs.resume.Lts as lts
@@ -14,8 +10,6 @@ use Rattle.search.proofs.search.Reads as search-reads
 slice-aggregate-write-all : tie.Need-slice-aggregate-write-all
 slice-aggregate-write-all c = sym (length-take-le (c .before .before .result-text .result) (c .before .before .result-text .last .0) (omega (arith, c .before .before .result-text .kept .0)))
 
-pub resume-spec : {M : Type 1} → statement M
-resume-spec =
-    tie.close
-    (tie.spec (λ c κs. search needs) (λ c. search needs) (λ c κs. search needs) (λ c. search needs) slice-aggregate-write-all
+pub resume-spec : {M : Type 1} → Rattle.halls_run.proofs.resume.Statement.statement M
+resume-spec = tie.close (tie.spec (λ c κs. search needs) (λ c. search needs) (λ c κs. search needs) (λ c. search needs) slice-aggregate-write-all
     (λ c κs. search needs) (λ c. search needs))

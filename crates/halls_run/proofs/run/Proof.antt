@@ -1,8 +1,4 @@
-use native.Mathlib.Omega.{arith}
-use mathlib.Core.Path.{sym}
-use lib.Seq.{length-take-le}
-use borrow.Author.Needs.{needs}
-use Rattle.halls_run.proofs.run.Statement.{statement}
+use Rattle.prelude.specs.Names.{arith, sym, length-take-le, needs}
 use Rattle.halls_run.proofs.run.Tie as tie
 use Rattle.halls_run.proofs.run.Reads as reads
 use Rattle.halls_run.proofs.run.Lts as lts
@@ -13,8 +9,6 @@ use Rattle.planner.proofs.sheet_text.Reads as sheet-text-reads
 slice-aggregate-write-all : tie.Need-slice-aggregate-write-all
 slice-aggregate-write-all c = sym (length-take-le (c .before .before .sheet-text .result) (c .before .before .sheet-text .last .0) (omega (arith, c .before .before .sheet-text .kept .0)))
 
-pub run-spec : {M : Type 1} → statement M
-run-spec =
-    tie.close
-    (tie.spec (λ c. search needs) (λ c κs. search needs) (λ c. search needs) slice-aggregate-write-all (λ c κs. search needs)
+pub run-spec : {M : Type 1} → Rattle.halls_run.proofs.run.Statement.statement M
+run-spec = tie.close (tie.spec (λ c. search needs) (λ c κs. search needs) (λ c. search needs) slice-aggregate-write-all (λ c κs. search needs)
     (λ c. search needs))

@@ -1,41 +1,29 @@
 -- `packing::clearance` meets its contract.
+use Rattle.prelude.specs.Names.{true, _≡_, ap, arith, lt-ltb, le-ltb, needs}
 use Rattle.packing.proofs.Answers.{answered}
+use Rattle.packing.proofs.Decides.{passes, failed}
 use Rattle.packing.specs.declared.ClearanceAnswer.the-variants.{Clearance}
-use mathlib.Core.Path.{refl, sym, ap, _∙_}
-use native.Mathlib.Omega.{arith}
-use borrow.Author.Tests.{not-true, not-false, lt-ltb, le-ltb}
-use mir.Syntax.{w32}
-use mir.ValLaws.{toZ-ofZ}
+use Rattle.instance.specs.Valid.{valid}
 use Rattle.packing.specs.Clearance.{clearance-answer}
-use Rattle.packing.proofs.Named.{limits}
-use borrow.Author.Needs.{needs}
-use Rattle.packing.proofs.clearance.Statement.{statement}
+use Rattle.instance.proofs.Sheets.{valid-says}
+use Rattle.packing.proofs.Gaps.{as-told}
 use Rattle.packing.proofs.clearance.Tie as tie
 
-returns : tie.Need-returns
+-- the value is an instance
+is-instance : (c : tie.Else1) → valid (c .before .before .args .instance) ≡ true
+is-instance c = passes (c .before .is-valid .ensures) (c .if1 .left)
+
+pub clearance-spec : {M : Type 1} → Rattle.packing.proofs.clearance.Statement.statement M
 unfolding clearance-answer
-returns c = answered _ _ _ _ _ _ (sym (rw (← (c .before .is-valid .ensures), not-true (c .before .is-valid .result) (c .if1 .taken)) refl))
-
-returns-2 : tie.Need-returns-2
-unfolding clearance-answer
-returns-2 c = answered _ _ _ _ _ _ (sym (rw (← (c .before .before .is-valid .ensures), not-false (c .before .before .is-valid .result) (c .before .if1 .left), le-ltb _ _ (c .if2 .taken)) refl))
-
-returns-3 : tie.Need-returns-3
-unfolding clearance-answer
-returns-3 c = answered _ _ _ _ _ _ (sym (rw (← (c .before .before .before .is-valid .ensures), not-false (c .before .before .before .is-valid .result) (c .before .before .if1 .left), lt-ltb _ _ (c .before .if2 .left), le-ltb _ _ (c .if3 .taken)) refl))
-
-returns-4 : tie.Need-returns-4
-unfolding clearance-answer
-returns-4 c = answered _ _ _ _ _ _ (sym (rw (← (c .before .before .before .before .is-valid .ensures), not-false (c .before .before .before .before .is-valid .result) (c .before .before .before .if1 .left), lt-ltb _ _ (c .before .before .if2 .left), lt-ltb _ _ (c .before .if3 .left), le-ltb _ 3 (c .if4 .taken)) refl))
-
-clearance-on-requires : tie.Need-clearance-on-requires
-clearance-on-requires c κs = let l = limits (c .before .before .before .before .before .args .instance) (sym (c .before .before .before .before .is-valid .ensures) ∙ not-false _ (c .before .before .before .if1 .left)) in omega (arith, l .few-items)
-
-returns-5 : tie.Need-returns-5
-unfolding clearance-answer
-returns-5 c = answered _ _ _ _ _ _ (sym (rw (← (c .before .before .before .before .before .is-valid .ensures), not-false (c .before .before .before .before .before .is-valid .result) (c .before .before .before .before .if1 .left), lt-ltb _ _ (c .before .before .before .if2 .left), lt-ltb _ _ (c .before .before .if3 .left), lt-ltb (c .before .before .before .before .before .before .args .axis) 3 (omega arith)) (ap Clearance (sym (toZ-ofZ w32 _ (record { sfits = c .clearance-on .ok }) ∙ c .clearance-on .ensures)))))
-
-pub clearance-spec : {M : Type 1} → statement M
-clearance-spec =
-    tie.close
-    (tie.spec (λ c κs. search needs) returns returns-2 returns-3 returns-4 clearance-on-requires returns-5)
+clearance-spec = tie.close (tie.spec (λ c κs. search needs) (λ c. answered _ _ _ _ _ _ (rw (failed (c .before .is-valid .ensures) (c .if1 .taken))))
+    (λ c. answered _ _ _ _ _ _ (rw (is-instance (c .before), le-ltb _ _ (c .if2 .taken))))
+    (λ c. answered _ _ _ _ _ _ (rw (is-instance (c .before .before), lt-ltb _ _ (c .before .if2 .left), le-ltb _ _ (c .if3 .taken))))
+    (λ c. let d = c .before .before in
+    answered _ _ _ _ _ _ (rw (is-instance (d .before), lt-ltb _ _ (d .if2 .left), lt-ltb _ _ (c .before .if3 .left), le-ltb _ 3 (c .if4 .taken))))
+    (λ c κs. let l = valid-says _ (is-instance (c .before .before .before)) .items-few in omega arith) (λ c. let d = c .before .before .before in
+    answered _ _ _ _ _ _ (rw (
+      is-instance (d .before),
+      lt-ltb _ _ (d .if2 .left),
+      lt-ltb _ _ (c .before .before .if3 .left),
+      lt-ltb (d .before .before .before .args .axis) 3 (omega arith),
+    ) (ap Clearance (as-told (c .clearance-on .ok) (c .clearance-on .ensures))))))

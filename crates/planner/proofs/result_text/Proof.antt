@@ -1,7 +1,6 @@
 -- `planner::result_text` meets its contract.
+use Rattle.prelude.specs.Names.{needs}
 use Rattle.planner.proofs.Programs.{text-packed, text-infeasible, text-spent, text-refused-call}
-use borrow.Author.Needs.{needs}
-use Rattle.planner.proofs.result_text.Statement.{statement}
 use Rattle.planner.proofs.result_text.Tie as tie
 
 returns : tie.Need-returns
@@ -16,9 +15,7 @@ returns-3 c = let a = c .before .before .before .before .before .before .before 
 returns-4 : tie.Need-returns-4
 returns-4 c = let a = c .before .before .before .before .before .before .before .before .before .args in let w = c .before .before .refused .ensures in rw (text-refused-call (a .n) (a .result) (c .before .before .before .before .before .answer .given .1)) (w .0, w .1)
 
-pub result-text-spec : {M : Type 1} → statement M
-result-text-spec =
-    tie.close
-    (tie.spec (λ c. search needs) (λ c κs. search needs) (λ c. search needs) (λ c κs. search needs) (λ c. search needs)
-    (λ c κs. search needs) (λ c. search needs) (λ c κs. search needs) (λ c. search needs) returns (λ c. search needs)
-    returns-2 (λ c. search needs) returns-3 (λ c. search needs) returns-4)
+pub result-text-spec : {M : Type 1} → Rattle.planner.proofs.result_text.Statement.statement M
+result-text-spec = tie.close (tie.spec (λ c. search needs) (λ c κs. search needs) (λ c. search needs) (λ c κs. search needs) (λ c. search needs)
+    (λ c κs. search needs) (λ c. search needs) (λ c κs. search needs) (λ c. search needs) returns (λ c. search needs) returns-2 (λ c. search needs)
+    returns-3 (λ c. search needs) returns-4)

@@ -1,8 +1,6 @@
 -- `planner::sheet_text` meets its contract.
-use native.Mathlib.Omega.{arith}
+use Rattle.prelude.specs.Names.{arith, needs}
 use Rattle.planner.proofs.Programs.{text-read, text-refused, few-items}
-use borrow.Author.Needs.{needs}
-use Rattle.planner.proofs.sheet_text.Statement.{statement}
 use Rattle.planner.proofs.sheet_text.Tie as tie
 
 result-text-requires : tie.Need-result-text-requires
@@ -19,8 +17,6 @@ returns-2 c =
     let w = c .before .before .refused .ensures in
     rw (text-refused (c .before .before .before .before .before .before .before .before .before .before .args .sheet .now) (c .before .before .before .before .before .before .before .read .result) (c .before .before .before .before .before .before .before .read .ensures) (c .before .before .before .before .before .answer .given .1)) (w .0, w .1)
 
-pub sheet-text-spec : {M : Type 1} → statement M
-sheet-text-spec =
-    tie.close
-    (tie.spec (λ c κs. search needs) (λ c. search needs) (λ c κs. search needs) (λ c κs. search needs) result-text-requires
+pub sheet-text-spec : {M : Type 1} → Rattle.planner.proofs.sheet_text.Statement.statement M
+sheet-text-spec = tie.close (tie.spec (λ c κs. search needs) (λ c. search needs) (λ c κs. search needs) (λ c κs. search needs) result-text-requires
     (λ c. search needs) (λ c κs. search needs) (λ c. search needs) returns (λ c. search needs) returns-2)

@@ -1,21 +1,9 @@
 -- `report::packed` meets its contract.
-use Rattle.report.specs.Text.{max-text}
-use borrow.Author.Needs.{needs}
-use native.Mathlib.Omega.{arith}
-use mathlib.Core.Path.{_≡_, _∙_}
-use Prim.Native.Nat.{_+_, _≤_}
-use lib.ListN.{length, length-append}
+use Rattle.prelude.specs.Names.{needs, arith, _≡_, _∙_, _+_, _≤_, length, length-append}
+use Rattle.report.specs.Text.{max-text, placed, answer-line, item-lines, packed-text}
 use Rattle.formats.proofs.Stores.{sets-front}
-use Rattle.report.specs.Text.{placed, answer-line, item-lines, packed-text}
 use Rattle.report.proofs.Puts.{joined}
-use Rattle.report.proofs.packed.Statement.{statement}
 use Rattle.report.proofs.packed.Tie as tie
-
-put-answer-requires : tie.Need-put-answer-requires
-put-answer-requires c κs = (omega arith, omega arith)
-
-put-items-requires : tie.Need-put-items-requires
-put-items-requires c κs = (omega arith, omega (arith, c .before .before .before .put-answer .kept .0))
 
 same-length : tie.Need-same-length
 same-length c = omega (arith, c .before .before .before .before .before .before .put-answer .kept .0, c .before .before .put-items .kept .0)
@@ -30,7 +18,6 @@ returns c =
     let start : c .before .before .before .before .before .before .put-answer .result ≡ 0 + length (answer-line placed (a .steps)) = omega (arith, w .0) in
     ((omega (arith, w .0, x .0), omega (arith, w .0, x .0, c .before .before .before .before .before .before .before .before .before .before .pre)), rw (x .1, w .1) (joined (a .out .now) (answer-line placed (a .steps)) (item-lines (a .packing) (a .n)) 0 (c .before .before .before .before .before .before .put-answer .result) start ∙ sets-front (packed-text (a .steps) (a .packing) (a .n)) (a .out .now) (omega (arith, c .before .before .before .before .before .before .before .before .before .before .pre))))
 
-pub packed-spec : {M : Type 1} → statement M
-packed-spec =
-    tie.close
-    (tie.spec (λ c. search needs) put-answer-requires put-items-requires same-length returns)
+pub packed-spec : {M : Type 1} → Rattle.report.proofs.packed.Statement.statement M
+packed-spec = tie.close (tie.spec (λ c. search needs) (λ c κs. (omega arith, omega arith))
+    (λ c κs. (omega arith, omega (arith, c .before .before .before .put-answer .kept .0))) same-length returns)

@@ -1,18 +1,16 @@
 -- `search::search` meets its contract.
-use mathlib.Core.Bool.{true}
-use mathlib.Core.Path.{_≡_, sym, _∙_}
-use borrow.Author.Needs.{needs}
-use borrow.Author.Tests.{not-true, not-false}
-use Rattle.model.specs.Search as S
+use Rattle.prelude.specs.Names.{true, _≡_, refl, sym, _∙_, needs, not-true, not-false}
 use Rattle.instance.proofs.Arrays.{length-mapped}
 use Rattle.instance.specs.Meaning.{problem-of}
 use Rattle.instance.specs.Reads.{Full}
 use Rattle.instance.specs.Valid.{valid}
-use Rattle.search.specs.Checkpoints.{well-formed, following, Bits}
-use Rattle.search.specs.Results.{search-result}
+use Rattle.instance.specs.declared.Status.{Status}
+use Rattle.search.specs.Checkpoints.{path-of, with-status, well-formed, following, Bits}
+use Rattle.search.specs.Results.{followed, infeasible-after, search-result}
+use Rattle.search.specs.declared.answer.SearchResult.{SearchResult}
 use Rattle.search.proofs.Checkpoints.{well-formed-bits}
 use Rattle.search.proofs.Outcome.{comes-infeasible, comes-again, searched}
-use Rattle.search.proofs.search.Statement.{statement}
+use Rattle.model.specs.Search as S
 use Rattle.search.proofs.search.Tie as tie
 
 -- as every value of the type
@@ -31,6 +29,21 @@ passed c =
 bits : (c : tie.Else2) → let a = arguments c .args in (valid (a .instance) ≡ true) × Bits (a .checkpoint .length) (a .checkpoint .branches)
 bits c = (passed c .0, well-formed-bits (arguments c .args .checkpoint) (passed c .1))
 
+-- by the status
+answered : (c : tie.Else2) {s : Status} → arguments c .args .checkpoint .status ≡ s → {r : SearchResult} → let a = arguments c .args in
+    r ≡ followed (problem-of (a .instance)) (a .budget) (a .checkpoint) (with-status s (path-of (a .checkpoint .length) (a .checkpoint .branches)))
+    → (r ≡ search-result (a .instance) (a .checkpoint) (a .budget)) × Full (a .instance)
+answered c told h =
+    let a = arguments c .args in
+    (searched (a .instance) (a .checkpoint) (a .budget) (passed c .0) (passed c .1) told h, full (arguments c))
+
+infeasible-again : (c : tie.Else2) → let a = arguments c .args in
+    infeasible-after 0 ≡ followed (problem-of (a .instance)) (a .budget) (a .checkpoint) S.infeasible
+infeasible-again c =
+    let a = arguments c .args in
+    comes-infeasible (problem-of (a .instance)) (a .budget) (a .checkpoint) S.infeasible refl
+    (comes-again (problem-of (a .instance)) (a .budget) (a .checkpoint) S.infeasible tt)
+
 returns : tie.Need-returns
 unfolding search-result
 returns c =
@@ -45,32 +58,9 @@ returns-2 c =
     let valid = not-false (v .result) (c .before .before .before .if1 .left) in
     (rw (← (v .ensures), valid, ← (w .ensures), not-true (w .result) (c .before .if2 .taken)) (c .refused2 .ensures), full (c .before .before .before .before .before))
 
-returns-3 : tie.Need-returns-3
-returns-3 c =
-    let e = c .before .before .before in
-    let a = arguments e .args in
-    let told = c .before .enum-told .given .1 in
-    (searched (a .instance) (a .checkpoint) (a .budget) (passed e .0) (passed e .1) told (c .run .ensures), full (arguments e))
-
-returns-4 : tie.Need-returns-4
-returns-4 c =
-    let e = c .before .before .before in
-    let a = arguments e .args in
-    let p = problem-of (a .instance) in
-    let told = c .before .enum-told2 .given .1 in
-    let again = comes-infeasible p (a .budget) S.infeasible (comes-again p (a .budget) S.infeasible tt) in
-    (searched (a .instance) (a .checkpoint) (a .budget) (passed e .0) (passed e .1) told (c .infeasible .ensures ∙ again), full (arguments e))
-
-returns-5 : tie.Need-returns-5
-returns-5 c =
-    let e = c .before .before .before in
-    let a = arguments e .args in
-    let told = c .before .enum-told3 .given .1 in
-    (searched (a .instance) (a .checkpoint) (a .budget) (passed e .0) (passed e .1) told (c .repeat .ensures (a .budget)), full (arguments e))
-
-pub search-spec : {M : Type 1} → statement M
-search-spec =
-    tie.close
-    (tie.spec (λ c κs. search needs) (λ c κs. search needs) returns (λ c κs. search needs) (λ c κs. search needs) returns-2
+pub search-spec : {M : Type 1} → Rattle.search.proofs.search.Statement.statement M
+search-spec = tie.close (tie.spec (λ c κs. search needs) (λ c κs. search needs) returns (λ c κs. search needs) (λ c κs. search needs) returns-2
     (λ c. search needs) (λ c κs. bits (c .before .before)) (λ c. search needs) (λ c κs. search needs) (λ c. search needs)
-    (λ c κs. bits (c .before .before)) returns-3 returns-4 returns-5)
+    (λ c κs. bits (c .before .before)) (λ c. answered (c .before .before .before) (c .before .enum-told .given .1) (c .run .ensures))
+    (λ c. let e = c .before .before .before in answered e (c .before .enum-told2 .given .1) (c .infeasible .ensures ∙ infeasible-again e))
+    (λ c. let e = c .before .before .before in answered e (c .before .enum-told3 .given .1) (c .repeat .ensures (arguments e .args .budget))))

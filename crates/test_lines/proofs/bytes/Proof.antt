@@ -1,7 +1,5 @@
 -- Ends at n, or earlier at the end of the bytes.
-use borrow.Author.Needs.{needs}
-use Prim.Native.Nat.{_-_}
-use Rattle.test_lines.proofs.bytes.Statement.{statement}
+use Rattle.prelude.specs.Names.{needs, _-_}
 use Rattle.test_lines.proofs.bytes.Tie as tie
 
 abbrev Inv-loop : tie.InvT-loop
@@ -10,9 +8,6 @@ Inv-loop s n i₀ i = Unit {0}
 abbrev μ-loop : tie.MeasureT-loop
 μ-loop s n i₀ i = n - i
 
-pub bytes-spec : {M : Type 1} → statement M
-bytes-spec =
-    tie.close
-    (tie.spec Inv-loop μ-loop (λ c. search needs) (λ c κs. search needs) (λ c. search needs) (λ c. search needs)
-    (λ c. search needs) (λ c κs. search needs) (λ c κs. search needs) (λ c. search needs) (λ c. search needs)
-    (λ c. search needs) (λ c. search needs))
+pub bytes-spec : {M : Type 1} → Rattle.test_lines.proofs.bytes.Statement.statement M
+bytes-spec = tie.close (tie.spec Inv-loop μ-loop (λ c. search needs) (λ c κs. search needs) (λ c. search needs) (λ c. search needs)
+    (λ c. search needs) (λ c κs. search needs) (λ c κs. search needs) (λ c. search needs) (λ c. search needs) (λ c. search needs) (λ c. search needs))

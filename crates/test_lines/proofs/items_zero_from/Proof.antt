@@ -1,7 +1,5 @@
 -- Ends at the end of the array.
-use borrow.Author.Needs.{needs}
-use Prim.Native.Nat.{_-_}
-use Rattle.test_lines.proofs.items_zero_from.Statement.{statement}
+use Rattle.prelude.specs.Names.{needs, _-_}
 use Rattle.test_lines.proofs.items_zero_from.Tie as tie
 
 abbrev Inv-loop : tie.InvT-loop
@@ -10,8 +8,6 @@ Inv-loop n items i₀ i = Unit {0}
 abbrev μ-loop : tie.MeasureT-loop
 μ-loop n items i₀ i = 10 - i
 
-pub items-zero-from-spec : {M : Type 1} → statement M
-items-zero-from-spec =
-    tie.close
-    (tie.spec Inv-loop μ-loop (λ c. search needs) (λ c. search needs) (λ c. search needs) (λ c κs. search needs)
+pub items-zero-from-spec : {M : Type 1} → Rattle.test_lines.proofs.items_zero_from.Statement.statement M
+items-zero-from-spec = tie.close (tie.spec Inv-loop μ-loop (λ c. search needs) (λ c. search needs) (λ c. search needs) (λ c κs. search needs)
     (λ c. search needs) (λ c. search needs) (λ c. search needs) (λ c. search needs) (λ c. search needs))

@@ -1,7 +1,5 @@
 -- Ends at m, or earlier at the end of the array.
-use borrow.Author.Needs.{needs}
-use Prim.Native.Nat.{_-_}
-use Rattle.test_lines.proofs.precedences_below.Statement.{statement}
+use Rattle.prelude.specs.Names.{needs, _-_}
 use Rattle.test_lines.proofs.precedences_below.Tie as tie
 
 abbrev Inv-loop : tie.InvT-loop
@@ -10,9 +8,7 @@ Inv-loop m precedences i₀ i = Unit {0}
 abbrev μ-loop : tie.MeasureT-loop
 μ-loop m precedences i₀ i = m - i
 
-pub precedences-below-spec : {M : Type 1} → statement M
-precedences-below-spec =
-    tie.close
-    (tie.spec Inv-loop μ-loop (λ c. search needs) (λ c. search needs) (λ c. search needs) (λ c. search needs)
-    (λ c. search needs) (λ c κs. search needs) (λ c. search needs) (λ c κs. search needs) (λ c. search needs)
-    (λ c. search needs) (λ c. search needs) (λ c. search needs))
+pub precedences-below-spec : {M : Type 1} → Rattle.test_lines.proofs.precedences_below.Statement.statement M
+precedences-below-spec = tie.close (tie.spec Inv-loop μ-loop (λ c. search needs) (λ c. search needs) (λ c. search needs) (λ c. search needs)
+    (λ c. search needs) (λ c κs. search needs) (λ c. search needs) (λ c κs. search needs) (λ c. search needs) (λ c. search needs) (λ c. search needs)
+    (λ c. search needs))

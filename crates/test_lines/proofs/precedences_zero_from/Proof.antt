@@ -1,7 +1,5 @@
 -- Ends at the end of the array.
-use borrow.Author.Needs.{needs}
-use Prim.Native.Nat.{_-_}
-use Rattle.test_lines.proofs.precedences_zero_from.Statement.{statement}
+use Rattle.prelude.specs.Names.{needs, _-_}
 use Rattle.test_lines.proofs.precedences_zero_from.Tie as tie
 
 abbrev Inv-loop : tie.InvT-loop
@@ -10,8 +8,6 @@ Inv-loop m precedences i₀ i = Unit {0}
 abbrev μ-loop : tie.MeasureT-loop
 μ-loop m precedences i₀ i = 90 - i
 
-pub precedences-zero-from-spec : {M : Type 1} → statement M
-precedences-zero-from-spec =
-    tie.close
-    (tie.spec Inv-loop μ-loop (λ c. search needs) (λ c. search needs) (λ c. search needs) (λ c. search needs)
+pub precedences-zero-from-spec : {M : Type 1} → Rattle.test_lines.proofs.precedences_zero_from.Statement.statement M
+precedences-zero-from-spec = tie.close (tie.spec Inv-loop μ-loop (λ c. search needs) (λ c. search needs) (λ c. search needs) (λ c. search needs)
     (λ c. search needs) (λ c. search needs) (λ c. search needs) (λ c. search needs) (λ c. search needs))

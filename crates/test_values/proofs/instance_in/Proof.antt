@@ -1,7 +1,6 @@
 -- `test_values::instance_in` meets its contract.
+use Rattle.prelude.specs.Names.{needs}
 use Rattle.test_values.specs.Values.{instance-in}
-use borrow.Author.Needs.{needs}
-use Rattle.test_values.proofs.instance_in.Statement.{statement}
 use Rattle.test_values.proofs.instance_in.Tie as tie
 
 returns : tie.Need-returns
@@ -9,8 +8,6 @@ unfolding instance-in
 returns c =
     rw (c .word-at .ensures, c .before .precedences-in .ensures, c .before .before .number-at2 .ensures, c .before .before .before .items-in .ensures, c .before .before .before .before .number-at .ensures, c .before .before .before .before .before .size-at .ensures)
 
-pub instance-in-spec : {M : Type 1} → statement M
-instance-in-spec =
-    tie.close
-    (tie.spec (λ c κs. search needs) (λ c κs. search needs) (λ c κs. search needs) (λ c κs. search needs)
+pub instance-in-spec : {M : Type 1} → Rattle.test_values.proofs.instance_in.Statement.statement M
+instance-in-spec = tie.close (tie.spec (λ c κs. search needs) (λ c κs. search needs) (λ c κs. search needs) (λ c κs. search needs)
     (λ c κs. search needs) (λ c κs. search needs) returns)

@@ -1,12 +1,8 @@
 -- `test_values::items_in` meets its contract.
-use mathlib.Core.Path.{refl, ap}
-use Prim.Native.Nat.{_+_, _*_, _-_}
-use native.Mathlib.Omega.{arith}
+use Rattle.prelude.specs.Names.{refl, ap, _+_, _*_, _-_, arith, needs}
 use Rattle.parts.specs.declared.Size.{Size}
 use Rattle.test_values.specs.Values.{item-at}
 use Rattle.test_values.proofs.Tables.{Filled, fill-none, fill-next, fill-all}
-use borrow.Author.Needs.{needs}
-use Rattle.test_values.proofs.items_in.Statement.{statement}
 use Rattle.test_values.proofs.items_in.Tie as tie
 
 abbrev Inv-loop : tie.InvT-loop
@@ -21,8 +17,6 @@ loop-again c = fill-next (c .before .before .loop .inv) (omega arith) (ap (λ (z
 returns : tie.Need-returns Inv-loop μ-loop
 returns c = fill-all (c .before .loop .inv) (omega arith)
 
-pub items-in-spec : {M : Type 1} → statement M
-items-in-spec =
-    tie.close
-    (tie.spec Inv-loop μ-loop (λ c. fill-none refl) (λ c. omega arith) (λ c. omega arith) (λ c κs. omega arith) (λ c. omega arith)
-    (λ c. search needs) (λ c. omega arith) (λ c. omega arith) loop-again returns)
+pub items-in-spec : {M : Type 1} → Rattle.test_values.proofs.items_in.Statement.statement M
+items-in-spec = tie.close (tie.spec Inv-loop μ-loop (λ c. fill-none refl) (λ c. omega arith) (λ c. omega arith) (λ c κs. omega arith)
+    (λ c. omega arith) (λ c. search needs) (λ c. omega arith) (λ c. omega arith) loop-again returns)

@@ -1,11 +1,7 @@
 -- `test_values::packing_at` meets its contract.
-use mathlib.Core.Path.{refl}
-use Prim.Native.Nat.{_+_, _*_, _-_}
-use native.Mathlib.Omega.{arith}
+use Rattle.prelude.specs.Names.{refl, _+_, _*_, _-_, arith, needs}
 use Rattle.test_values.specs.Values.{position-at, packing-at}
 use Rattle.test_values.proofs.Tables.{Filled, fill-none, fill-next, fill-all}
-use borrow.Author.Needs.{needs}
-use Rattle.test_values.proofs.packing_at.Statement.{statement}
 use Rattle.test_values.proofs.packing_at.Tie as tie
 
 abbrev Inv-loop : tie.InvT-loop
@@ -21,8 +17,6 @@ returns : tie.Need-returns Inv-loop μ-loop
 unfolding packing-at
 returns c = rw (fill-all (c .before .loop .inv) (omega arith))
 
-pub packing-at-spec : {M : Type 1} → statement M
-packing-at-spec =
-    tie.close
-    (tie.spec Inv-loop μ-loop (λ c. fill-none refl) (λ c. omega arith) (λ c. omega arith) (λ c κs. omega arith) (λ c. omega arith)
-    (λ c. search needs) (λ c. omega arith) (λ c. omega arith) loop-again returns)
+pub packing-at-spec : {M : Type 1} → Rattle.test_values.proofs.packing_at.Statement.statement M
+packing-at-spec = tie.close (tie.spec Inv-loop μ-loop (λ c. fill-none refl) (λ c. omega arith) (λ c. omega arith) (λ c κs. omega arith)
+    (λ c. omega arith) (λ c. search needs) (λ c. omega arith) (λ c. omega arith) loop-again returns)

@@ -1,11 +1,7 @@
 -- `test_values::precedences_in` meets its contract.
-use mathlib.Core.Path.{refl}
-use Prim.Native.Nat.{_+_, _*_, _-_}
-use native.Mathlib.Omega.{arith}
+use Rattle.prelude.specs.Names.{refl, _+_, _*_, _-_, arith, needs}
 use Rattle.test_values.specs.Values.{precedence-at}
 use Rattle.test_values.proofs.Tables.{Filled, fill-none, fill-next, fill-all}
-use borrow.Author.Needs.{needs}
-use Rattle.test_values.proofs.precedences_in.Statement.{statement}
 use Rattle.test_values.proofs.precedences_in.Tie as tie
 
 abbrev Inv-loop : tie.InvT-loop
@@ -20,8 +16,6 @@ loop-again c = fill-next (c .before .before .loop .inv) (omega arith) (c .preced
 returns : tie.Need-returns Inv-loop μ-loop
 returns c = fill-all (c .before .loop .inv) (omega arith)
 
-pub precedences-in-spec : {M : Type 1} → statement M
-precedences-in-spec =
-    tie.close
-    (tie.spec Inv-loop μ-loop (λ c. fill-none refl) (λ c. omega arith) (λ c. omega arith) (λ c κs. omega arith) (λ c. omega arith)
-    (λ c. search needs) (λ c. omega arith) (λ c. omega arith) loop-again returns)
+pub precedences-in-spec : {M : Type 1} → Rattle.test_values.proofs.precedences_in.Statement.statement M
+precedences-in-spec = tie.close (tie.spec Inv-loop μ-loop (λ c. fill-none refl) (λ c. omega arith) (λ c. omega arith) (λ c κs. omega arith)
+    (λ c. omega arith) (λ c. search needs) (λ c. omega arith) (λ c. omega arith) loop-again returns)

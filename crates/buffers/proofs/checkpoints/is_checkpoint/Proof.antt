@@ -1,11 +1,6 @@
 -- `buffers::checkpoints::is_checkpoint` meets its contract.
-use Prim.Native.Nat.{_≤_, _<_}
-use native.Mathlib.Omega.{arith}
-use lib.ListN.{getD}
-use borrow.Author.Tests.{lt-ltb, le-ltb}
+use Rattle.prelude.specs.Names.{_≤_, _<_, arith, getD, lt-ltb, le-ltb, needs}
 use Rattle.buffers.specs.Checkpoints.{is-checkpoint}
-use borrow.Author.Needs.{needs}
-use Rattle.buffers.proofs.checkpoints.is_checkpoint.Statement.{statement}
 use Rattle.buffers.proofs.checkpoints.is_checkpoint.Tie as tie
 
 returns : tie.Need-returns
@@ -18,8 +13,6 @@ returns-2 c =
     let h : getD (c .before .before .before .before .before .args .note .now) 0 0 < 3 = omega arith in
     rw (c .zero-from .ensures, c .before .word-at .ensures, lt-ltb _ _ h)
 
-pub is-checkpoint-spec : {M : Type 1} → statement M
-is-checkpoint-spec =
-    tie.close
-    (tie.spec (λ c. search needs) returns (λ c κs. search needs) (λ c. search needs) (λ c. search needs)
+pub is-checkpoint-spec : {M : Type 1} → Rattle.buffers.proofs.checkpoints.is_checkpoint.Statement.statement M
+is-checkpoint-spec = tie.close (tie.spec (λ c. search needs) returns (λ c κs. search needs) (λ c. search needs) (λ c. search needs)
     (λ c κs. search needs) returns-2)

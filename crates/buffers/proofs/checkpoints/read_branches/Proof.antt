@@ -1,11 +1,6 @@
 -- `buffers::checkpoints::read_branches` meets its contract.
+use Rattle.prelude.specs.Names.{_≡_, refl, _∙_, _-_, _≤_, arith, length, take, drop, replicate, length-set, sets}
 use Rattle.buffers.proofs.CheckpointBytes.{branches-next, branches-read}
-use mathlib.Core.Path.{_≡_, refl, _∙_}
-use Prim.Native.Nat.{_-_, _≤_}
-use native.Mathlib.Omega.{arith}
-use lib.ListN.{length, take, drop, replicate, length-set}
-use lib.Seq.{sets}
-use Rattle.buffers.proofs.checkpoints.read_branches.Statement.{statement}
 use Rattle.buffers.proofs.checkpoints.read_branches.Tie as tie
 
 abbrev Inv-loop : tie.InvT-loop
@@ -29,8 +24,6 @@ returns c =
     let e : l .i ≡ 270 = omega arith in
     l .inv .1 ∙ rw e (branches-read (c .before .before .args .note .now) (replicate 270 0) (omega arith) refl)
 
-pub read-branches-spec : {M : Type 1} → statement M
-read-branches-spec =
-    tie.close
-    (tie.spec Inv-loop μ-loop loop-holds (λ c. omega arith) (λ c. omega arith) (λ c. omega arith) (λ c. omega arith)
+pub read-branches-spec : {M : Type 1} → Rattle.buffers.proofs.checkpoints.read_branches.Statement.statement M
+read-branches-spec = tie.close (tie.spec Inv-loop μ-loop loop-holds (λ c. omega arith) (λ c. omega arith) (λ c. omega arith) (λ c. omega arith)
     (λ c. omega arith) loop-again returns)

@@ -1,12 +1,6 @@
 -- `buffers::checkpoints::write_branches` meets its contract.
-use mathlib.Core.Path.{_≡_, refl}
-use Prim.Native.Nat.{_-_, _≤_}
-use native.Mathlib.Omega.{arith}
-use lib.ListN.{length, take, length-set}
-use lib.Seq.{sets, take-all}
-use borrow.Author.Needs.{needs}
-use Rattle.buffers.proofs.Bytes.{sets-next}
-use Rattle.buffers.proofs.checkpoints.write_branches.Statement.{statement}
+use Rattle.prelude.specs.Names.{_≡_, refl, _-_, _≤_, arith, length, take, length-set, sets, take-all, needs}
+use Rattle.formats.proofs.Stores.{sets-next}
 use Rattle.buffers.proofs.checkpoints.write_branches.Tie as tie
 
 abbrev Inv-loop : tie.InvT-loop
@@ -25,9 +19,6 @@ loop-again c =
     let h : length (a .t2) ≡ 270 = search needs in
     (omega arith, rw (l .inv .1) (sets-next (a .out .now) (a .t2) 3 (l .i) (omega arith)), simp length-set (l .inv .2))
 
-same-length : tie.Need-same-length Inv-loop μ-loop
-same-length c = c .before .loop .inv .2
-
 returns : tie.Need-returns Inv-loop μ-loop
 returns c =
     let l = c .before .loop in
@@ -36,8 +27,6 @@ returns c =
     let e : l .i ≡ 270 = omega arith in
     rw (l .inv .1, e, take-all 270 (a .t2) (omega arith))
 
-pub write-branches-spec : {M : Type 1} → statement M
-write-branches-spec =
-    tie.close
-    (tie.spec Inv-loop μ-loop loop-holds (λ c. omega arith) (λ c. omega arith) (λ c. omega arith) (λ c. omega arith)
-    (λ c. omega arith) loop-again same-length returns)
+pub write-branches-spec : {M : Type 1} → Rattle.buffers.proofs.checkpoints.write_branches.Statement.statement M
+write-branches-spec = tie.close (tie.spec Inv-loop μ-loop loop-holds (λ c. omega arith) (λ c. omega arith) (λ c. omega arith) (λ c. omega arith)
+    (λ c. omega arith) loop-again (λ c. c .before .loop .inv .2) returns)

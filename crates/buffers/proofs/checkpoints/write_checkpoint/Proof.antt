@@ -1,14 +1,7 @@
 -- `buffers::checkpoints::write_checkpoint` meets its contract.
-use mathlib.Core.Path.{_≡_}
-use native.Mathlib.Omega.{arith}
-use lib.ListN.{length, length-set}
+use Rattle.prelude.specs.Names.{_≡_, arith, length, length-set, needs}
 use Rattle.buffers.proofs.CheckpointBytes.{checkpoint-fills}
-use borrow.Author.Needs.{needs}
-use Rattle.buffers.proofs.checkpoints.write_checkpoint.Statement.{statement}
 use Rattle.buffers.proofs.checkpoints.write_checkpoint.Tie as tie
-
-write-word-requires : tie.Need-write-word-requires
-write-word-requires c κs = simp length-set (omega arith)
 
 write-branches-requires : tie.Need-write-branches-requires
 write-branches-requires c κs = omega (arith, simp length-set at (c .before .before .before .write-word .kept .0))
@@ -22,8 +15,6 @@ returns c =
     let l : length (a .checkpoint .branches) ≡ 270 = search needs in
     rw (c .before .before .write-branches .ensures, c .before .before .before .before .before .before .write-word .ensures, c .before .before .before .before .before .before .before .before .before .status-byte .ensures) (checkpoint-fills (a .checkpoint) (a .out .now) (omega arith) l)
 
-pub write-checkpoint-spec : {M : Type 1} → statement M
-write-checkpoint-spec =
-    tie.close
-    (tie.spec (λ c κs. search needs) (λ c. search needs) (λ c. search needs) write-word-requires write-branches-requires
-    same-length returns)
+pub write-checkpoint-spec : {M : Type 1} → Rattle.buffers.proofs.checkpoints.write_checkpoint.Statement.statement M
+write-checkpoint-spec = tie.close (tie.spec (λ c κs. search needs) (λ c. search needs) (λ c. search needs) (λ c κs. simp length-set (omega arith))
+    write-branches-requires same-length returns)

@@ -1,11 +1,7 @@
 -- `buffers::checkpoints::zero_from` meets its contract.
-use mathlib.Core.Path.{_≡_, refl, sym, _∙_}
-use Prim.Native.Nat.{_-_}
-use native.Mathlib.Omega.{arith}
-use lib.ListN.{length, drop}
+use Rattle.prelude.specs.Names.{_≡_, refl, sym, _∙_, _-_, arith, length, drop}
 use Rattle.buffers.specs.Checkpoints.{all-zero}
 use Rattle.buffers.proofs.CheckpointBytes.{zero-pass, zero-fail, zero-done}
-use Rattle.buffers.proofs.checkpoints.zero_from.Statement.{statement}
 use Rattle.buffers.proofs.checkpoints.zero_from.Tie as tie
 
 abbrev Inv-loop : tie.InvT-loop
@@ -26,8 +22,5 @@ loop-again c = sym (zero-pass (c .before .before .before .before .args .s .now) 
 returns-2 : tie.Need-returns-2 Inv-loop μ-loop
 returns-2 c = sym (sym (c .before .loop .inv) ∙ zero-done (c .before .before .args .s .now) (c .before .loop .i) (omega arith))
 
-pub zero-from-spec : {M : Type 1} → statement M
-zero-from-spec =
-    tie.close
-    (tie.spec Inv-loop μ-loop loop-holds (λ c. omega arith) returns (λ c. omega arith) (λ c. omega arith) loop-again
-    returns-2)
+pub zero-from-spec : {M : Type 1} → Rattle.buffers.proofs.checkpoints.zero_from.Statement.statement M
+zero-from-spec = tie.close (tie.spec Inv-loop μ-loop loop-holds (λ c. omega arith) returns (λ c. omega arith) (λ c. omega arith) loop-again returns-2)

@@ -1,10 +1,6 @@
 -- `buffers::positions::read_packing` meets its contract.
-use mathlib.Core.Path.{_≡_}
-use Prim.Native.Nat.{_-_, _≤_}
-use native.Mathlib.Omega.{arith}
-use borrow.Author.Needs.{needs}
+use Rattle.prelude.specs.Names.{_≡_, _-_, _≤_, arith, needs}
 use Rattle.buffers.proofs.Bytes.{ReadTo, read-none, read-next, read-all}
-use Rattle.buffers.proofs.positions.read_packing.Statement.{statement}
 use Rattle.buffers.proofs.positions.read_packing.Tie as tie
 
 abbrev Inv-loop : tie.InvT-loop
@@ -16,9 +12,6 @@ abbrev μ-loop : tie.MeasureT-loop
 loop-holds : tie.Need-loop-holds Inv-loop μ-loop
 loop-holds c = (omega arith, read-none (c .before .args .s .now))
 
-read-position-requires : tie.Need-read-position-requires Inv-loop μ-loop
-read-position-requires c κs = (omega arith, omega arith)
-
 loop-again : tie.Need-loop-again Inv-loop μ-loop
 loop-again c = (omega arith, read-next (c .read-position .result) (c .before .before .loop .inv .1) (omega arith) (c .read-position .ensures))
 
@@ -28,8 +21,6 @@ returns c =
     let e : l .u ≡ c .before .before .before .args .n = omega arith in
     read-all (c .before .before .before .args .s .now) (l .positions) (l .u) (l .inv .1) (omega arith)
 
-pub read-packing-spec : {M : Type 1} → statement M
-read-packing-spec =
-    tie.close
-    (tie.spec Inv-loop μ-loop loop-holds read-position-requires (λ c. search needs) (λ c. omega arith) (λ c. omega arith)
-    (λ c. omega arith) loop-again returns)
+pub read-packing-spec : {M : Type 1} → Rattle.buffers.proofs.positions.read_packing.Statement.statement M
+read-packing-spec = tie.close (tie.spec Inv-loop μ-loop loop-holds (λ c κs. (omega arith, omega arith)) (λ c. search needs) (λ c. omega arith)
+    (λ c. omega arith) (λ c. omega arith) loop-again returns)

@@ -1,16 +1,10 @@
 -- `buffers::positions::write_packing` meets its contract.
-use mathlib.Core.Path.{_≡_, refl, _∙_}
-use Prim.Native.Nat.{_-_, _≤_}
-use native.Mathlib.Omega.{arith}
-use lib.ListN.{length, take}
-use lib.Seq.{sets}
-use borrow.Author.Needs.{needs}
+use Rattle.prelude.specs.Names.{_≡_, refl, _∙_, _-_, _≤_, arith, length, take, sets, needs}
 use Rattle.formats.specs.Formats.{row-bytes}
 use Rattle.formats.proofs.Stores.{row-none}
 use Rattle.buffers.specs.Bytes.{position-bytes}
 use Rattle.instance.proofs.Arrays.{length-mapped}
 use Rattle.buffers.proofs.Bytes.{positions-next, packing-fills}
-use Rattle.buffers.proofs.positions.write_packing.Statement.{statement}
 use Rattle.buffers.proofs.positions.write_packing.Tie as tie
 
 abbrev Inv-loop : tie.InvT-loop
@@ -30,9 +24,6 @@ loop-again c =
     let h : length (a .packing .positions) ≡ 10 = search length-mapped in
     (omega arith, rw (w .ensures, l .inv .1) (positions-next (a .packing .positions) (a .out .now) (l .u) (omega arith)), omega (arith, w .kept .0))
 
-same-length : tie.Need-same-length Inv-loop μ-loop
-same-length c = c .before .loop .inv .2
-
 returns : tie.Need-returns Inv-loop μ-loop
 returns c =
     let l = c .before .loop in
@@ -41,8 +32,6 @@ returns c =
     let e : l .u ≡ a .n = omega arith in
     l .inv .1 ∙ rw e (packing-fills (a .n) (a .packing) (a .out .now) (omega arith) (omega arith))
 
-pub write-packing-spec : {M : Type 1} → statement M
-write-packing-spec =
-    tie.close
-    (tie.spec Inv-loop μ-loop loop-holds (λ c. omega arith) (λ c. search needs) (λ c. omega arith) (λ c κs. omega arith)
-    (λ c. omega arith) (λ c. omega arith) loop-again same-length returns)
+pub write-packing-spec : {M : Type 1} → Rattle.buffers.proofs.positions.write_packing.Statement.statement M
+write-packing-spec = tie.close (tie.spec Inv-loop μ-loop loop-holds (λ c. omega arith) (λ c. search needs) (λ c. omega arith) (λ c κs. omega arith)
+    (λ c. omega arith) (λ c. omega arith) loop-again (λ c. c .before .loop .inv .2) returns)

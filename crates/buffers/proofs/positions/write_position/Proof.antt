@@ -1,7 +1,6 @@
 -- `buffers::positions::write_position` meets its contract.
+use Rattle.prelude.specs.Names.{needs}
 use Rattle.buffers.proofs.Bytes.{position-run}
-use borrow.Author.Needs.{needs}
-use Rattle.buffers.proofs.positions.write_position.Statement.{statement}
 use Rattle.buffers.proofs.positions.write_position.Tie as tie
 
 returns : tie.Need-returns
@@ -9,8 +8,6 @@ returns c =
     let a = c .before .before .before .before .before .before .before .before .before .before .before .before .before .args in
     rw (c .before .before .write-word3 .ensures, c .before .before .before .before .before .before .write-word2 .ensures, c .before .before .before .before .before .before .before .before .before .before .write-word .ensures) (position-run (a .p) (a .out .now) (a .at))
 
-pub write-position-spec : {M : Type 1} → statement M
-write-position-spec =
-    tie.close
-    (tie.spec (λ c κs. search needs) (λ c. search needs) (λ c κs. search needs) (λ c. search needs) (λ c κs. search needs)
-    (λ c. search needs) returns)
+pub write-position-spec : {M : Type 1} → Rattle.buffers.proofs.positions.write_position.Statement.statement M
+write-position-spec = tie.close (tie.spec (λ c κs. search needs) (λ c. search needs) (λ c κs. search needs) (λ c. search needs)
+    (λ c κs. search needs) (λ c. search needs) returns)

@@ -1,15 +1,7 @@
 -- `chains::cuts::above` meets its contract. The set is right for the items below v, which grows up to 10.
-use mathlib.Core.Logic.{⊎-elim}
-use mathlib.Core.Path.{_≡_}
-use Prim.Native.Nat.{_+_, _-_, _≤_}
-use native.Mathlib.Omega.{arith}
-use lib.Dec.{ltb}
-use lib.ListN.{getD}
-use lib.Pow.{pow-mono}
-use borrow.Author.Tests.{lt-ltb, le-ltb}
+use Rattle.prelude.specs.Names.{⊎-elim, _≡_, _+_, _-_, _≤_, arith, ltb, getD, pow-mono, lt-ltb, le-ltb}
 use Rattle.domains.specs.Bits.{Gives}
 use Rattle.chains.proofs.Cutting.{gives-none, gives-shifted, gives-skip}
-use Rattle.chains.proofs.cuts.above.Statement.{statement}
 use Rattle.chains.proofs.cuts.above.Tie as tie
 
 abbrev Inv-loop : tie.InvT-loop
@@ -17,15 +9,6 @@ Inv-loop t at limit found₀ v₀ found v = (v ≤ 10) × Gives v found (λ w. l
 
 abbrev μ-loop : tie.MeasureT-loop
 μ-loop t at limit found₀ v₀ found v = 10 - v
-
-loop-holds : tie.Need-loop-holds Inv-loop μ-loop
-loop-holds c = (omega arith, gives-none _)
-
-cast-found : tie.Need-cast-found Inv-loop μ-loop
-cast-found c = omega arith
-
-shl-found : tie.Need-shl-found Inv-loop μ-loop
-shl-found c = omega arith
 
 loop-again : tie.Need-loop-again Inv-loop μ-loop
 loop-again c =
@@ -40,11 +23,7 @@ loop-again c =
 cast-result : tie.Need-cast-result Inv-loop μ-loop
 cast-result c = let h = c .before .loop .inv in omega (arith, h .1 .small, pow-mono {i = c .before .loop .v} {j = 10} (h .0))
 
-returns : tie.Need-returns Inv-loop μ-loop
-returns c = let e : c .before .loop .v ≡ 10 = omega arith in rw e at (c .before .loop .inv .1)
-
-pub above-spec : {M : Type 1} → statement M
-above-spec =
-    tie.close
-    (tie.spec Inv-loop μ-loop loop-holds (λ c. omega arith) (λ c. omega arith) (λ c. omega arith) cast-found shl-found (λ c. omega arith)
-    (λ c. omega arith) loop-again cast-result returns)
+pub above-spec : {M : Type 1} → Rattle.chains.proofs.cuts.above.Statement.statement M
+above-spec = tie.close (tie.spec Inv-loop μ-loop (λ c. (omega arith, gives-none _)) (λ c. omega arith) (λ c. omega arith) (λ c. omega arith)
+    (λ c. omega arith) (λ c. omega arith) (λ c. omega arith) (λ c. omega arith) loop-again cast-result
+    (λ c. let e : c .before .loop .v ≡ 10 = omega arith in rw e at (c .before .loop .inv .1)))

@@ -1,9 +1,7 @@
 -- `domains::removal::remove_items` meets its contract. The loop's invariant: the relation is removed with the items that are no longer left, and can
 -- be with the others. The measure is the number of those left.
-use native.Mathlib.Omega.{arith}
-use Rattle.domains.proofs.BitLaws.{bit-below}
-use Rattle.domains.proofs.Items.{Dealing, spare-proper, dealing-none, dealing-one, dealing-all}
-use Rattle.domains.proofs.removal.remove_items.Statement.{statement}
+use Rattle.prelude.specs.Names.{arith}
+use Rattle.domains.proofs.ItemByItem.{Dealing, dealing-none, dealing-spare, dealing-one, dealing-all}
 use Rattle.domains.proofs.removal.remove_items.Tie as tie
 
 abbrev Inv-loop : tie.InvT-loop
@@ -12,34 +10,16 @@ Inv-loop k₀ rows₀ queue₀ x line items left₀ k rows queue left = Dealing 
 abbrev μ-loop : tie.MeasureT-loop
 μ-loop k₀ rows₀ queue₀ x line items left₀ k rows queue left = left
 
-remove-one-requires : tie.Need-remove-one-requires Inv-loop μ-loop
-remove-one-requires c κs =
-    let at = c .before .before .before .before in
-    let p = at .before .before .before .pre in
-    let l = at .before .before .loop in
-    let v = at .lowest .result in
-    let e = at .lowest .ensures .2 in
-    let h = bit-below 10 (l .left) v (l .inv .spares .small) e in
-    (l .inv .narrowed .grown .good, p .1, spare-proper (p .2) (p .3) (l .inv .spares) h e, l .inv .spares .spare v h e .1)
-
 loop-again : tie.Need-loop-again Inv-loop μ-loop
 loop-again c =
-    let at = c .before .before .before .before .before in
-    let p = at .before .before .before .pre in
-    let l = at .before .before .loop in
-    let v = at .lowest .result in
-    let e = at .lowest .ensures .2 in
-    let h = bit-below 10 (l .left) v (l .inv .spares .small) e in
-    dealing-one (l .inv) (p .0 .least) (p .1) (spare-proper (p .2) (p .3) (l .inv .spares) h e) e
-    (rw (at .lowest .ensures .0) (c .before .before .before .before .rest .ensures)) (c .remove-one .ensures)
+    let n = c .before .before .before .before .before in
+    dealing-one (n .before .before .loop .inv) (n .lowest .ensures .2)
+    (rw (n .lowest .ensures .0) (c .before .before .before .before .rest .ensures)) (c .remove-one .ensures)
 
-pub remove-items-spec : {M : Type 1} → statement M
-remove-items-spec =
-    tie.close
-    (tie.spec Inv-loop μ-loop (λ c. dealing-none (c .pre .0) (c .pre .4))
+pub remove-items-spec : {M : Type 1} → Rattle.domains.proofs.removal.remove_items.Statement.statement M
+remove-items-spec = tie.close (tie.spec Inv-loop μ-loop (λ c. let (g, hx, ha, hu, s) = c .pre in dealing-none g hx ha hu s)
     (λ c κs. (omega (arith, c .before .loop .inv .spares .small), c .loop-test .taken))
     (λ c κs. (omega (arith, c .before .before .loop .inv .spares .small), c .before .loop-test .taken))
-    remove-one-requires
-    (λ c. c .before .before .before .before .rest .ensures .less)
-    loop-again
-    (λ c. dealing-all (c .before .loop .inv) (c .loop-test .left)))
+    (λ c κs. let n = c .before .before .before .before in let d = n .before .before .loop .inv in
+    let (w, s) = dealing-spare d (n .lowest .result) (n .lowest .ensures .2) in (d .narrowed .grown .good, d .known .1, w, s))
+    (λ c. c .before .before .before .before .rest .ensures .less) loop-again (λ c. dealing-all (c .before .loop .inv) (c .loop-test .left)))

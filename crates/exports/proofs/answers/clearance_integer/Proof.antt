@@ -1,11 +1,9 @@
 -- The number that the answer holds, or 0.
+use Rattle.prelude.specs.Names.{ap, sym, _∙_, needs}
 use mir.Syntax.{w32}
 use mir.ValLaws.{toZ-ofZ}
-use mathlib.Core.Path.{ap, sym, _∙_}
 use Rattle.packing.specs.Clearance.{clearance-values}
 use Rattle.exports.specs.Exports.{clearance-in}
-use borrow.Author.Needs.{needs}
-use Rattle.exports.proofs.answers.clearance_integer.Statement.{statement}
 use Rattle.exports.proofs.answers.clearance_integer.Tie as tie
 
 returns : tie.Need-returns
@@ -14,5 +12,5 @@ returns c = toZ-ofZ w32 _ (record { sfits = c .known-told .given .0 .1 }) ∙ ap
 returns-2 : tie.Need-returns-2
 returns-2 c = ap (λ a. clearance-in (clearance-values a)) (sym (c .enum-told .given .1))
 
-pub clearance-integer-spec : {M : Type 1} → statement M
+pub clearance-integer-spec : {M : Type 1} → Rattle.exports.proofs.answers.clearance_integer.Statement.statement M
 clearance-integer-spec = tie.close (tie.spec (λ c. search needs) (λ c. search needs) returns returns-2)

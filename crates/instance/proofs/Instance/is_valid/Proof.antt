@@ -1,32 +1,31 @@
 -- `instance::Instance::is_valid` meets its contract.
-use borrow.Author.Tests.{le-leb, lt-leb, not-true, not-false}
+use Rattle.prelude.specs.Names.{le-leb, lt-leb, not-true, not-false, needs}
 use Rattle.instance.specs.Valid.{valid}
-use borrow.Author.Needs.{needs}
-use Rattle.instance.proofs.Instance.is_valid.Statement.{statement}
 use Rattle.instance.proofs.Instance.is_valid.Tie as tie
 
-returns : tie.Need-returns
+pub is-valid-spec : {M : Type 1} → Rattle.instance.proofs.Instance.is_valid.Statement.statement M
 unfolding valid
-returns c = simp (lt-leb _ _ (c .if1 .taken))
-
-returns-2 : tie.Need-returns-2
-unfolding valid
-returns-2 c = simp (le-leb _ _ (c .before .if1 .left), lt-leb _ _ (c .if2 .taken))
-
-returns-3 : tie.Need-returns-3
-unfolding valid
-returns-3 c = simp (le-leb _ _ (c .before .before .before .before .if1 .left), le-leb _ _ (c .before .before .before .if2 .left), ← (c .before .is-positive .ensures), not-true (c .before .is-positive .result) (c .if3 .taken))
-
-returns-4 : tie.Need-returns-4
-unfolding valid
-returns-4 c = simp (le-leb _ _ (c .before .before .before .before .before .before .before .if1 .left), le-leb _ _ (c .before .before .before .before .before .before .if2 .left), ← (c .before .before .before .before .is-positive .ensures), not-false (c .before .before .before .before .is-positive .result) (c .before .before .before .if3 .left), ← (c .before .all-positive .ensures), not-true (c .before .all-positive .result) (c .if4 .taken))
-
-returns-5 : tie.Need-returns-5
-unfolding valid
-returns-5 c = simp (le-leb _ _ (c .before .before .before .before .before .before .before .before .before .if1 .left), le-leb _ _ (c .before .before .before .before .before .before .before .before .if2 .left), ← (c .before .before .before .before .before .before .is-positive .ensures), not-false (c .before .before .before .before .before .before .is-positive .result) (c .before .before .before .before .before .if3 .left), ← (c .before .before .before .all-positive .ensures), not-false (c .before .before .before .all-positive .result) (c .before .before .if4 .left)) (c .all-in-order .ensures)
-
-pub is-valid-spec : {M : Type 1} → statement M
-is-valid-spec =
-    tie.close
-    (tie.spec returns returns-2 (λ c κs. search needs) returns-3 (λ c κs. search needs) returns-4 (λ c κs. search needs)
-    returns-5)
+is-valid-spec = tie.close (tie.spec (λ c. simp (lt-leb _ _ (c .if1 .taken)))
+    (λ c. simp (le-leb _ _ (c .before .if1 .left), lt-leb _ _ (c .if2 .taken))) (λ c κs. search needs)
+    (λ c. let d = c .before .before .before in let p = c .before .is-positive in
+    simp (le-leb _ _ (d .before .if1 .left), le-leb _ _ (d .if2 .left), ← (p .ensures), not-true (p .result) (c .if3 .taken))) (λ c κs. search needs)
+    (λ c. let e = c .before .before .before in let d = e .before .before .before in let p = e .before .is-positive in
+    let a = c .before .all-positive in
+    simp (
+      le-leb _ _ (d .before .if1 .left),
+      le-leb _ _ (d .if2 .left),
+      ← (p .ensures),
+      not-false (p .result) (e .if3 .left),
+      ← (a .ensures),
+      not-true (a .result) (c .if4 .taken),
+    )) (λ c κs. search needs)
+    (λ c. let f = c .before .before in let e = f .before .before .before in let d = e .before .before .before in let p = e .before .is-positive in
+    let a = f .before .all-positive in
+    simp (
+      le-leb _ _ (d .before .if1 .left),
+      le-leb _ _ (d .if2 .left),
+      ← (p .ensures),
+      not-false (p .result) (e .if3 .left),
+      ← (a .ensures),
+      not-false (a .result) (f .if4 .left),
+    ) (c .all-in-order .ensures)))

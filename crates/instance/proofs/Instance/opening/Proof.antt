@@ -1,12 +1,8 @@
 -- `instance::Instance::opening` meets its contract.
-use mathlib.Core.Path.{refl}
+use Rattle.prelude.specs.Names.{refl}
 use Rattle.instance.specs.Values.{opening-checkpoint}
-use Rattle.instance.proofs.Instance.opening.Statement.{statement}
 use Rattle.instance.proofs.Instance.opening.Tie as tie
 
-returns : tie.Need-returns
+pub opening-spec : {M : Type 1} → Rattle.instance.proofs.Instance.opening.Statement.statement M
 unfolding opening-checkpoint
-returns c = refl
-
-pub opening-spec : {M : Type 1} → statement M
-opening-spec = tie.close (tie.spec returns)
+opening-spec = tie.close (tie.spec (λ c. refl))

@@ -1,25 +1,11 @@
 -- `nodes::branching::pair_at` meets its contract.
+use Rattle.prelude.specs.Names.{refl, _+_, _*_, arith, needs}
 use Rattle.model.specs.Domains.{pairs}
 use Rattle.nodes.proofs.Choosing.{table-at, table-small}
-use native.Mathlib.Omega.{arith}
-use borrow.Author.Needs.{needs}
-use Rattle.nodes.proofs.branching.pair_at.Statement.{statement}
 use Rattle.nodes.proofs.branching.pair_at.Tie as tie
 
-cast-t8 : tie.Need-cast-t8
+pub pair-at-spec : {M : Type 1} → Rattle.nodes.proofs.branching.pair_at.Statement.statement M
 unfolding pairs
-cast-t8 c = omega (arith, table-small (c .args .number) (c .pre))
-
-cast-t14 : tie.Need-cast-t14
-unfolding pairs
-cast-t14 c = omega (arith, table-small (c .args .number) (c .pre))
-
-returns : tie.Need-returns
-unfolding pairs
-returns c = let e = table-at (c .args .number) (c .pre) in record { is-u = e .0; is-v = e .1 }
-
-pub pair-at-spec : {M : Type 1} → statement M
-pair-at-spec =
-    tie.close
-    (tie.spec (λ c. search needs) (λ c. search needs) cast-t8 (λ c. search needs) (λ c. search needs) (λ c. search needs)
-    cast-t14 returns)
+pair-at-spec = tie.close (tie.spec (λ c. search needs) (λ c. search needs) (λ c. omega (arith, table-small (2 * c .args .number) (omega arith)))
+    (λ c. search needs) (λ c. search needs) (λ c. search needs) (λ c. omega (arith, table-small (2 * c .args .number + 1) (omega arith)))
+    (λ c. table-at (c .args .number) _ (c .pre) refl refl))

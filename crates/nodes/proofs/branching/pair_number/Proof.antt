@@ -1,21 +1,13 @@
 -- `nodes::branching::pair_number` meets its contract.
+use Rattle.prelude.specs.Names.{arith, refl, ℕ, _*_, _-_, _≤_, _<_}
 use native.Mathlib.Nat.{mul-le-mul}
-use native.Mathlib.Omega.{arith}
-use mathlib.Core.Path.{refl}
-use Prim.Native.Nat.{_-_}
 use Rattle.model.specs.Domains.{pair-number}
-use Rattle.nodes.proofs.branching.pair_number.Statement.{statement}
 use Rattle.nodes.proofs.branching.pair_number.Tie as tie
 
-mul-result : tie.Need-mul-result
-mul-result c = let v = c .args .v in omega (arith, mul-le-mul {n₁ = v} {m₁ = v - 1} {n₂ = 9} {m₂ = 8} (omega arith) (omega arith))
+product-small : (v : ℕ) → v < 10 → v * (v - 1) ≤ 72
+product-small v h = mul-le-mul {n₁ = v} {m₁ = v - 1} {n₂ = 9} {m₂ = 8} (omega arith) (omega arith)
 
-add-result : tie.Need-add-result
-add-result c = let v = c .args .v in omega (arith, mul-le-mul {n₁ = v} {m₁ = v - 1} {n₂ = 9} {m₂ = 8} (omega arith) (omega arith))
-
-returns : tie.Need-returns
+pub pair-number-spec : {M : Type 1} → Rattle.nodes.proofs.branching.pair_number.Statement.statement M
 unfolding pair-number
-returns c = refl
-
-pub pair-number-spec : {M : Type 1} → statement M
-pair-number-spec = tie.close (tie.spec (λ c. omega arith) mul-result add-result returns)
+pair-number-spec = tie.close (tie.spec (λ c. omega arith) (λ c. omega (arith, product-small (c .args .v) (omega arith)))
+    (λ c. omega (arith, product-small (c .args .v) (omega arith))) (λ c. refl))

@@ -1,31 +1,16 @@
 -- `nodes::levels::save_rows` meets its contract. The loop's invariant: i elements are copied, and all else stays. The measure is what is left.
-use native.Mathlib.Omega.{arith}
-use mathlib.Core.Path.{_≡_, refl}
-use Prim.Native.Nat.{_+_, _*_, _-_, _≤_}
+use Rattle.prelude.specs.Names.{arith, _*_, _-_}
 use Rattle.nodes.proofs.Snapshots.{Copying, copying-none, copying-next, stored}
-use Rattle.nodes.proofs.levels.save_rows.Statement.{statement}
 use Rattle.nodes.proofs.levels.save_rows.Tie as tie
 
 abbrev Inv-loop : tie.InvT-loop
-Inv-loop kept₀ level rows i₀ kept i = (i ≤ 30) × Copying rows 0 kept₀ (level * 30) i kept
+Inv-loop kept₀ level rows i₀ kept i = Copying 30 rows 0 kept₀ (level * 30) i kept
 
 abbrev μ-loop : tie.MeasureT-loop
 μ-loop kept₀ level rows i₀ kept i = 30 - i
 
-loop-holds : tie.Need-loop-holds Inv-loop μ-loop
-loop-holds c = (omega arith, copying-none (c .args .rows .now) 0 (c .args .kept .now) (c .args .level * 30))
-
-loop-again : tie.Need-loop-again Inv-loop μ-loop
-loop-again c =
-    let l = c .before .before .loop in
-    let s = c .before .before .before in
-    (omega arith, copying-next (l .inv .1) (l .i) (s .args .level * 30 + l .i) (omega arith) refl (omega (arith, s .pre .room, s .pre .level-below)))
-
-returns : tie.Need-returns Inv-loop μ-loop
-returns c = let all : c .before .loop .i ≡ 30 = omega arith in stored (c .before .before .pre) (rw all at (c .before .loop .inv .1))
-
-pub save-rows-spec : {M : Type 1} → statement M
-save-rows-spec =
-    tie.close
-    (tie.spec Inv-loop μ-loop loop-holds (λ c. omega arith) (λ c. omega arith) (λ c. omega arith) (λ c. omega arith) (λ c. omega arith)
-    (λ c. omega arith) (λ c. omega arith) (λ c. omega arith) loop-again returns)
+pub save-rows-spec : {M : Type 1} → Rattle.nodes.proofs.levels.save_rows.Statement.statement M
+save-rows-spec = tie.close (tie.spec Inv-loop μ-loop (λ c. copying-none) (λ c. omega arith) (λ c. omega arith) (λ c. omega arith) (λ c. omega arith)
+    (λ c. omega arith) (λ c. omega arith) (λ c. omega arith) (λ c. omega arith)
+    (λ c. copying-next (c .before .before .loop .inv) (c .before .loop-test .taken) (omega arith) (omega arith) (omega arith))
+    (λ c. stored (c .before .before .pre) (c .before .loop .inv) (c .loop-test .left)))

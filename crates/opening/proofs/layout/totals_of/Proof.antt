@@ -1,12 +1,11 @@
 -- `opening::layout::totals_of` meets its contract. Invariant: the first u items are laid out. Measure: the items left.
-use borrow.Author.Needs.{needs}
-use native.Mathlib.Omega.{arith}
-use Prim.Native.Nat.{_-_, _≤_, _<_}
+use Rattle.prelude.specs.Names.{needs, arith, _-_, _≤_, _<_}
 use mir.Syntax.{w16}
 use mir.Val.{Fits}
 use Rattle.opening.specs.Layout.{LaidOut}
-use Rattle.opening.proofs.Layouts.{first-items, small-of, held, laid-none, laid-next, laid-all}
-use Rattle.opening.proofs.layout.totals_of.Statement.{statement}
+use Rattle.instance.specs.Meaning.{measure}
+use Rattle.nodes.proofs.Loops.{by-axis}
+use Rattle.opening.proofs.Layouts.{first-items, held, laid-none, laid-next, laid-all}
 use Rattle.opening.proofs.layout.totals_of.Tie as tie
 
 abbrev Inv-loop : tie.InvT-loop
@@ -21,25 +20,19 @@ loop-holds c =
     let x : Fits w16 (i .container .width) = search needs in
     let y : Fits w16 (i .container .depth) = search needs in
     let z : Fits w16 (i .container .shifts) = search needs in
-    (omega arith, laid-none (i .container) (i .items) (small-of (omega (arith, x .fits)) (omega (arith, y .fits)) (omega (arith, z .fits))))
-
-put-item-requires : tie.Need-put-item-requires Inv-loop μ-loop
-put-item-requires c κs = (c .before .before .before .loop .inv .1 .long, omega (arith, c .before .before .before .before .before .before .pre, c .before .before .loop-test .taken))
+    (omega arith, laid-none (i .container) (i .items) (by-axis (λ a. measure a (i .container) < 65536) (x .fits) (y .fits) (z .fits)))
 
 loop-again : tie.Need-loop-again Inv-loop μ-loop
 loop-again c =
-    let i = c .before .before .before .before .before .before .before .args .instance in
+    let s = c .before .before .before .before .before .before .before in
+    let i = s .args .instance in
     let l = c .before .before .before .before .loop in
     let (is, x, y, z) = c .put-item .ensures in
-    let room : l .u < 10 = omega (arith, c .before .before .before .before .before .before .before .pre, c .before .before .before .loop-test .taken) in
-    (omega arith, rw is (laid-next (i .items) (held (i .container)) (l .t) (l .u) room (small-of x y z) (l .inv .1)))
+    let room : l .u < 10 = omega (arith, s .pre, c .before .before .before .loop-test .taken) in
+    (omega arith, rw is (laid-next (i .items) (held (i .container)) (l .t) (l .u) room (by-axis _ x y z) (l .inv .1)))
 
-returns : tie.Need-returns Inv-loop μ-loop
-returns c = let l = c .before .loop in laid-all (c .before .before .before .before .args .instance) (l .u) (omega (arith, l .inv .0, c .loop-test .left)) (l .inv .1)
-
-pub totals-of-spec : {M : Type 1} → statement M
-totals-of-spec =
-    tie.close
-    (tie.spec Inv-loop μ-loop (λ c. search needs) (λ c. search needs) (λ c. search needs) (λ c. search needs) (λ c. search needs)
-    (λ c. search needs) (λ c. search needs) loop-holds (λ c. search needs) (λ c. search needs) put-item-requires (λ c. search needs)
-    (λ c. search needs) loop-again returns)
+pub totals-of-spec : {M : Type 1} → Rattle.opening.proofs.layout.totals_of.Statement.statement M
+totals-of-spec = tie.close (tie.spec Inv-loop μ-loop (λ c. search needs) (λ c. search needs) (λ c. search needs) (λ c. search needs)
+    (λ c. search needs) (λ c. search needs) (λ c. search needs) loop-holds (λ c. search needs) (λ c. search needs)
+    (λ c κs. (c .before .before .before .loop .inv .1 .long, omega arith)) (λ c. search needs) (λ c. search needs) loop-again
+    (λ c. let l = c .before .loop in laid-all (c .before .before .before .before .args .instance) (l .u) (omega (arith, l .inv .0)) (l .inv .1)))

@@ -1,15 +1,10 @@
 -- `packing::feasible::ordered` meets its contract.
-use mathlib.Core.Path.{sym, _∙_}
-use Rattle.packing.proofs.Named.{limits}
+use Rattle.prelude.specs.Names.{sym, _∙_}
+use Rattle.instance.proofs.Sheets.{valid-says}
+use Rattle.packing.proofs.Named.{named}
 use Rattle.packing.proofs.Loops.{ordered-by}
-use Rattle.packing.proofs.feasible.ordered.Statement.{statement}
 use Rattle.packing.proofs.feasible.ordered.Tie as tie
 
-all-are-kept-requires : tie.Need-all-are-kept-requires
-all-are-kept-requires c κs = let l = limits (c .before .before .before .args .instance) (c .before .before .before .pre) in (l .few-precedences, l .named-items)
-
-returns : tie.Need-returns
-returns c = c .all-are-kept .ensures ∙ sym (ordered-by _ _)
-
-pub ordered-spec : {M : Type 1} → statement M
-ordered-spec = tie.close (tie.spec all-are-kept-requires returns)
+pub ordered-spec : {M : Type 1} → Rattle.packing.proofs.feasible.ordered.Statement.statement M
+ordered-spec = tie.close (tie.spec (λ c κs. let v = c .before .before .before .pre in (valid-says _ v .precedences-few, named _ v))
+    (λ c. c .all-are-kept .ensures ∙ sym (ordered-by _ _)))

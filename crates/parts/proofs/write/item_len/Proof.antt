@@ -1,12 +1,8 @@
 -- `parts::write::item_len` meets its contract.
-use native.Mathlib.Omega.{arith}
-use Rattle.parts.proofs.Writers.{item-length}
-use borrow.Author.Needs.{needs}
-use Rattle.parts.proofs.write.item_len.Statement.{statement}
+use Rattle.prelude.specs.Names.{arith}
+use Rattle.parts.proofs.Writers.{item-bytes}
+use Rattle.parts.proofs.Answers.{answers}
 use Rattle.parts.proofs.write.item_len.Tie as tie
 
-returns : tie.Need-returns
-returns c = (omega (arith, item-length (c .before .before .args .i)), omega arith)
-
-pub item-len-spec : {M : Type 1} → statement M
-item-len-spec = tie.close (tie.spec (λ c κs. search needs) (λ c. search needs) returns)
+pub item-len-spec : {M : Type 1} → Rattle.parts.proofs.write.item_len.Statement.statement M
+item-len-spec = tie.close (tie.spec (λ c κs. search answers) (λ c. search answers) (λ c. simp item-bytes (omega arith)))

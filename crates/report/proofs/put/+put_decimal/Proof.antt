@@ -1,132 +1,46 @@
--- `report::put::put_decimal` meets its contract.
-use borrow.Author.Needs.{needs}
-use native.Mathlib.Omega.{arith}
-use native.Mathlib.Nat.{div-lt-self}
-use mathlib.Core.List.{[], _∷_}
-use Prim.Native.Nat.{_+_, _/_, _%_}
-use lib.ListN.{length-set, length-append}
+-- `report::put::put_decimal` meets its contract. The measure of the recursion is the number.
+use Rattle.prelude.specs.Names.{needs, arith, div-lt-self, _≡_, [], _∷_, ℕ, _+_, _/_, _%_, _<_, _≤_, length, length-set, length-append}
 use Rattle.formats.proofs.Stores.{sets-append}
 use Rattle.report.specs.Decimal.{decimal}
 use Rattle.report.proofs.Decimals.{decimal-one, decimal-more}
-use Prim.Native.Nat.{ℕ, _<_}
 use borrow.Fn.Kinds.{In}
 use borrow.Fn.PlainCycle.{Measures, is, falls, and}
-use Rattle.report.proofs.put.put_decimal.Reads as put-decimal
-use Rattle.report.proofs.put.put_decimal.Kinds as put-decimal-kinds
-use Rattle.report.proofs.put.+put_decimal.Lts-put_decimal as put-decimal-lts
 use Rattle.report.proofs.put.+put_decimal.{statement}
 use Rattle.report.proofs.put.+put_decimal.Tie.{close}
+use Rattle.report.proofs.put.put_decimal.Reads as put-decimal
+use Rattle.report.proofs.put.put_decimal.Kinds as kinds
+use Rattle.report.proofs.put.+put_decimal.Lts-put_decimal as lts
 
-abbrev μ-put-decimal : Measures 1 put-decimal-kinds.ps ℕ
+abbrev μ-put-decimal : Measures 1 kinds.ps ℕ
 μ-put-decimal κs a = a .1 .1 .0
 
-abbrev put-decimal-at : ℕ → In 1 put-decimal-kinds.ps
-put-decimal-at t =
-    and 1 put-decimal-kinds.ps (is 1 put-decimal-kinds.ps μ-put-decimal t) put-decimal.Pre
+abbrev of-size : ℕ → In 1 kinds.ps
+of-size t = and 1 kinds.ps (is 1 kinds.ps μ-put-decimal t) put-decimal.Pre
 
-abbrev put-decimal-below : ℕ → In 1 put-decimal-kinds.ps
-put-decimal-below t =
-    and 1 put-decimal-kinds.ps (falls 1 put-decimal-kinds.ps _<_ μ-put-decimal t) put-decimal.Pre
+abbrev below : ℕ → In 1 kinds.ps
+below t = and 1 kinds.ps (falls 1 kinds.ps _<_ μ-put-decimal t) put-decimal.Pre
 
-put-decimal-cast-out : (t : ℕ) → put-decimal-lts.Need-cast-out (
-  put-decimal-below t,
-  put-decimal.Post,
-) (put-decimal-at t) put-decimal.Post
-put-decimal-cast-out t c = search needs
+-- how many digits there are
+length-one : (n : ℕ) → n < 10 → length (decimal n) ≡ 1
+length-one n l = rw (decimal-one n l)
 
-put-decimal-add-out : (t : ℕ) → put-decimal-lts.Need-add-out (
-  put-decimal-below t,
-  put-decimal.Post,
-) (put-decimal-at t) put-decimal.Post
-put-decimal-add-out t c = search needs
+length-more : (n : ℕ) → 10 ≤ n → length (decimal n) ≡ length (decimal (n / 10)) + 1
+length-more n l = rw (decimal-more n l, length-append)
 
-put-decimal-slice-write-out : (t : ℕ) → put-decimal-lts.Need-slice-write-out (
-  put-decimal-below t,
-  put-decimal.Post,
-) (put-decimal-at t) put-decimal.Post
-put-decimal-slice-write-out t c = let h = rw (decimal-one (c .before .before .args .n) (c .if1 .taken)) at (c .before .before .pre .1) in omega arith
-
-put-decimal-add-result : (t : ℕ) → put-decimal-lts.Need-add-result (
-  put-decimal-below t,
-  put-decimal.Post,
-) (put-decimal-at t) put-decimal.Post
-put-decimal-add-result t c = let h = rw (decimal-one (c .before .before .args .n) (c .if1 .taken)) at (c .before .before .pre .1) in omega arith
-
-put-decimal-same-length : (t : ℕ) → put-decimal-lts.Need-same-length (
-  put-decimal-below t,
-  put-decimal.Post,
-) (put-decimal-at t) put-decimal.Post
-put-decimal-same-length t c = simp length-set
-
-put-decimal-returns : (t : ℕ) → put-decimal-lts.Need-returns (
-  put-decimal-below t,
-  put-decimal.Post,
-) (put-decimal-at t) put-decimal.Post
-put-decimal-returns t c = let e = decimal-one (c .before .before .args .n) (c .if1 .taken) in (rw e, rw e)
-
-put-decimal-put-decimal-requires : (t : ℕ) → put-decimal-lts.Need-put-decimal-requires (
-  put-decimal-below t,
-  put-decimal.Post,
-) (put-decimal-at t) put-decimal.Post
-put-decimal-put-decimal-requires t c κs = let h = rw (decimal-more (c .before .before .before .args .n) (c .before .if1 .left), length-append) at (c .before .before .before .pre .1) in (omega (arith, div-lt-self {n = c .before .before .before .args .n} {k = 10} (omega arith) (omega arith)), omega arith)
-
-put-decimal-cast-out-2 : (t : ℕ) → put-decimal-lts.Need-cast-out-2 (
-  put-decimal-below t,
-  put-decimal.Post,
-) (put-decimal-at t) put-decimal.Post
-put-decimal-cast-out-2 t c = search needs
-
-put-decimal-add-out-2 : (t : ℕ) → put-decimal-lts.Need-add-out-2 (
-  put-decimal-below t,
-  put-decimal.Post,
-) (put-decimal-at t) put-decimal.Post
-put-decimal-add-out-2 t c = search needs
-
-put-decimal-slice-write-out-2 : (t : ℕ) → put-decimal-lts.Need-slice-write-out-2 (
-  put-decimal-below t,
-  put-decimal.Post,
-) (put-decimal-at t) put-decimal.Post
-put-decimal-slice-write-out-2 t c = let h = rw (decimal-more (c .before .before .before .before .before .before .args .n) (c .before .before .before .before .if1 .left), length-append) at (c .before .before .before .before .before .before .pre .1) in omega (arith, c .before .before .put-decimal .kept .0)
-
-put-decimal-add-result-2 : (t : ℕ) → put-decimal-lts.Need-add-result-2 (
-  put-decimal-below t,
-  put-decimal.Post,
-) (put-decimal-at t) put-decimal.Post
-put-decimal-add-result-2 t c = let h = rw (decimal-more (c .before .before .before .before .before .before .args .n) (c .before .before .before .before .if1 .left), length-append) at (c .before .before .before .before .before .before .pre .1) in omega arith
-
-put-decimal-same-length-2 : (t : ℕ) → put-decimal-lts.Need-same-length-2 (
-  put-decimal-below t,
-  put-decimal.Post,
-) (put-decimal-at t) put-decimal.Post
-put-decimal-same-length-2 t c = simp length-set (c .before .before .put-decimal .kept .0)
-
-put-decimal-returns-2 : (t : ℕ) → put-decimal-lts.Need-returns-2 (
-  put-decimal-below t,
-  put-decimal.Post,
-) (put-decimal-at t) put-decimal.Post
-put-decimal-returns-2 t c =
-    let e = decimal-more (c .before .before .before .before .before .before .args .n) (c .before .before .before .before .if1 .left) in
-    let w = c .before .before .put-decimal in
+last-digit : (t : ℕ) → lts.Need-returns-2 (below t, put-decimal.Post) (of-size t) put-decimal.Post
+last-digit t c =
     let a = c .before .before .before .before .before .before .args in
-    (rw (e, length-append) (omega (arith, w .ensures .0)), rw (e, w .ensures .1, w .ensures .0) (sets-append (decimal (a .n / 10)) ((48 + a .n % 10) ∷ []) (a .out .now) (a .at)))
+    let e = decimal-more (a .n) (c .before .before .before .before .if1 .left) in
+    let w = c .before .before .put-decimal .ensures in
+    (rw (e, length-append) (omega (arith, w .0)), rw (e, w .1, w .0) (sets-append (decimal (a .n / 10)) ((48 + a .n % 10) ∷ []) (a .out .now) (a .at)))
 
 pub +put-decimal-spec : {M : Type 1} → statement M
-+put-decimal-spec = close μ-put-decimal λ t. put-decimal-lts.spec (
-  put-decimal-below t,
-  put-decimal.Post,
-)
-    (put-decimal-at t)
-    put-decimal.Post
-    (put-decimal-cast-out t)
-    (put-decimal-add-out t)
-    (put-decimal-slice-write-out t)
-    (put-decimal-add-result t)
-    (put-decimal-same-length t)
-    (put-decimal-returns t)
-    (put-decimal-put-decimal-requires t)
-    (put-decimal-cast-out-2 t)
-    (put-decimal-add-out-2 t)
-    (put-decimal-slice-write-out-2 t)
-    (put-decimal-add-result-2 t)
-    (put-decimal-same-length-2 t)
-    (put-decimal-returns-2 t)
++put-decimal-spec = close μ-put-decimal λ t. lts.spec (below t, put-decimal.Post) (of-size t) put-decimal.Post (λ c. search needs) (λ c. search needs)
+    (λ c. omega (arith, length-one _ (c .if1 .taken))) (λ c. omega (arith, length-one _ (c .if1 .taken)))
+    (λ c. simp length-set) (λ c. let e = decimal-one (c .before .before .args .n) (c .if1 .taken) in (rw e, rw e))
+    (λ c κs. let a = c .before .before .before .args in
+    (omega (arith, div-lt-self {n = a .n} {k = 10} (omega arith) (omega arith)), omega (arith, length-more (a .n) (c .before .if1 .left))))
+    (λ c. search needs) (λ c. search needs)
+    (λ c. omega (arith, c .before .before .put-decimal .kept .0, length-more _ (c .before .before .before .before .if1 .left)))
+    (λ c. omega (arith, length-more _ (c .before .before .before .before .if1 .left)))
+    (λ c. simp length-set (c .before .before .put-decimal .kept .0)) (last-digit t)

@@ -1,15 +1,8 @@
 -- `report::put::put_items` meets its contract.
-use borrow.Author.Needs.{needs}
-use native.Mathlib.Omega.{arith}
-use native.Mathlib.Nat.{add-zero}
-use mathlib.Core.Path.{_≡_, refl, sym}
-use Prim.Native.Nat.{_+_, _-_, _*_, _≤_}
-use lib.ListN.{length, length-append}
-use lib.Seq.{sets}
+use Rattle.prelude.specs.Names.{needs, arith, add-zero, _≡_, refl, sym, _+_, _-_, _*_, _≤_, length, length-append, sets}
 use Rattle.formats.proofs.Stores.{sets-append}
 use Rattle.report.specs.Text.{item-lines}
 use Rattle.report.proofs.Puts.{items-none, items-next}
-use Rattle.report.proofs.put.put_items.Statement.{statement}
 use Rattle.report.proofs.put.put_items.Tie as tie
 
 abbrev Inv-loop : tie.InvT-loop
@@ -27,9 +20,6 @@ abbrev μ-loop : tie.MeasureT-loop
 loop-holds : tie.Need-loop-holds Inv-loop μ-loop
 loop-holds c = (omega arith, rw items-none (sym (add-zero _)), rw items-none refl, refl, omega arith)
 
-put-item-requires : tie.Need-put-item-requires Inv-loop μ-loop
-put-item-requires c κs = (omega arith, omega arith)
-
 loop-again : tie.Need-loop-again Inv-loop μ-loop
 loop-again c =
     let l = c .before .before .before .before .before .before .loop in
@@ -37,17 +27,12 @@ loop-again c =
     let next = items-next (c .before .before .before .before .before .before .before .before .before .args .packing) (l .u) in
     (search needs, rw (next, length-append) (omega (arith, w .ensures .0 .0)), rw (next, w .ensures .1, l .inv .1, l .inv .2, sets-append), omega (arith, w .kept .0), omega (arith, w .ensures .0 .1))
 
-same-length : tie.Need-same-length Inv-loop μ-loop
-same-length c = c .before .loop .inv .3
-
 returns : tie.Need-returns Inv-loop μ-loop
 returns c =
     let l = c .before .loop in
     let e : l .u ≡ c .before .before .before .before .args .n = omega arith in
     ((rw (← e) (l .inv .1), omega arith), rw (← e) (l .inv .2))
 
-pub put-items-spec : {M : Type 1} → statement M
-put-items-spec =
-    tie.close
-    (tie.spec Inv-loop μ-loop loop-holds (λ c. search needs) (λ c. search needs) put-item-requires (λ c. search needs)
-    (λ c. search needs) loop-again same-length returns)
+pub put-items-spec : {M : Type 1} → Rattle.report.proofs.put.put_items.Statement.statement M
+put-items-spec = tie.close (tie.spec Inv-loop μ-loop loop-holds (λ c. search needs) (λ c. search needs) (λ c κs. (omega arith, omega arith))
+    (λ c. search needs) (λ c. search needs) loop-again (λ c. c .before .loop .inv .3) returns)

@@ -1,26 +1,13 @@
 -- `rules::overlaps::overlap` meets its contract.
-use borrow.Author.Needs.{needs}
-use borrow.Author.Tests.{not-true, not-false}
+use Rattle.prelude.specs.Names.{needs, not-true, not-false}
+use Rattle.model.specs.Claims.{overlaps}
+use Rattle.model.proofs.Claims.{says-mono}
 use Rattle.model.proofs.Slots.{proper-sym}
 use Rattle.domains.proofs.Narrowed.{refuted-later}
-use Rattle.rules.proofs.Works.{overlap-kept}
-use Rattle.rules.proofs.OnOverlap.{overlapping-worked}
-use Rattle.rules.proofs.OnAxes.{next-small, axes-of, axes-swap}
+use Rattle.rules.proofs.Works.{overlapping-worked}
+use Rattle.rules.proofs.OnAxes.{axes-next, axes-of, axes-swap}
 use Rattle.rules.proofs.Cycles.{overlap-converse}
-use Rattle.rules.proofs.overlaps.overlap.Statement.{statement}
 use Rattle.rules.proofs.overlaps.overlap.Tie as tie
-
-next-axis-requires-2 : tie.Need-next-axis-requires-2
-next-axis-requires-2 c κs = next-small (c .before .pre .1 .axis) (c .next-axis .ensures)
-
-third-axis-requires : tie.Need-third-axis-requires
-third-axis-requires c κs =
-    let x = c .before .before .before in
-    let (g, s, h) = x .before .before .pre in
-    (g, axes-of (s .axis) (x .before .next-axis .ensures) (x .next-axis2 .ensures), s, h)
-
-returns : tie.Need-returns
-returns c = let t = c .before in rw (not-true (t .third-axis .result) (c .if1 .taken)) at (t .third-axis .ensures)
 
 third-axis-requires-2 : tie.Need-third-axis-requires-2
 third-axis-requires-2 c κs =
@@ -28,7 +15,8 @@ third-axis-requires-2 c κs =
     let x = t .before .before .before .before in
     let (g, s, h) = x .before .before .pre in
     let n = rw (not-false (t .third-axis .result) (c .before .before .before .if1 .left)) at (t .third-axis .ensures) in
-    (n .grown .good, axes-swap (axes-of (s .axis) (x .before .next-axis .ensures) (x .next-axis2 .ensures)), s, overlap-kept s n h)
+    let axes = axes-swap (axes-of (s .axis) (x .before .next-axis .ensures) (x .next-axis2 .ensures)) in
+    (n .grown .good, axes, s, says-mono _ _ (n .grown .less) overlaps _ _ _ h)
 
 returns-2 : tie.Need-returns-2
 returns-2 c =
@@ -40,12 +28,10 @@ returns-2 c =
 
 ring-side-requires : tie.Need-ring-side-requires
 ring-side-requires c κs =
-    let t′ = c .before .before .before .before in
-    let t = t′ .before .before .before .before .before in
-    let (g, s, h) = t .before .before .before .before .before .before .pre in
-    let n = rw (not-false (t .third-axis .result) (t′ .before .before .before .before .if1 .left)) at (t .third-axis .ensures) in
-    let n′ = rw (not-false (t′ .third-axis2 .result) (c .before .before .before .if2 .left)) at (t′ .third-axis2 .ensures) in
-    (n′ .grown .good, s, overlap-kept s n′ (overlap-kept s n h))
+    let t = c .before .before .before .before in
+    let (_, _, s, h) = third-axis-requires-2 (t .before) κs in
+    let n = rw (not-false (t .third-axis2 .result) (c .before .before .before .if2 .left)) at (t .third-axis2 .ensures) in
+    (n .grown .good, s, says-mono _ _ (n .grown .less) overlaps _ _ _ h)
 
 returns-3 : tie.Need-returns-3
 returns-3 c =
@@ -60,13 +46,9 @@ returns-3 c =
 ring-side-requires-2 : tie.Need-ring-side-requires-2
 ring-side-requires-2 c κs =
     let r = c .before .before .before .before in
-    let t′ = r .before .before .before .before .before in
-    let t = t′ .before .before .before .before .before in
-    let (g, s, h) = t .before .before .before .before .before .before .pre in
-    let n = rw (not-false (t .third-axis .result) (t′ .before .before .before .before .if1 .left)) at (t .third-axis .ensures) in
-    let n′ = rw (not-false (t′ .third-axis2 .result) (r .before .before .before .before .if2 .left)) at (t′ .third-axis2 .ensures) in
-    let n″ = rw (not-false (r .ring-side .result) (c .before .before .before .if3 .left)) at (r .ring-side .ensures) in
-    (n″ .grown .good, proper-sym s, overlap-converse _ _ _ _ (overlap-kept s n″ (overlap-kept s n′ (overlap-kept s n h))))
+    let (_, s, h) = ring-side-requires (r .before) κs in
+    let n = rw (not-false (r .ring-side .result) (c .before .before .before .if3 .left)) at (r .ring-side .ensures) in
+    (n .grown .good, proper-sym s, overlap-converse _ _ _ _ (says-mono _ _ (n .grown .less) overlaps _ _ _ h))
 
 returns-4 : tie.Need-returns-4
 returns-4 c =
@@ -81,8 +63,9 @@ returns-4 c =
     overlapping-worked (x .before .next-axis .ensures) (x .next-axis2 .ensures) (g .least) n n′ n″
     _ _ _ (c .ring-side2 .result) (c .ring-side2 .ensures)
 
-pub overlap-spec : {M : Type 1} → statement M
-overlap-spec =
-    tie.close
-    (tie.spec (λ c κs. search needs) next-axis-requires-2 third-axis-requires returns third-axis-requires-2 returns-2
+pub overlap-spec : {M : Type 1} → Rattle.rules.proofs.overlaps.overlap.Statement.statement M
+overlap-spec = tie.close (tie.spec (λ c κs. search needs) (λ c κs. rw (c .next-axis .ensures) (axes-next _ (c .before .pre .1 .axis) .axis-b))
+    (λ c κs. let x = c .before .before .before in let (g, s, h) = x .before .before .pre in
+    (g, axes-of (s .axis) (x .before .next-axis .ensures) (x .next-axis2 .ensures), s, h))
+    (λ c. rw (not-true (c .before .third-axis .result) (c .if1 .taken)) at (c .before .third-axis .ensures)) third-axis-requires-2 returns-2
     ring-side-requires returns-3 ring-side-requires-2 returns-4)

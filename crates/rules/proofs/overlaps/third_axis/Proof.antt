@@ -1,25 +1,7 @@
 -- `rules::overlaps::third_axis` meets its contract.
-use mathlib.Core.Path.{sym, _∙_}
-use borrow.Author.Tests.{not-true, not-false}
+use Rattle.prelude.specs.Names.{sym, _∙_, not-true, not-false, needs}
 use Rattle.rules.proofs.OnAxes.{third-idle, third-askable, third-worked}
-use borrow.Author.Needs.{needs}
-use Rattle.rules.proofs.overlaps.third_axis.Statement.{statement}
 use Rattle.rules.proofs.overlaps.third_axis.Tie as tie
-
-overlapping-requires : tie.Need-overlapping-requires
-overlapping-requires c κs = c .before .pre .0 .laid .mirror .small _
-
-returns : tie.Need-returns
-returns c =
-    let o = c .before .before in
-    let (g, x, s, _) = o .before .before .pre in
-    third-idle x s g (o .overlapping .ensures) (sym (c .before .has .ensures) ∙ not-true (c .before .has .result) (c .if1 .taken))
-
-remove-requires : tie.Need-remove-requires
-remove-requires c κs =
-    let o = c .before .before .before .before .before .before in
-    let (g, x, s, _) = o .before .before .pre in
-    (g, third-askable x s g (o .overlapping .ensures) (c .bit .ensures .0) (c .bit .ensures .1))
 
 returns-2 : tie.Need-returns-2
 returns-2 c =
@@ -30,8 +12,10 @@ returns-2 c =
     (sym (h .has .ensures) ∙ not-false (h .has .result) (c .before .before .before .before .before .if1 .left)) l
     _ _ _ (c .remove .result) (c .remove .ensures)
 
-pub third-axis-spec : {M : Type 1} → statement M
-third-axis-spec =
-    tie.close
-    (tie.spec (λ c. search needs) (λ c. search needs) (λ c. search needs) (λ c. search needs) overlapping-requires
-    (λ c κs. search needs) returns (λ c κs. search needs) remove-requires returns-2)
+pub third-axis-spec : {M : Type 1} → Rattle.rules.proofs.overlaps.third_axis.Statement.statement M
+third-axis-spec = tie.close (tie.spec (λ c. search needs) (λ c. search needs) (λ c. search needs) (λ c. search needs)
+    (λ c κs. c .before .pre .0 .laid .mirror .small _) (λ c κs. search needs)
+    (λ c. let o = c .before .before in let (g, x, s, _) = o .before .before .pre in
+    third-idle x s g (o .overlapping .ensures) (sym (c .before .has .ensures) ∙ not-true (c .before .has .result) (c .if1 .taken)))
+    (λ c κs. search needs) (λ c κs. let o = c .before .before .before .before .before .before in let (g, x, s, _) = o .before .before .pre in
+    (g, third-askable x s g (o .overlapping .ensures) (c .bit .ensures .0) (c .bit .ensures .1))) returns-2)

@@ -1,30 +1,7 @@
 -- `rules::paths::beyond` meets its contract.
-use mathlib.Core.Logic.{⊎-elim}
-use mathlib.Core.Path.{sym, _∙_}
-use native.Mathlib.Omega.{arith}
-use lib.Bits.{or-zero-r}
-use Rattle.rules.proofs.Beyond.{only-none, only-shift, reached-known, reached-none, reached-left}
-use borrow.Author.Needs.{needs}
-use Rattle.rules.proofs.paths.beyond.Statement.{statement}
+use Rattle.prelude.specs.Names.{⊎-elim, sym, _∙_, arith, or-zero-r, needs}
+use Rattle.rules.proofs.Triangles.{only-none, only-shift, reached-known, reached-none, reached-left}
 use Rattle.rules.proofs.paths.beyond.Tie as tie
-
-returns : tie.Need-returns
-returns c =
-    let h = c .before .before .before .before in
-    reached-known (h .before .pre) (sym (h .has .ensures) ∙ c .before .before .before .if1 .taken) 2 (omega arith) (omega arith)
-    (sym (c .before .before .has2 .ensures) ∙ c .before .if2 .taken) (c .following .ensures)
-
-returns-2 : tie.Need-returns-2
-returns-2 c =
-    let h = c .before .before .before .before .before .before in
-    reached-known (h .before .pre) (sym (h .has .ensures) ∙ c .before .before .before .before .before .if1 .taken) 1 (omega arith) (omega arith)
-    (sym (c .before .before .has3 .ensures) ∙ c .before .if3 .taken) (c .leading .ensures)
-
-returns-3 : tie.Need-returns-3
-returns-3 c =
-    let h = c .before .before .before .before .before in
-    reached-none (h .before .pre) (sym (h .has .ensures) ∙ c .before .before .before .before .if1 .taken)
-    (sym (c .before .has3 .ensures) ∙ c .if3 .left) (sym (c .before .before .before .has2 .ensures) ∙ c .before .before .if2 .left)
 
 returns-4 : tie.Need-returns-4
 returns-4 c =
@@ -46,9 +23,16 @@ returns-5 c =
     (i .if4 .came))
     (only-none 2 (sym (c .before .has5 .ensures) ∙ c .if5 .left)))
 
-pub beyond-spec : {M : Type 1} → statement M
-beyond-spec =
-    tie.close
-    (tie.spec (λ c κs. search needs) (λ c. search needs) (λ c κs. search needs) (λ c κs. search needs) returns (λ c. search needs)
-    (λ c κs. search needs) (λ c κs. search needs) returns-2 returns-3 (λ c. search needs) (λ c κs. search needs) (λ c κs. search needs)
-    (λ c. search needs) (λ c κs. search needs) (λ c κs. search needs) returns-4 returns-5)
+pub beyond-spec : {M : Type 1} → Rattle.rules.proofs.paths.beyond.Statement.statement M
+beyond-spec = tie.close (tie.spec (λ c κs. search needs) (λ c. search needs) (λ c κs. search needs) (λ c κs. search needs)
+    (λ c. let h = c .before .before .before .before in
+    reached-known (h .before .pre) (sym (h .has .ensures) ∙ c .before .before .before .if1 .taken) 2 (omega arith)
+    (sym (c .before .before .has2 .ensures) ∙ c .before .if2 .taken) (c .following .ensures)) (λ c. search needs) (λ c κs. search needs)
+    (λ c κs. search needs) (λ c. let h = c .before .before .before .before .before .before in
+    reached-known (h .before .pre) (sym (h .has .ensures) ∙ c .before .before .before .before .before .if1 .taken) 1 (omega arith)
+    (sym (c .before .before .has3 .ensures) ∙ c .before .if3 .taken) (c .leading .ensures))
+    (λ c. let h = c .before .before .before .before .before in
+    reached-none (h .before .pre) (sym (h .has .ensures) ∙ c .before .before .before .before .if1 .taken)
+    (sym (c .before .has3 .ensures) ∙ c .if3 .left) (sym (c .before .before .before .has2 .ensures) ∙ c .before .before .if2 .left))
+    (λ c. search needs) (λ c κs. search needs) (λ c κs. search needs) (λ c. search needs) (λ c κs. search needs) (λ c κs. search needs) returns-4
+    returns-5)

@@ -1,9 +1,7 @@
 -- `search::outlook::look` meets its contract.
-use borrow.Author.Needs.{needs}
-use borrow.Author.Tests.{not-true, not-false}
+use Rattle.prelude.specs.Names.{needs, not-true, not-false}
 use Rattle.model.specs.Wide.{wide}
 use Rattle.search.proofs.Seeing.{looked-conflict, seen, looked-complete, looked-fork, seen-passed}
-use Rattle.search.proofs.outlook.look.Statement.{statement}
 use Rattle.search.proofs.outlook.look.Tie as tie
 
 returns : tie.Need-returns
@@ -14,12 +12,6 @@ returns c =
           looked-conflict p (rw (l .count) (c .before .before .before .before .before .before .pre .0)) path (l .at)
           (rw (not-true (c .before .propagate .result) (c .if1 .taken)) at (f (wide p) (l .at .ready))),
     )
-
-choose-requires : tie.Need-choose-requires
-choose-requires c κs =
-    let (limited, known) = c .before .before .before .before .before .before .before .pre in
-    let h = rw (not-false (c .before .before .propagate .result) (c .before .if1 .left)) at (c .before .before .propagate .ensures .1 (known .0) (known .1)) in
-    (h .rested .laid .well-formed, limited)
 
 returns-2 : tie.Need-returns-2
 returns-2 c =
@@ -45,7 +37,8 @@ returns-3 c =
           (rw (c .before .place .given .1) at (c .before .before .before .choose .ensures (seen-passed p path s (l .count) (l .passed)))),
     )
 
-pub look-spec : {M : Type 1} → statement M
-look-spec =
-    tie.close
-    (tie.spec (λ c κs. search needs) returns choose-requires (λ c. search needs) (λ c. search needs) returns-2 returns-3)
+pub look-spec : {M : Type 1} → Rattle.search.proofs.outlook.look.Statement.statement M
+look-spec = tie.close (tie.spec (λ c κs. search needs) returns
+    (λ c κs. let (limited, known) = c .before .before .before .before .before .before .before .pre in let e = c .before .before .propagate in
+    let h = rw (not-false (e .result) (c .before .if1 .left)) at (e .ensures .1 (known .0) (known .1)) in
+    (h .rested .laid .well-formed, limited)) (λ c. search needs) (λ c. search needs) returns-2 returns-3)

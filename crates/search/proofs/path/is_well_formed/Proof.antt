@@ -1,8 +1,6 @@
 -- `search::path::is_well_formed` meets its contract.
-use borrow.Author.Needs.{needs}
-use borrow.Author.Tests.{le-leb, lt-leb, not-true, not-false}
+use Rattle.prelude.specs.Names.{needs, le-leb, lt-leb, not-true, not-false}
 use Rattle.search.specs.Checkpoints.{well-formed}
-use Rattle.search.proofs.path.is_well_formed.Statement.{statement}
 use Rattle.search.proofs.path.is_well_formed.Tie as tie
 
 returns : tie.Need-returns
@@ -17,6 +15,5 @@ returns-3 : tie.Need-returns-3
 unfolding well-formed
 returns-3 c = simp (le-leb _ _ (c .before .before .before .before .if1 .left), ← (c .before .before .before .length-allowed .ensures), not-false (c .before .before .before .length-allowed .result) (c .before .before .if2 .left)) (c .all-branches .ensures)
 
-pub is-well-formed-spec : {M : Type 1} → statement M
-is-well-formed-spec =
-    tie.close (tie.spec returns (λ c κs. search needs) returns-2 (λ c κs. search needs) returns-3)
+pub is-well-formed-spec : {M : Type 1} → Rattle.search.proofs.path.is_well_formed.Statement.statement M
+is-well-formed-spec = tie.close (tie.spec returns (λ c κs. search needs) returns-2 (λ c κs. search needs) returns-3)

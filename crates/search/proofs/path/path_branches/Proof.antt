@@ -1,12 +1,8 @@
 -- `search::path::path_branches` meets its contract. The first i branches are written: the array holds the path that they are.
-use mathlib.Core.Path.{_≡_}
-use Prim.Native.Nat.{_-_, _≤_}
-use native.Mathlib.Omega.{arith}
-use lib.ListN.{getD}
+use Rattle.prelude.specs.Names.{_≡_, _-_, _≤_, arith, getD}
 use Rattle.search.specs.Checkpoints.{branch-of, path-of, branches-of}
 use Rattle.search.specs.Standing.{Holds}
 use Rattle.search.proofs.Checkpoints.{holds-root, holds-next, bits-next, path-next}
-use Rattle.search.proofs.path.path_branches.Statement.{statement}
 use Rattle.search.proofs.path.path_branches.Tie as tie
 
 abbrev Inv-loop : tie.InvT-loop
@@ -19,9 +15,6 @@ loop-holds : tie.Need-loop-holds Inv-loop μ-loop
 unfolding branches-of
 loop-holds c = (omega arith, holds-root)
 
-array-write-branches : tie.Need-array-write-branches Inv-loop μ-loop
-array-write-branches c = omega (arith, c .before .before .pre .within)
-
 loop-again : tie.Need-loop-again Inv-loop μ-loop
 loop-again c =
     let l = c .before .loop in
@@ -32,8 +25,6 @@ loop-again c =
 returns : tie.Need-returns Inv-loop μ-loop
 returns c = let e : c .before .loop .i ≡ c .before .before .args .length = omega arith in rw (← e) (c .before .loop .inv .1 .values)
 
-pub path-branches-spec : {M : Type 1} → statement M
-path-branches-spec =
-    tie.close
-    (tie.spec Inv-loop μ-loop loop-holds (λ c. omega arith) array-write-branches (λ c. omega arith) (λ c. omega arith)
-    loop-again returns)
+pub path-branches-spec : {M : Type 1} → Rattle.search.proofs.path.path_branches.Statement.statement M
+path-branches-spec = tie.close (tie.spec Inv-loop μ-loop loop-holds (λ c. omega arith) (λ c. omega (arith, c .before .before .pre .within))
+    (λ c. omega arith) (λ c. omega arith) loop-again returns)

@@ -1,29 +1,27 @@
--- `search::steps::dead_end` meets its contract.
-use mathlib.Core.Path.{_∙_}
-use native.Mathlib.Omega.{arith}
-use borrow.Author.Needs.{needs}
+-- `search::steps::dead_end` meets its contract: no look is behind it.
+use Rattle.prelude.specs.Names.{[], _≡_, refl, sym, ap, _∙_, ℕ, _+_, _-_, arith, needs}
 use Rattle.search.specs.Checkpoints.{branches-of}
-use Rattle.search.proofs.Outcome.{dead-refused, dead-spent, dead-infeasible}
-use Rattle.search.proofs.steps.dead_end.Statement.{statement}
+use Rattle.search.specs.Results.{infeasible-after, spent-after}
+use Rattle.search.proofs.Stepping.{way-root, not-following, result-infeasible, result-spent}
 use Rattle.search.proofs.steps.dead_end.Tie as tie
 
 returns : tie.Need-returns
 returns c = λ p e.
-    let a = c .before .before .before .args in
-    c .refused .ensures ∙ dead-refused p (a .budget) (a .checkpoint) e (omega (arith, c .before .if1 .taken))
+    c .refused .ensures ∙ not-following (c .before .before .before .args .checkpoint) (way-root refl) (omega (arith, c .before .if1 .taken)) (rw e)
 
 returns-2 : tie.Need-returns-2
 unfolding branches-of
 returns-2 c = λ p e.
-    let a = c .before .before .before .before .args in
-    c .spent .ensures ∙ dead-spent p (a .budget) (a .checkpoint) e (c .before .before .if1 .left) (c .before .if2 .taken)
+    let z = c .before .before .if1 .left in
+    c .spent .ensures ∙ ap (λ (m : ℕ). spent-after m (branches-of []) 0) (sym (c .before .if2 .taken))
+    ∙ result-spent (c .before .before .before .before .args .checkpoint) (way-root (rw z)) (omega arith) (omega arith) refl
 
 returns-3 : tie.Need-returns-3
 returns-3 c = λ p e.
-    let a = c .before .before .before .before .args in
-    c .infeasible .ensures ∙ dead-infeasible p (a .budget) (a .checkpoint) e (c .before .before .if1 .left) (omega (arith, c .before .if2 .left))
+    let k = c .before .before .before .before .args .checkpoint in
+    let one : 1 ≡ 0 + 1 - k .length = omega (arith, c .before .before .if1 .left) in
+    c .infeasible .ensures ∙ ap infeasible-after one
+    ∙ result-infeasible k (way-root refl) (omega (arith, c .before .before .if1 .left)) (omega (arith, c .before .if2 .left)) e refl
 
-pub dead-end-spec : {M : Type 1} → statement M
-dead-end-spec =
-    tie.close
-    (tie.spec (λ c κs. search needs) returns (λ c κs. search needs) returns-2 (λ c κs. search needs) returns-3)
+pub dead-end-spec : {M : Type 1} → Rattle.search.proofs.steps.dead_end.Statement.statement M
+dead-end-spec = tie.close (tie.spec (λ c κs. search needs) returns (λ c κs. search needs) returns-2 (λ c κs. search needs) returns-3)
