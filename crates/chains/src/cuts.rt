@@ -12,7 +12,10 @@ ghost use Rattle.chains.specs.Totals.{Tabled};
 ghost use Rattle.chains.specs.Cuts.{above-both, Comparable, EachAsked, Roomy, CutOf};
 use crate::totals::CAPACITY;
 use crate::totals::STARTS;
+use crate::totals::TOTALS;
+use domains::DOMAINS;
 use domains::Line;
+use domains::ROWS;
 use domains::bits::ITEMS;
 use domains::bits::bit;
 use domains::bits::emptied;
@@ -22,7 +25,7 @@ use domains::queue::MAX_QUEUE;
 use domains::removal::remove_items;
 
 // Of the ten totals from a place on, those above a limit.
-fn above(t: &[u16; 93], at: usize, limit: u16) -> u32
+fn above(t: &[u16; TOTALS], at: usize, limit: u16) -> u32
     requires { ⌜ (length (now t) ≡ 93) × (at + 10 ≤ 93) ⌝ }
     ensures { λ r. ⌜ Gives 10 r (λ v. ltb limit (getD (now (t .entry)) (at + v) 0)) ⌝ }
 {
@@ -38,7 +41,7 @@ fn above(t: &[u16; 93], at: usize, limit: u16) -> u32
 }
 
 // The items with which u is too long, by its total at `own` and theirs at `other`.
-pub fn too_long(t: &[u16; 93], own: usize, other: usize, a: usize, u: usize) -> u32
+pub fn too_long(t: &[u16; TOTALS], own: usize, other: usize, a: usize, u: usize) -> u32
     requires { ⌜ Comparable (now t) own other a u ⌝ }
     ensures { λ r. ⌜ Gives 10 r (λ v. above-both (now (t .entry)) own other a u v && not (eqb v u)) ⌝ }
 {
@@ -48,8 +51,8 @@ pub fn too_long(t: &[u16; 93], own: usize, other: usize, a: usize, u: usize) -> 
 
 // An order of u, 1 or 2, is removed with the items of a set, with which it is left.
 fn cut_item(
-    k: &mut [u8; 135],
-    rows: &mut [u32; 30],
+    k: &mut [u8; DOMAINS],
+    rows: &mut [u32; ROWS],
     queue: &mut [u16; MAX_QUEUE],
     x: usize,
     line: Line,
@@ -72,10 +75,10 @@ fn cut_item(
 
 // For items whose chains ending in them have grown: "u before v" is removed where they are too long together with those starting in v.
 pub fn cut_ends(
-    k: &mut [u8; 135],
-    rows: &mut [u32; 30],
+    k: &mut [u8; DOMAINS],
+    rows: &mut [u32; ROWS],
     queue: &mut [u16; MAX_QUEUE],
-    t: &[u16; 93],
+    t: &[u16; TOTALS],
     a: usize,
     grown: u32,
 ) -> bool
@@ -96,10 +99,10 @@ pub fn cut_ends(
 
 // The same for those whose chains starting in them have grown.
 pub fn cut_starts(
-    k: &mut [u8; 135],
-    rows: &mut [u32; 30],
+    k: &mut [u8; DOMAINS],
+    rows: &mut [u32; ROWS],
     queue: &mut [u16; MAX_QUEUE],
-    t: &[u16; 93],
+    t: &[u16; TOTALS],
     a: usize,
     grown: u32,
 ) -> bool

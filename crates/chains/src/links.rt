@@ -11,16 +11,19 @@ ghost use Rattle.chains.specs.NewLinks.{Charted, ExtendedIf, KeptIf};
 use crate::cuts::cut_ends;
 use crate::cuts::cut_starts;
 use crate::totals::STARTS;
+use crate::totals::TOTALS;
 use crate::totals::link_on;
+use domains::DOMAINS;
 use domains::Place;
+use domains::ROWS;
 use domains::queue::MAX_QUEUE;
 
 // Rule 5 where the pair's u is known before its v.
 pub fn apply_link(
-    k: &mut [u8; 135],
-    rows: &mut [u32; 30],
+    k: &mut [u8; DOMAINS],
+    rows: &mut [u32; ROWS],
     queue: &mut [u16; MAX_QUEUE],
-    t: &mut [u16; 93],
+    t: &mut [u16; TOTALS],
     place: Place,
 ) -> bool
     requires { ⌜ Good (now k) (now rows) (now queue) × Tabled (now t) × Proper 10 (place .axis) (place .u) (place .v) × (fixed-before (now k) (place .axis) (place .u) (place .v) ≡ true) ⌝ }

@@ -8,6 +8,7 @@ ghost use Rattle.model.specs.Toward.{Direction};
 ghost use Rattle.domains.specs.Bits.{bit-at, Gives};
 ghost use Rattle.chains.specs.Links.{Linkable, Raising, Only, From, Told, On, Plain};
 use domains::Place;
+use domains::ROWS;
 use domains::bits::ITEMS;
 use domains::bits::bit;
 use domains::bits::lowest;
@@ -19,6 +20,9 @@ pub const SIZES: usize = 60;
 
 pub const CAPACITY: usize = 90;
 
+// How many numbers these are in all: ends, starts and sizes, and three capacities.
+pub const TOTALS: usize = 93;
+
 // Items whose totals have grown, and whether all totals are within the container.
 pub struct Growth {
     pub fits: bool,
@@ -26,7 +30,7 @@ pub struct Growth {
 }
 
 // The chains of an item go on from those of v, in the table at `own`: the set of z where its total grows.
-fn link(t: &mut [u16; 93], own: usize, a: usize, v: usize, z: usize) -> Growth
+fn link(t: &mut [u16; TOTALS], own: usize, a: usize, v: usize, z: usize) -> Growth
     requires { ⌜ Linkable (now t) own a × (v < 10) × (z < 10) × (v ≢ z) ⌝ }
     ensures { λ r. ⌜ Raising (Only v z) (Only v z) own a (now (t .entry)) (now (t .exit)) (r .fits) (r .items) ⌝ }
 {
@@ -51,7 +55,7 @@ fn link(t: &mut [u16; 93], own: usize, a: usize, v: usize, z: usize) -> Growth
 }
 
 // The same of each item of a set.
-fn link_each(t: &mut [u16; 93], own: usize, a: usize, v: usize, items: u32) -> Growth
+fn link_each(t: &mut [u16; TOTALS], own: usize, a: usize, v: usize, items: u32) -> Growth
     requires { ⌜ Linkable (now t) own a × (v < 10) × (items < 2 ^ 10) × (bit-at items v ≡ false) ⌝ }
     ensures { λ r. ⌜ Raising (From v items) (From v items) own a (now (t .entry)) (now (t .exit)) (r .fits) (r .items) ⌝ }
 {
@@ -81,7 +85,13 @@ fn linked(row: u32, x: usize) -> u32
 }
 
 // The link from u to v in the direction x: the total of v in the table at `own`, and those of all that go on from there.
-pub fn link_on(rows: &[u32; 30], t: &mut [u16; 93], own: usize, x: usize, place: Place) -> Growth
+pub fn link_on(
+    rows: &[u32; ROWS],
+    t: &mut [u16; TOTALS],
+    own: usize,
+    x: usize,
+    place: Place,
+) -> Growth
     requires { ⌜ Plain (now rows) × Linkable (now t) own (place .axis) × Direction x × Told (now rows) x (place .axis) (place .u) (place .v) ⌝ }
     ensures { λ r. ⌜ Raising (Told (now (rows .entry)) x (place .axis)) (On (Told (now (rows .entry)) x (place .axis)) (place .u) (place .v) (r .items)) own (place .axis) (now (t .entry)) (now (t .exit)) (r .fits) (r .items) ⌝ }
 {

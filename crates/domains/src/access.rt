@@ -5,6 +5,7 @@ ghost use Prim.Native.Nat.{_<_};
 ghost use Rattle.model.specs.Domains as D;
 ghost use Rattle.model.specs.Order.{Rising};
 ghost use Rattle.domains.specs.Access.{Removes};
+use crate::DOMAINS;
 
 // Where the domain of u < v stands.
 pub fn index(a: usize, u: usize, v: usize) -> usize
@@ -34,7 +35,7 @@ fn without_after(m: u8) -> u8
 }
 
 // Removes "u and v overlap".
-pub fn remove_overlap(k: &mut [u8; 135], a: usize, u: usize, v: usize)
+pub fn remove_overlap(k: &mut [u8; DOMAINS], a: usize, u: usize, v: usize)
     requires { ⌜ Removes (now k) a u v ⌝ }
     ensures { λ _. ⌜ now (k .exit) ≡ D.remove-overlap (now (k .entry)) a u v ⌝ }
 {
@@ -48,7 +49,7 @@ pub fn remove_overlap(k: &mut [u8; 135], a: usize, u: usize, v: usize)
 }
 
 // Removes "u before v".
-pub fn remove_before(k: &mut [u8; 135], a: usize, u: usize, v: usize)
+pub fn remove_before(k: &mut [u8; DOMAINS], a: usize, u: usize, v: usize)
     requires { ⌜ Removes (now k) a u v ⌝ }
     ensures { λ _. ⌜ now (k .exit) ≡ D.remove-before (now (k .entry)) a u v ⌝ }
 {

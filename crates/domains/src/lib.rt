@@ -4,6 +4,12 @@ pub mod bits;
 pub mod queue;
 pub mod removal;
 
+// One domain for each of 45 pairs of items on each of three axes.
+pub const DOMAINS: usize = 135;
+
+// One row for each of ten items on each of three axes.
+pub const ROWS: usize = 30;
+
 // A pair of items on an axis.
 pub struct Place {
     pub axis: usize,

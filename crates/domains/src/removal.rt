@@ -6,8 +6,10 @@ ghost use Rattle.model.specs.Order.{Proper};
 ghost use Rattle.domains.specs.Access.{Removes};
 ghost use Rattle.domains.specs.Queue.{Good};
 ghost use Rattle.domains.specs.Narrowed.{Narrowed, Outcome, One, Spare, Each, Spares, All, Asked, Askable, Left};
+use crate::DOMAINS;
 use crate::Line;
 use crate::Place;
+use crate::ROWS;
 use crate::access::remove_before;
 use crate::access::remove_overlap;
 use crate::bits::ITEMS;
@@ -31,7 +33,7 @@ fn converse(x: usize) -> usize
 }
 
 // Removes a relation from its domain.
-fn remove_from(k: &mut [u8; 135], x: usize, a: usize, u: usize, v: usize)
+fn remove_from(k: &mut [u8; DOMAINS], x: usize, a: usize, u: usize, v: usize)
     requires { ⌜ Removes (now k) a u v × (x < 3) ⌝ }
     ensures { λ _. ⌜ now (k .exit) ≡ R.without (now (k .entry)) x a u v ⌝ }
 {
@@ -48,8 +50,8 @@ fn remove_from(k: &mut [u8; 135], x: usize, a: usize, u: usize, v: usize)
 
 // Removes a relation, from its domain and from both rows; the pair goes on the queue.
 fn remove_one(
-    k: &mut [u8; 135],
-    rows: &mut [u32; 30],
+    k: &mut [u8; DOMAINS],
+    rows: &mut [u32; ROWS],
     queue: &mut [u16; MAX_QUEUE],
     x: usize,
     place: Place,
@@ -68,8 +70,8 @@ fn remove_one(
 
 // Removes a relation of an item with each of a set.
 pub fn remove_items(
-    k: &mut [u8; 135],
-    rows: &mut [u32; 30],
+    k: &mut [u8; DOMAINS],
+    rows: &mut [u32; ROWS],
     queue: &mut [u16; MAX_QUEUE],
     x: usize,
     line: Line,
@@ -93,8 +95,8 @@ pub fn remove_items(
 
 // Removes what stands in a set, as in the row of u, all of it left.
 pub fn remove_each(
-    k: &mut [u8; 135],
-    rows: &mut [u32; 30],
+    k: &mut [u8; DOMAINS],
+    rows: &mut [u32; ROWS],
     queue: &mut [u16; MAX_QUEUE],
     a: usize,
     u: usize,
@@ -115,8 +117,8 @@ pub fn remove_each(
 
 // Removes what is left of a set, as in the row of u.
 pub fn remove(
-    k: &mut [u8; 135],
-    rows: &mut [u32; 30],
+    k: &mut [u8; DOMAINS],
+    rows: &mut [u32; ROWS],
     queue: &mut [u16; MAX_QUEUE],
     a: usize,
     u: usize,

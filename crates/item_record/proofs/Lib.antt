@@ -1,2 +1,2 @@
-pub mod Records
 pub mod Refusing
+pub mod Records

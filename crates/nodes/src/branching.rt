@@ -5,7 +5,9 @@ ghost use Rattle.model.specs.Domains as D;
 ghost use Rattle.model.specs.Order.{WellFormed};
 ghost use Rattle.model.specs.Turns.{Passed};
 ghost use Rattle.nodes.specs.Choice.{PairAt, separates, several, separated-at, Chosen, Branchable, Branched};
+use domains::DOMAINS;
 use domains::Place;
+use domains::ROWS;
 use domains::bits::bit;
 use domains::bits::has;
 use domains::queue::MAX_QUEUE;
@@ -156,7 +158,7 @@ fn is_undecided(domain: u8) -> bool
 }
 
 // "before" is known on some axis of the pair with this number.
-fn separated(k: &[u8; 135], number: usize) -> bool
+fn separated(k: &[u8; DOMAINS], number: usize) -> bool
     requires { ⌜ WellFormed (now k) × (number < 45) ⌝ }
     ensures { λ r. ⌜ r ≡ separated-at (now (k .entry)) number ⌝ }
 {
@@ -171,7 +173,7 @@ fn separated(k: &[u8; 135], number: usize) -> bool
 
 // The first pair in number order that has no known "before", and its first axis with more than one relation left; the pairs before number
 // `from` are known to have one.
-pub fn choose(k: &[u8; 135], n: usize, from: usize) -> Branching
+pub fn choose(k: &[u8; DOMAINS], n: usize, from: usize) -> Branching
     requires { ⌜ WellFormed (now k) × (n ≤ 10) ⌝ }
     ensures { λ r. ⌜ (Passed (now (k .entry)) from → Chosen (now (k .entry)) n r) ⌝ }
 {
@@ -211,8 +213,8 @@ pub fn pair_number(u: usize, v: usize) -> usize
 
 // The first or the second branch at a place: what it removes is all that is on the queue.
 pub fn apply_branch(
-    k: &mut [u8; 135],
-    rows: &mut [u32; 30],
+    k: &mut [u8; DOMAINS],
+    rows: &mut [u32; ROWS],
     queue: &mut [u16; MAX_QUEUE],
     place: Place,
     second: bool,

@@ -6,12 +6,13 @@ ghost use Rattle.chains.specs.Totals.{table, size-at};
 ghost use Rattle.nodes.specs.Starts as T;
 ghost use Rattle.nodes.specs.Starts.{Startable, Started};
 use chains::totals::SIZES;
+use chains::totals::TOTALS;
 use instance::Instance;
 use instance::Packing;
 use instance::Position;
 
 // Where an item starts on an axis: the greatest chain ending in it, less its own measure.
-fn start_at(t: &[u16; 93], a: usize, u: usize) -> u16
+fn start_at(t: &[u16; TOTALS], a: usize, u: usize) -> u16
     requires { ⌜ (length (now t) ≡ 93) × (a < 3) × (u < 10) × (size-at (now t) a u ≤ table (now t) 2 a u) ⌝ }
     ensures { λ r. ⌜ r ≡ T.start-at (now (t .entry)) a u ⌝ }
 {
@@ -19,7 +20,7 @@ fn start_at(t: &[u16; 93], a: usize, u: usize) -> u16
 }
 
 // "On each axis a piece starts at the total of the greatest chain ending in it, less its own measure".
-pub fn starts_of(t: &[u16; 93], n: usize) -> Packing
+pub fn starts_of(t: &[u16; TOTALS], n: usize) -> Packing
     requires { ⌜ Startable n (now t) ⌝ }
     ensures { λ r. ⌜ Started n (now (t .entry)) r ⌝ }
 {

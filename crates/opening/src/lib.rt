@@ -15,6 +15,9 @@ ghost use Rattle.domains.specs.Narrowed.{Outcome};
 ghost use Rattle.opening.specs.Openings.{FixedIf, PairsAsked, PairsCut, OutsideIf, RootedIf};
 use chains::cuts::too_long;
 use chains::totals::STARTS;
+use chains::totals::TOTALS;
+use domains::DOMAINS;
+use domains::ROWS;
 use domains::bits::bit;
 use domains::queue::MAX_QUEUE;
 use domains::removal::remove;
@@ -26,16 +29,16 @@ mod layout;
 // The opening domains with their rows, queue and totals; or that they are inconsistent.
 pub struct Root {
     pub consistent: bool,
-    pub domains: [u8; 135],
-    pub rows: [u32; 30],
+    pub domains: [u8; DOMAINS],
+    pub rows: [u32; ROWS],
     pub queue: [u16; MAX_QUEUE],
-    pub totals: [u16; 93],
+    pub totals: [u16; TOTALS],
 }
 
 // All but "u before v" on t is removed for each of the first m precedences u, v.
 fn fix_precedences(
-    k: &mut [u8; 135],
-    rows: &mut [u32; 30],
+    k: &mut [u8; DOMAINS],
+    rows: &mut [u32; ROWS],
     queue: &mut [u16; MAX_QUEUE],
     precedences: [Precedence; Instance::MAX_PRECEDENCES],
     m: usize,
@@ -58,16 +61,16 @@ fn fix_precedences(
 
 // Rule 5 for chains of one item each: of each axis and item those too long with it.
 fn cut_pairs(
-    k: &mut [u8; 135],
-    rows: &mut [u32; 30],
+    k: &mut [u8; DOMAINS],
+    rows: &mut [u32; ROWS],
     queue: &mut [u16; MAX_QUEUE],
-    t: &[u16; 93],
+    t: &[u16; TOTALS],
 ) -> bool
     requires { ⌜ Good (now k) (now rows) (now queue) × Tabled (now t) ⌝ }
     ensures { λ r. ⌜ Outcome (PairsAsked (now (t .entry))) (PairsCut (now (t .entry))) (now (k .entry)) (now (queue .entry)) (now (k .exit)) (now (rows .exit)) (now (queue .exit)) r × OutsideIf (now (t .entry)) (now (k .entry)) (now (k .exit)) r ⌝ }
 {
     let mut i: usize = 0;
-    while i < 30 {
+    while i < ROWS {
         let a = i / 10;
         let u = i % 10;
         if !remove(k, rows, queue, a, u, too_long(t, 0, STARTS, a, u) << 10) {
@@ -79,13 +82,13 @@ fn cut_pairs(
 }
 
 // What stands where the opening domains are inconsistent.
-fn no_root(totals: [u16; 93]) -> Root
+fn no_root(totals: [u16; TOTALS]) -> Root
     ensures { λ r. ⌜ r .consistent ≡ false ⌝ }
 {
     Root {
         consistent: false,
-        domains: [0u8; 135],
-        rows: [0u32; 30],
+        domains: [0u8; DOMAINS],
+        rows: [0u32; ROWS],
         queue: [0u16; MAX_QUEUE],
         totals,
     }
@@ -101,8 +104,8 @@ pub fn root_of(instance: Instance) -> Root
     if layout::any_large(&totals) {
         return no_root(totals);
     }
-    let mut domains = [7u8; 135];
-    let mut rows = [0u32; 30];
+    let mut domains = [7u8; DOMAINS];
+    let mut rows = [0u32; ROWS];
     let mut queue = [0u16; MAX_QUEUE];
     queue[0] = 1;
     let m = instance.precedence_count;

@@ -11,7 +11,10 @@ ghost use Rattle.chains.specs.NewLinks.{Charted, ExtendedIf, KeptIf};
 ghost use Rattle.propagation.specs.Events.{InOrder, Overlapped, WorkedIf};
 ghost use Rattle.propagation.specs.Propagated.{Ready, Answered};
 use chains::links::apply_link;
+use chains::totals::TOTALS;
+use domains::DOMAINS;
 use domains::Place;
+use domains::ROWS;
 use domains::bits::has;
 use domains::queue::MAX_QUEUE;
 use rules::overlaps::overlap;
@@ -35,10 +38,10 @@ fn in_order(row: u32, place: Place) -> Place
 
 // Rule 5 where one order of the pair is known.
 fn work_order(
-    k: &mut [u8; 135],
-    rows: &mut [u32; 30],
+    k: &mut [u8; DOMAINS],
+    rows: &mut [u32; ROWS],
     queue: &mut [u16; MAX_QUEUE],
-    t: &mut [u16; 93],
+    t: &mut [u16; TOTALS],
     place: Place,
 ) -> bool
     requires { ⌜ Good (now k) (now rows) (now queue) × Tabled (now t) × Proper 10 (place .axis) (place .u) (place .v) ⌝ }
@@ -60,8 +63,8 @@ fn work_order(
 
 // Rules 1 and 4 where the pair is known to overlap or not to.
 fn work_overlap(
-    k: &mut [u8; 135],
-    rows: &mut [u32; 30],
+    k: &mut [u8; DOMAINS],
+    rows: &mut [u32; ROWS],
     queue: &mut [u16; MAX_QUEUE],
     place: Place,
 ) -> bool
@@ -86,10 +89,10 @@ fn work_overlap(
 
 // All rules with a premise of the pair.
 fn work_off(
-    k: &mut [u8; 135],
-    rows: &mut [u32; 30],
+    k: &mut [u8; DOMAINS],
+    rows: &mut [u32; ROWS],
     queue: &mut [u16; MAX_QUEUE],
-    t: &mut [u16; 93],
+    t: &mut [u16; TOTALS],
     place: Place,
 ) -> bool
     requires { ⌜ Good (now k) (now rows) (now queue) × Tabled (now t) × Proper 10 (place .axis) (place .u) (place .v) ⌝ }
@@ -107,10 +110,10 @@ fn work_off(
 
 // All rules until nothing more can be removed. The answer is false where that is inconsistent.
 pub fn propagate(
-    k: &mut [u8; 135],
-    rows: &mut [u32; 30],
+    k: &mut [u8; DOMAINS],
+    rows: &mut [u32; ROWS],
     queue: &mut [u16; MAX_QUEUE],
-    t: &mut [u16; 93],
+    t: &mut [u16; TOTALS],
 ) -> bool
     requires { ⌜ Good (now k) (now rows) (now queue) × Tabled (now t) ⌝ }
     ensures { λ _. ⌜ Long (now (k .exit)) (now (rows .exit)) (now (queue .exit)) × SameMeasures (now (t .entry)) (now (t .exit)) ⌝ }

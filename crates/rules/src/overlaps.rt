@@ -9,7 +9,9 @@ ghost use Rattle.domains.specs.Narrowed.{Outcome};
 ghost use Rattle.rules.specs.Worked as W;
 ghost use Rattle.rules.specs.Worked.{Handled, Third, Overlapping};
 use crate::rings::ring_side;
+use domains::DOMAINS;
 use domains::Place;
+use domains::ROWS;
 use domains::bits::bit;
 use domains::bits::has;
 use domains::bits::overlapping;
@@ -29,8 +31,8 @@ fn next_axis(a: usize) -> usize
 
 // Rule 1: where the pair of an axis, known to overlap, does so on b too, overlap is removed on the third axis c.
 fn third_axis(
-    k: &mut [u8; 135],
-    rows: &mut [u32; 30],
+    k: &mut [u8; DOMAINS],
+    rows: &mut [u32; ROWS],
     queue: &mut [u16; MAX_QUEUE],
     place: Place,
     b: usize,
@@ -49,8 +51,8 @@ fn third_axis(
 
 // Rule 1 for both other axes, and the rings with the pair as a side.
 pub fn overlap(
-    k: &mut [u8; 135],
-    rows: &mut [u32; 30],
+    k: &mut [u8; DOMAINS],
+    rows: &mut [u32; ROWS],
     queue: &mut [u16; MAX_QUEUE],
     place: Place,
 ) -> bool

@@ -4,6 +4,8 @@ ghost use Rattle.model.specs.Clauses.{Lawful};
 ghost use Rattle.domains.specs.Queue.{Good};
 ghost use Rattle.domains.specs.Narrowed.{Outcome};
 ghost use Rattle.rules.specs.Worked.{Handled, Paths, Pathable, Reached};
+use domains::DOMAINS;
+use domains::ROWS;
 use domains::bits::AFTER;
 use domains::bits::BEFORE;
 use domains::bits::following;
@@ -38,8 +40,8 @@ fn beyond(near: u32, far: u32, v: usize) -> u32
 
 // Rules 2 and 3 with the pair u, v as a premise.
 pub fn follow(
-    k: &mut [u8; 135],
-    rows: &mut [u32; 30],
+    k: &mut [u8; DOMAINS],
+    rows: &mut [u32; ROWS],
     queue: &mut [u16; MAX_QUEUE],
     a: usize,
     u: usize,

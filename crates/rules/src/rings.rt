@@ -10,6 +10,8 @@ ghost use Rattle.domains.specs.Bits.{bit-at};
 ghost use Rattle.domains.specs.Queue.{Good};
 ghost use Rattle.domains.specs.Narrowed.{Outcome};
 ghost use Rattle.rules.specs.Worked.{Handled, Sides, Diagonal, OverlapAsked, OverlapAll};
+use domains::DOMAINS;
+use domains::ROWS;
 use domains::bits::ITEMS;
 use domains::bits::bit;
 use domains::bits::lowest;
@@ -20,8 +22,8 @@ use domains::removal::remove;
 
 // u is made to overlap each item of a set.
 fn keep_overlap(
-    k: &mut [u8; 135],
-    rows: &mut [u32; 30],
+    k: &mut [u8; DOMAINS],
+    rows: &mut [u32; ROWS],
     queue: &mut [u16; MAX_QUEUE],
     a: usize,
     u: usize,
@@ -35,8 +37,8 @@ fn keep_overlap(
 
 // The rings with q, r as a side, which are known to overlap.
 pub fn ring_side(
-    k: &mut [u8; 135],
-    rows: &mut [u32; 30],
+    k: &mut [u8; DOMAINS],
+    rows: &mut [u32; ROWS],
     queue: &mut [u16; MAX_QUEUE],
     a: usize,
     q: usize,
@@ -59,8 +61,8 @@ pub fn ring_side(
 
 // The rings with q, s as the diagonal, whose overlap is removed.
 pub fn ring_across(
-    k: &mut [u8; 135],
-    rows: &mut [u32; 30],
+    k: &mut [u8; DOMAINS],
+    rows: &mut [u32; ROWS],
     queue: &mut [u16; MAX_QUEUE],
     a: usize,
     q: usize,

@@ -7,7 +7,10 @@ ghost use Rattle.domains.specs.Queue.{Long};
 ghost use Rattle.chains.specs.Totals.{SameMeasures};
 ghost use Rattle.propagation.specs.Propagated.{Ready};
 ghost use Rattle.search.specs.Standing.{Lookable, Looked};
+use chains::totals::TOTALS;
+use domains::DOMAINS;
 use domains::Place;
+use domains::ROWS;
 use domains::queue::MAX_QUEUE;
 use nodes::branching::Branching;
 use nodes::branching::choose;
@@ -21,10 +24,10 @@ pub enum Outlook {
 
 // Propagates, and tells what the domains show; the pairs before number `from` are separated.
 pub fn look(
-    k: &mut [u8; 135],
-    rows: &mut [u32; 30],
+    k: &mut [u8; DOMAINS],
+    rows: &mut [u32; ROWS],
     queue: &mut [u16; MAX_QUEUE],
-    t: &mut [u16; 93],
+    t: &mut [u16; TOTALS],
     n: usize,
     from: usize,
 ) -> Outlook
