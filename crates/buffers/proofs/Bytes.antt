@@ -1,9 +1,10 @@
 -- Laws of words, positions and steps as bytes.
-use Rattle.prelude.specs.Names.{List, [], _∷_, _++_, map, append-nil, _≡_, refl, sym, ap, _∙_, ℕ, zero, suc, _+_, _*_, _/_, _%_, _≤_, _<_, ℕ-discrete}
+use Rattle.prelude.specs.Names.{List, [], _∷_, _++_, append-nil, _≡_, refl, sym, ap, _∙_, ℕ, zero, suc, _+_, _*_, _/_, _%_, _≤_, _<_, ℕ-discrete}
 use Rattle.prelude.specs.Names.{decLt, arith, add-zero, length, getD, take, set, replicate, length-set, drop-of-length-le, List·getD-eq-default, sets}
 use Rattle.prelude.specs.Names.{ext-getD, length-take-le, getD-set-same, getD-set-other, getD-append-add, getD-take}
 use Rattle.formats.specs.Formats.{row-bytes}
 use Rattle.formats.proofs.Stores.{sets-front, sets-append, row-next}
+use Rattle.instance.proofs.Positions.{ten-at}
 use Rattle.instance.specs.declared.Packing.{Packing}
 use Rattle.instance.specs.declared.Position.{Position}
 use Rattle.instance.specs.Values.{origin}
@@ -60,20 +61,6 @@ pub packing-fills : (n : ℕ) (q : Packing) (out : List ℕ) → n ≤ length (q
 unfolding packing-bytes
 packing-fills n q out h l = fills (packing-bytes n q) out (l ∙ sym (packing-length n q h))
 
--- the ten positions of a packing
-entry : (f : ℕ → Position) (u : ℕ) → u < 10 → getD (map f (0 ∷ 1 ∷ 2 ∷ 3 ∷ 4 ∷ 5 ∷ 6 ∷ 7 ∷ 8 ∷ 9 ∷ [])) u origin ≡ f u
-entry f zero h = refl
-entry f (suc zero) h = refl
-entry f (suc (suc zero)) h = refl
-entry f (suc (suc (suc zero))) h = refl
-entry f (suc (suc (suc (suc zero)))) h = refl
-entry f (suc (suc (suc (suc (suc zero))))) h = refl
-entry f (suc (suc (suc (suc (suc (suc zero)))))) h = refl
-entry f (suc (suc (suc (suc (suc (suc (suc zero))))))) h = refl
-entry f (suc (suc (suc (suc (suc (suc (suc (suc zero)))))))) h = refl
-entry f (suc (suc (suc (suc (suc (suc (suc (suc (suc zero))))))))) h = refl
-entry f (suc (suc (suc (suc (suc (suc (suc (suc (suc (suc u)))))))))) h = absurd (omega arith)
-
 -- what the bytes do not give is 0
 pub position-past : (s : List ℕ) (u : ℕ) → length s ≤ 6 * u → position-at s u ≡ origin
 position-past s u h =
@@ -109,7 +96,7 @@ pub read-all : (s : List ℕ) (ps : List Position) (n : ℕ) → ReadTo s ps n �
 unfolding packing-in
 read-all s ps n ρ l =
     ap (λ (k : List Position). record { positions = k })
-    (ext-getD origin ps _ (ρ .room) (λ u h. at u (decLt u n) ∙ sym (entry (position-at s) u (omega (arith, ρ .room)))))
+    (ext-getD origin ps _ (ρ .room) (λ u h. at u (decLt u n) ∙ sym (ten-at (position-at s) u (omega (arith, ρ .room)))))
   where
     at : (u : ℕ) → Dec (u < n) → getD ps u origin ≡ position-at s u
     at u (yes h) = ρ .there u h
@@ -135,6 +122,6 @@ position-back (p ∷ ps) (suc u) h =
 pub packing-back : (n u : ℕ) (q : Packing) → n ≤ length (q .positions) → n ≤ 10 → u < n → getD (packing-in (packing-bytes n q) .positions) u origin ≡ getD (q .positions) u origin
 unfolding packing-in packing-bytes
 packing-back n u q l m h =
-    entry (position-at (row-bytes position-bytes (take n (q .positions)))) u (omega arith)
+    ten-at (position-at (row-bytes position-bytes (take n (q .positions)))) u (omega arith)
     ∙ position-back (take n (q .positions)) u (omega (arith, length-take-le n (q .positions) l))
     ∙ getD-take n (q .positions) u origin h

@@ -3,3 +3,4 @@ pub mod Readers
 pub mod Sheets
 pub mod RoundTrips
 pub mod Readings
+pub mod Positions

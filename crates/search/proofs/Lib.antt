@@ -1,9 +1,6 @@
-pub mod Checkpoints
 pub mod Budget
 pub mod Packing
 pub mod Outcome
 pub mod Claim
-pub mod Seeing
-pub mod Standing
 pub mod Stepping
 pub mod Complete

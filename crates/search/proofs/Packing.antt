@@ -1,29 +1,16 @@
 -- A packing as a value.
-use Rattle.prelude.specs.Names.{List, [], _∷_, map, _⊎_, inl, inr, _≡_, refl, sym, ap, _∙_, ℕ, zero, suc, _≤_, _<_, decLt, arith, length, getD}
-use Rattle.prelude.specs.Names.{ext-getD, lt-ltb, le-ltb}
+use Rattle.prelude.specs.Names.{List, _⊎_, inl, inr, _≡_, refl, sym, ap, _∙_, ℕ, zero, suc, _≤_, _<_, decLt, arith, length, getD, ext-getD, lt-ltb}
+use Rattle.prelude.specs.Names.{le-ltb}
 use Rattle.model.specs.Admits.{Sound}
 use Rattle.model.specs.Branching.{Branch, path-domains, starts, plan}
 use Rattle.model.specs.Domains.{Domains}
 use Rattle.model.specs.Problem.{Problem, Positions, Feasible, EndsBefore, time}
+use Rattle.instance.proofs.Positions.{ten-at}
 use Rattle.instance.specs.Meaning.{start, positions-of}
 use Rattle.instance.specs.Values.{origin}
 use Rattle.instance.specs.declared.Packing.{Packing}
 use Rattle.instance.specs.declared.Position.{Position}
 use Rattle.search.specs.Results.{position-of, packing-of}
-
--- the ten entries of a packing
-entry : (f : ℕ → Position) (u : ℕ) → u < 10 → getD (map f (0 ∷ 1 ∷ 2 ∷ 3 ∷ 4 ∷ 5 ∷ 6 ∷ 7 ∷ 8 ∷ 9 ∷ [])) u origin ≡ f u
-entry f zero h = refl
-entry f (suc zero) h = refl
-entry f (suc (suc zero)) h = refl
-entry f (suc (suc (suc zero))) h = refl
-entry f (suc (suc (suc (suc zero)))) h = refl
-entry f (suc (suc (suc (suc (suc zero))))) h = refl
-entry f (suc (suc (suc (suc (suc (suc zero)))))) h = refl
-entry f (suc (suc (suc (suc (suc (suc (suc zero))))))) h = refl
-entry f (suc (suc (suc (suc (suc (suc (suc (suc zero)))))))) h = refl
-entry f (suc (suc (suc (suc (suc (suc (suc (suc (suc zero))))))))) h = refl
-entry f (suc (suc (suc (suc (suc (suc (suc (suc (suc (suc u)))))))))) h = absurd (omega arith)
 
 -- a value that has a packing's positions at its items, and 0 past them, is the packing's value
 module _ (p : Problem) (q : Positions) (r : Packing) (long : length (r .positions) ≡ 10)
@@ -42,12 +29,12 @@ module _ (p : Problem) (q : Positions) (r : Packing) (long : length (r .position
   packing-is =
       ap (λ (l : List Position). record { positions = l })
       (ext-getD origin (r .positions) _ long
-      (λ u h. entry-is u (decLt u (p .items)) ∙ sym (entry (position-of (p .items) q) u (omega arith))))
+      (λ u h. entry-is u (decLt u (p .items)) ∙ sym (ten-at (position-of (p .items) q) u (omega arith))))
 
 -- and back: its positions are the packing's
 pub packing-back : (p : Problem) → p .items ≤ 10 → (q : Positions) (a u : ℕ) → a < 3 → u < p .items → positions-of (packing-of p q) a u ≡ q a u
 unfolding positions-of packing-of
-packing-back p l q a u la lu = rw (entry (position-of (p .items) q) u (omega arith), lt-ltb u (p .items) lu) (go a la)
+packing-back p l q a u la lu = rw (ten-at (position-of (p .items) q) u (omega arith), lt-ltb u (p .items) lu) (go a la)
   where
     go : (a : ℕ) → a < 3 → start a (record { x = q 0 u; y = q 1 u; t = q 2 u }) ≡ q a u
     go zero h = refl

@@ -1,4 +1,2 @@
-pub mod Checkpoints
 pub mod Results
 pub mod Calls
-pub mod Standing

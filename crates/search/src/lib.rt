@@ -6,11 +6,10 @@ use crate::answer::SearchResult;
 use instance::Checkpoint;
 use instance::Instance;
 use instance::Status;
+use paths::path;
 use refusal::Refusal;
 
 pub mod answer;
-mod outlook;
-mod path;
 mod results;
 mod steps;
 

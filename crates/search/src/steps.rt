@@ -8,14 +8,11 @@ ghost use Rattle.model.specs.Run as R;
 ghost use Rattle.model.specs.Search as S;
 ghost use Rattle.instance.specs.Valid.{valid};
 ghost use Rattle.instance.specs.Meaning.{problem-of};
-ghost use Rattle.search.specs.Checkpoints.{Bits, path-of};
+ghost use Rattle.paths.specs.Checkpoints.{Bits, path-of};
 ghost use Rattle.search.specs.Results.{followed};
 ghost use Rattle.nodes.specs.Nodes.{slot-of, slot-coded};
 use crate::answer::Answer;
 use crate::answer::SearchResult;
-use crate::outlook::Outlook;
-use crate::outlook::look;
-use crate::path;
 use crate::results;
 use chains::totals::SIZES;
 use domains::DOMAINS;
@@ -29,6 +26,9 @@ use nodes::branching::pair_number;
 use nodes::levels;
 use nodes::levels::MAX_LEVELS;
 use nodes::starts;
+use paths::outlook::Outlook;
+use paths::outlook::look;
+use paths::path;
 use refusal::Refusal;
 
 // The place of a number.

@@ -1,0 +1,3 @@
+pub mod Checkpoints
+pub mod Seeing
+pub mod Standing
