@@ -14,9 +14,9 @@ use Rattle.instance.specs.Sheets.{decode}
 use Rattle.instance.specs.Meaning.{problem-of}
 use Rattle.instance.specs.Reads.{Reads}
 use Rattle.instance.specs.declared.Instance.{Instance}
-use Rattle.paths.proofs.Checkpoints.{checkpoint-back}
+use Rattle.tree_paths.proofs.Checkpoints.{checkpoint-back}
 use Rattle.search.proofs.Claim.{following-so, short, held-follows}
-use Rattle.paths.specs.Checkpoints.{value-of}
+use Rattle.tree_paths.specs.Checkpoints.{value-of}
 use Rattle.search.specs.declared.answer.SearchResult.{SearchResult}
 use Rattle.buffers.proofs.Bytes.{steps-back}
 use Rattle.c_api.specs.Calls.{lengths-fit, note-follows, instance-searched, searched, note-of, search-call, search-code}

@@ -11,7 +11,7 @@ use Rattle.instance.specs.Sheets.{decode}
 use Rattle.instance.specs.Meaning.{problem-of}
 use Rattle.instance.specs.Reads.{Reads}
 use Rattle.search.proofs.Claim.{following-so, answered-small, zero-is-spent}
-use Rattle.paths.specs.Checkpoints.{checkpoint-of, following}
+use Rattle.tree_paths.specs.Checkpoints.{checkpoint-of, following}
 use Rattle.search.specs.declared.answer.Answer.{Answer}
 use Rattle.search.specs.declared.answer.Answer.the-variants.{Packed, Infeasible, BudgetSpent, Refused}
 use Rattle.search.specs.declared.answer.SearchResult.{SearchResult}

@@ -13,10 +13,10 @@ use Rattle.instance.specs.declared.Instance.{Instance}
 use Rattle.instance.specs.declared.Packing.{Packing}
 use Rattle.packing.specs.Check.{check-answer, check-number}
 use Rattle.packing.specs.declared.CheckAnswer.{CheckAnswer}
-use Rattle.paths.proofs.Checkpoints.{value-short}
+use Rattle.tree_paths.proofs.Checkpoints.{value-short}
 use Rattle.search.proofs.Claim.{short, CallIs, invalid, not-following, searched, call-is}
 use Rattle.opening.proofs.Sound.{valid-sound}
-use Rattle.paths.specs.Checkpoints.{checkpoint-of, value-of}
+use Rattle.tree_paths.specs.Checkpoints.{checkpoint-of, value-of}
 use Rattle.search.specs.declared.answer.SearchResult.{SearchResult}
 use Rattle.buffers.specs.Bytes.{packing-in}
 use Rattle.buffers.specs.Checkpoints.{checkpoint-in, is-checkpoint}

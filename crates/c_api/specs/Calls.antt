@@ -8,7 +8,7 @@ use Rattle.instance.specs.Meaning.{problem-of}
 use Rattle.instance.specs.declared.Instance.{Instance}
 use Rattle.packing.specs.Check.{check-answer, check-number}
 use Rattle.packing.specs.declared.CheckAnswer.{CheckAnswer}
-use Rattle.paths.specs.Checkpoints.{checkpoint-of, following}
+use Rattle.tree_paths.specs.Checkpoints.{checkpoint-of, following}
 use Rattle.search.specs.declared.answer.Answer.{Answer}
 use Rattle.search.specs.declared.answer.Answer.the-variants.{Packed, Infeasible, BudgetSpent, Refused}
 use Rattle.search.specs.declared.answer.SearchResult.{SearchResult}

@@ -3,7 +3,7 @@ use Rattle.prelude.specs.Names.{List, _≡_, ℕ, _*_, length}
 use Rattle.model.specs.Problem.{Problem}
 use Rattle.model.specs.Run.{look}
 use Rattle.instance.specs.declared.Instance.{Instance}
-use Rattle.paths.specs.Checkpoints.{value-of}
+use Rattle.tree_paths.specs.Checkpoints.{value-of}
 use Rattle.buffers.specs.Checkpoints.{checkpoint-bytes}
 use Rattle.buffers.specs.Lengths.{note-length, steps-length, position-length}
 use Rattle.model.specs.Search as S

@@ -16,10 +16,10 @@ use Rattle.instance.specs.Values.{opening-checkpoint, origin-packing}
 use Rattle.instance.specs.declared.Checkpoint.{Checkpoint}
 use Rattle.instance.specs.declared.Instance.{Instance}
 use Rattle.search.specs.Calls.{values}
-use Rattle.paths.specs.Checkpoints.{checkpoint-of, well-formed, following, Following, branches-of, value-of}
+use Rattle.tree_paths.specs.Checkpoints.{checkpoint-of, well-formed, following, Following, branches-of, value-of}
 use Rattle.search.specs.Results.{answer-number, answer-of, packing-with, result-of, refused, result-if, search-result, SearchFault, nine, ten}
 use Rattle.search.specs.declared.answer.SearchResult.{SearchResult}
-use Rattle.paths.proofs.Checkpoints.{Short, checkpoint-back, value-well-formed}
+use Rattle.tree_paths.proofs.Checkpoints.{Short, checkpoint-back, value-well-formed}
 use Rattle.search.proofs.Packing.{packing-back, feasible-same}
 use Rattle.opening.proofs.Sound.{valid-sound}
 use Rattle.model.proofs.Theorems as T

@@ -13,13 +13,13 @@ use Rattle.instance.specs.declared.Checkpoint.{Checkpoint}
 use Rattle.instance.specs.declared.Instance.{Instance}
 use Rattle.instance.specs.declared.Packing.{Packing}
 use Rattle.instance.specs.declared.Status.{Status}
-use Rattle.paths.specs.Checkpoints.{path-of, with-status, well-formed, following, value-of}
+use Rattle.tree_paths.specs.Checkpoints.{path-of, with-status, well-formed, following, value-of}
 use Rattle.search.specs.Results.{answer-number, answer-of, packing-of, result-of, refused, followed, infeasible-after, spent-after}
 use Rattle.search.specs.Results.{packed-after, search-result}
-use Rattle.paths.specs.Standing.{Holds}
+use Rattle.tree_paths.specs.Standing.{Holds}
 use Rattle.search.specs.declared.answer.SearchResult.{SearchResult}
 use Rattle.search.proofs.Budget.{Comes, rest-start, rest-finished}
-use Rattle.paths.proofs.Checkpoints.{checkpoint-as}
+use Rattle.tree_paths.proofs.Checkpoints.{checkpoint-as}
 use Rattle.model.specs.Calls as C
 use Rattle.model.specs.Search as S
 

@@ -7,14 +7,14 @@ use Rattle.model.specs.Run.{look}
 use Rattle.refusal.specs.declared.Refusal.the-variants.{NotFollowing}
 use Rattle.instance.specs.declared.Checkpoint.{Checkpoint}
 use Rattle.instance.specs.declared.Packing.{Packing}
-use Rattle.paths.specs.Checkpoints.{branch-of, path-of, branches-of}
+use Rattle.tree_paths.specs.Checkpoints.{branch-of, path-of, branches-of}
 use Rattle.search.specs.Results.{packing-of, refused, followed, infeasible-after, spent-after, packed-after}
-use Rattle.paths.specs.Standing.{Holds}
+use Rattle.tree_paths.specs.Standing.{Holds}
 use Rattle.search.specs.declared.answer.SearchResult.{SearchResult}
 use Rattle.search.proofs.Budget.{Rest, rest-start, rest-next, rest-finished, rest-spent}
-use Rattle.paths.proofs.Checkpoints.{path-length, path-next, branch-back, branches-past, branches-small, first-held, again-at}
+use Rattle.tree_paths.proofs.Checkpoints.{path-length, path-next, branch-back, branches-past, branches-small, first-held, again-at}
 use Rattle.search.proofs.Outcome.{forking-fails, comes-infeasible, comes-spent, comes-packed, refused-result}
-use Rattle.paths.proofs.Standing.{Turn}
+use Rattle.tree_paths.proofs.Standing.{Turn}
 use Rattle.model.specs.Search as S
 
 -- the path of a checkpoint is gone along, and some steps lead on from it

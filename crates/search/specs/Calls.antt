@@ -8,7 +8,7 @@ use Rattle.instance.specs.Values.{opening-checkpoint, origin-packing}
 use Rattle.instance.specs.declared.Checkpoint.{Checkpoint}
 use Rattle.instance.specs.declared.Instance.{Instance}
 use Rattle.instance.specs.declared.Packing.{Packing}
-use Rattle.paths.specs.Checkpoints.{value-of}
+use Rattle.tree_paths.specs.Checkpoints.{value-of}
 use Rattle.search.specs.Results.{answer-number, packing-of, search-result}
 use Rattle.model.specs.Search as S
 

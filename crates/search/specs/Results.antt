@@ -10,7 +10,7 @@ use Rattle.instance.specs.declared.Checkpoint.{Checkpoint}
 use Rattle.instance.specs.declared.Instance.{Instance}
 use Rattle.instance.specs.declared.Packing.{Packing}
 use Rattle.instance.specs.declared.Position.{Position}
-use Rattle.paths.specs.Checkpoints.{checkpoint-of, following, Following, value-of}
+use Rattle.tree_paths.specs.Checkpoints.{checkpoint-of, following, Following, value-of}
 use Rattle.search.specs.declared.answer.Answer.{Answer}
 use Rattle.search.specs.declared.answer.Answer.the-variants.{Packed, Infeasible, BudgetSpent, Refused}
 use Rattle.search.specs.declared.answer.SearchResult.{SearchResult}

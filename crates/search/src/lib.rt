@@ -6,8 +6,8 @@ use crate::answer::SearchResult;
 use instance::Checkpoint;
 use instance::Instance;
 use instance::Status;
-use paths::path;
 use refusal::Refusal;
+use tree_paths::path;
 
 pub mod answer;
 mod results;

@@ -8,7 +8,7 @@ ghost use Rattle.model.specs.Run as R;
 ghost use Rattle.model.specs.Search as S;
 ghost use Rattle.instance.specs.Valid.{valid};
 ghost use Rattle.instance.specs.Meaning.{problem-of};
-ghost use Rattle.paths.specs.Checkpoints.{Bits, path-of};
+ghost use Rattle.tree_paths.specs.Checkpoints.{Bits, path-of};
 ghost use Rattle.search.specs.Results.{followed};
 ghost use Rattle.nodes.specs.Nodes.{slot-of, slot-coded};
 use crate::answer::Answer;
@@ -26,10 +26,10 @@ use nodes::branching::pair_number;
 use nodes::levels;
 use nodes::levels::MAX_LEVELS;
 use nodes::starts;
-use paths::outlook::Outlook;
-use paths::outlook::look;
-use paths::path;
 use refusal::Refusal;
+use tree_paths::outlook::Outlook;
+use tree_paths::outlook::look;
+use tree_paths::path;
 
 // The place of a number.
 fn place_of(number: u16) -> Place

@@ -5,10 +5,10 @@ use Rattle.instance.specs.Meaning.{problem-of}
 use Rattle.instance.specs.Reads.{Full}
 use Rattle.instance.specs.Valid.{valid}
 use Rattle.instance.specs.declared.Status.{Status}
-use Rattle.paths.specs.Checkpoints.{path-of, with-status, well-formed, following, Bits}
+use Rattle.tree_paths.specs.Checkpoints.{path-of, with-status, well-formed, following, Bits}
 use Rattle.search.specs.Results.{followed, infeasible-after, search-result}
 use Rattle.search.specs.declared.answer.SearchResult.{SearchResult}
-use Rattle.paths.proofs.Checkpoints.{well-formed-bits}
+use Rattle.tree_paths.proofs.Checkpoints.{well-formed-bits}
 use Rattle.search.proofs.Outcome.{comes-infeasible, comes-again, searched}
 use Rattle.model.specs.Search as S
 use Rattle.search.proofs.search.Tie as tie

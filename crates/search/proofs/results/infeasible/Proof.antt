@@ -1,6 +1,6 @@
 -- `search::results::infeasible` meets its contract.
 use Rattle.prelude.specs.Names.{needs}
-use Rattle.paths.specs.Checkpoints.{value-of, branches-of}
+use Rattle.tree_paths.specs.Checkpoints.{value-of, branches-of}
 use Rattle.search.specs.Results.{infeasible-after}
 use Rattle.search.proofs.results.infeasible.Tie as tie
 

@@ -1,6 +1,6 @@
 -- `search::steps::dead_end` meets its contract: no look is behind it.
 use Rattle.prelude.specs.Names.{[], _≡_, refl, sym, ap, _∙_, ℕ, _+_, _-_, arith, needs}
-use Rattle.paths.specs.Checkpoints.{branches-of}
+use Rattle.tree_paths.specs.Checkpoints.{branches-of}
 use Rattle.search.specs.Results.{infeasible-after, spent-after}
 use Rattle.search.proofs.Stepping.{way-root, not-following, result-infeasible, result-spent}
 use Rattle.search.proofs.steps.dead_end.Tie as tie

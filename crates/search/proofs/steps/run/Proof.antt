@@ -13,16 +13,16 @@ use Rattle.instance.proofs.Arrays.{length-mapped}
 use Rattle.instance.specs.Meaning.{problem-of}
 use Rattle.instance.specs.declared.Checkpoint.{Checkpoint}
 use Rattle.instance.specs.declared.Instance.{Instance}
-use Rattle.paths.specs.Standing.{Looked, Backed}
+use Rattle.tree_paths.specs.Standing.{Looked, Backed}
 use Rattle.domains.specs.declared.Place.{Place}
-use Rattle.paths.specs.declared.outlook.Outlook.{Outlook}
-use Rattle.paths.specs.declared.outlook.Outlook.the-variants.{Conflict, Complete, Fork}
+use Rattle.tree_paths.specs.declared.outlook.Outlook.{Outlook}
+use Rattle.tree_paths.specs.declared.outlook.Outlook.the-variants.{Conflict, Complete, Fork}
 use Rattle.nodes.proofs.Branches.{branchable}
-use Rattle.paths.proofs.Checkpoints.{branches-length}
+use Rattle.tree_paths.proofs.Checkpoints.{branches-length}
 use Rattle.search.proofs.Complete.{startable, started-plan}
 use Rattle.opening.proofs.Sound.{valid-sound}
-use Rattle.paths.proofs.Standing.{Standing, stand-root, same-behind, fork-rising, fork-pair, fork-level, fork-depth, stand-next, Turn}
-use Rattle.paths.proofs.Standing.{turn-held, turn-none, turn-there, turn-level, turn-below, turn-pair, turn-branchable, stand-back}
+use Rattle.tree_paths.proofs.Standing.{Standing, stand-root, same-behind, fork-rising, fork-pair, fork-level, fork-depth, stand-next, Turn}
+use Rattle.tree_paths.proofs.Standing.{turn-held, turn-none, turn-there, turn-level, turn-below, turn-pair, turn-branchable, stand-back}
 use Rattle.search.proofs.Stepping.{Way, way-root, way-small, way-fork, way-back, not-following, result-infeasible, result-packed, result-spent}
 use lib.ListN as L
 use Rattle.model.specs.Search as S

@@ -1,8 +1,8 @@
--- `paths::outlook::look` meets its contract.
+-- `tree_paths::outlook::look` meets its contract.
 use Rattle.prelude.specs.Names.{needs, not-true, not-false}
 use Rattle.model.specs.Wide.{wide}
-use Rattle.paths.proofs.Seeing.{looked-conflict, seen, looked-complete, looked-fork, seen-passed}
-use Rattle.paths.proofs.outlook.look.Tie as tie
+use Rattle.tree_paths.proofs.Seeing.{looked-conflict, seen, looked-complete, looked-fork, seen-passed}
+use Rattle.tree_paths.proofs.outlook.look.Tie as tie
 
 returns : tie.Need-returns
 returns c =
@@ -37,7 +37,7 @@ returns-3 c =
           (rw (c .before .place .given .1) at (c .before .before .before .choose .ensures (seen-passed p path s (l .count) (l .passed)))),
     )
 
-pub look-spec : {M : Type 1} → Rattle.paths.proofs.outlook.look.Statement.statement M
+pub look-spec : {M : Type 1} → Rattle.tree_paths.proofs.outlook.look.Statement.statement M
 look-spec = tie.close (tie.spec (λ c κs. search needs) returns
     (λ c κs. let (limited, known) = c .before .before .before .before .before .before .before .pre in let e = c .before .before .propagate in
     let h = rw (not-false (e .result) (c .before .if1 .left)) at (e .ensures .1 (known .0) (known .1)) in

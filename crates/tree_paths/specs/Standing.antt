@@ -7,9 +7,9 @@ use Rattle.model.specs.Run.{look}
 use Rattle.model.specs.Turns.{Passed}
 use Rattle.nodes.specs.Levels.{chunk}
 use Rattle.nodes.specs.Nodes.{slot-of, slot-coded, At, Seen}
-use Rattle.paths.specs.Checkpoints.{branches-of}
-use Rattle.paths.specs.declared.outlook.Outlook.{Outlook}
-use Rattle.paths.specs.declared.outlook.Outlook.the-variants.{Conflict, Complete, Fork}
+use Rattle.tree_paths.specs.Checkpoints.{branches-of}
+use Rattle.tree_paths.specs.declared.outlook.Outlook.{Outlook}
+use Rattle.tree_paths.specs.declared.outlook.Outlook.the-variants.{Conflict, Complete, Fork}
 use Rattle.model.specs.Search as S
 
 -- what is seen of a path, and what its domains are where they are consistent

@@ -15,12 +15,12 @@ use Rattle.model.specs.Problem.{Problem}
 use Rattle.model.specs.Propagate.{Slot}
 use Rattle.model.specs.Run.{look}
 use Rattle.model.specs.Turns.{saved, Passed, choice-number}
-use Rattle.paths.specs.Checkpoints.{branch-of}
+use Rattle.tree_paths.specs.Checkpoints.{branch-of}
 use Rattle.nodes.specs.Choice.{branch-by, Branchable, Branched}
 use Rattle.nodes.specs.Levels.{Stored, Loaded}
 use Rattle.domains.specs.Queue.{max-queue, code}
 use Rattle.nodes.specs.Nodes.{slot-of, slot-coded, At, Seen}
-use Rattle.paths.specs.Standing.{Kept, Stacked, Holds, Backed, some-left, none-left}
+use Rattle.tree_paths.specs.Standing.{Kept, Stacked, Holds, Backed, some-left, none-left}
 use Rattle.chains.specs.Totals.{SameMeasures}
 use Rattle.domains.specs.declared.Place.{Place}
 use Rattle.nodes.proofs.Branches.{branchable, branch-at-path}

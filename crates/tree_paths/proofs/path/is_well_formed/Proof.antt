@@ -1,7 +1,7 @@
--- `paths::path::is_well_formed` meets its contract.
+-- `tree_paths::path::is_well_formed` meets its contract.
 use Rattle.prelude.specs.Names.{needs, le-leb, lt-leb, not-true, not-false}
-use Rattle.paths.specs.Checkpoints.{well-formed}
-use Rattle.paths.proofs.path.is_well_formed.Tie as tie
+use Rattle.tree_paths.specs.Checkpoints.{well-formed}
+use Rattle.tree_paths.proofs.path.is_well_formed.Tie as tie
 
 returns : tie.Need-returns
 unfolding well-formed
@@ -15,5 +15,5 @@ returns-3 : tie.Need-returns-3
 unfolding well-formed
 returns-3 c = simp (le-leb _ _ (c .before .before .before .before .if1 .left), ← (c .before .before .before .length-allowed .ensures), not-false (c .before .before .before .length-allowed .result) (c .before .before .if2 .left)) (c .all-branches .ensures)
 
-pub is-well-formed-spec : {M : Type 1} → Rattle.paths.proofs.path.is_well_formed.Statement.statement M
+pub is-well-formed-spec : {M : Type 1} → Rattle.tree_paths.proofs.path.is_well_formed.Statement.statement M
 is-well-formed-spec = tie.close (tie.spec returns (λ c κs. search needs) returns-2 (λ c κs. search needs) returns-3)

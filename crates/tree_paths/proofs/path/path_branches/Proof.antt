@@ -1,9 +1,9 @@
--- `paths::path::path_branches` meets its contract. The first i branches are written: the array holds the path that they are.
+-- `tree_paths::path::path_branches` meets its contract. The first i branches are written: the array holds the path that they are.
 use Rattle.prelude.specs.Names.{_≡_, _-_, _≤_, arith, getD}
-use Rattle.paths.specs.Checkpoints.{branch-of, path-of, branches-of}
-use Rattle.paths.specs.Standing.{Holds}
-use Rattle.paths.proofs.Checkpoints.{holds-root, holds-next, bits-next, path-next}
-use Rattle.paths.proofs.path.path_branches.Tie as tie
+use Rattle.tree_paths.specs.Checkpoints.{branch-of, path-of, branches-of}
+use Rattle.tree_paths.specs.Standing.{Holds}
+use Rattle.tree_paths.proofs.Checkpoints.{holds-root, holds-next, bits-next, path-next}
+use Rattle.tree_paths.proofs.path.path_branches.Tie as tie
 
 abbrev Inv-loop : tie.InvT-loop
 Inv-loop length given branches₀ i₀ branches i = (i ≤ length) × Holds (path-of i given) branches i
@@ -25,6 +25,6 @@ loop-again c =
 returns : tie.Need-returns Inv-loop μ-loop
 returns c = let e : c .before .loop .i ≡ c .before .before .args .length = omega arith in rw (← e) (c .before .loop .inv .1 .values)
 
-pub path-branches-spec : {M : Type 1} → Rattle.paths.proofs.path.path_branches.Statement.statement M
+pub path-branches-spec : {M : Type 1} → Rattle.tree_paths.proofs.path.path_branches.Statement.statement M
 path-branches-spec = tie.close (tie.spec Inv-loop μ-loop loop-holds (λ c. omega arith) (λ c. omega (arith, c .before .before .pre .within))
     (λ c. omega arith) (λ c. omega arith) loop-again returns)

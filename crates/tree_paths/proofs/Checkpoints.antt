@@ -9,9 +9,9 @@ use Rattle.model.specs.Branching.{Branch, first, second}
 use Rattle.instance.specs.declared.Checkpoint.{Checkpoint}
 use Rattle.instance.specs.declared.Status.{Status}
 use Rattle.instance.specs.declared.Status.the-variants.{Open, Infeasible, Packed}
-use Rattle.paths.specs.Checkpoints.{branch-of, branch-number, path-of, with-status, checkpoint-of, length-allowed, all-branches, well-formed}
-use Rattle.paths.specs.Checkpoints.{Bits, branches-of, value-of}
-use Rattle.paths.specs.Standing.{Holds, Backed, some-left, none-left}
+use Rattle.tree_paths.specs.Checkpoints.{branch-of, branch-number, path-of, with-status, checkpoint-of, length-allowed, all-branches, well-formed}
+use Rattle.tree_paths.specs.Checkpoints.{Bits, branches-of, value-of}
+use Rattle.tree_paths.specs.Standing.{Holds, Backed, some-left, none-left}
 use Rattle.model.specs.Search as S
 
 -- a branch and its number

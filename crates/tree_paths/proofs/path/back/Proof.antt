@@ -1,11 +1,11 @@
--- `paths::path::back` meets its contract. Whatever path the array held, it holds the path with some trailing second branches dropped.
+-- `tree_paths::path::back` meets its contract. Whatever path the array held, it holds the path with some trailing second branches dropped.
 use Rattle.prelude.specs.Names.{List, _≡_, refl, _∙_, _≤_, arith, length-set}
 use Rattle.model.specs.Branching.{Branch}
-use Rattle.paths.specs.Standing.{Holds}
-use Rattle.paths.proofs.Checkpoints.{back-turned, back-dropped, back-none}
+use Rattle.tree_paths.specs.Standing.{Holds}
+use Rattle.tree_paths.proofs.Checkpoints.{back-turned, back-dropped, back-none}
 use lib.ListN as L
 use Rattle.model.specs.Search as S
-use Rattle.paths.proofs.path.back.Tie as tie
+use Rattle.tree_paths.proofs.path.back.Tie as tie
 
 abbrev Inv-loop : tie.InvT-loop
 Inv-loop branches₀ length left₀ branches left =
@@ -35,6 +35,6 @@ loop-again c = (
 returns-2 : tie.Need-returns-2 Inv-loop μ-loop
 returns-2 c = λ start h. let (path, g, e) = c .before .loop .inv .2 start h in rw e (back-none path g (omega arith))
 
-pub back-spec : {M : Type 1} → Rattle.paths.proofs.path.back.Statement.statement M
+pub back-spec : {M : Type 1} → Rattle.tree_paths.proofs.path.back.Statement.statement M
 back-spec = tie.close (tie.spec Inv-loop μ-loop (λ c. (omega arith, c .pre .0, λ start h. (start, h, refl))) (λ c. omega arith) (λ c. omega arith)
     (λ c. omega arith) (λ c. omega arith) returns (λ c. omega arith) (λ c. omega arith) (λ c. omega arith) (λ c. omega arith) loop-again returns-2)

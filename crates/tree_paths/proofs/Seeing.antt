@@ -12,9 +12,9 @@ use Rattle.model.specs.Wide.{wide}
 use Rattle.nodes.specs.Choice.{Chosen}
 use Rattle.propagation.specs.Propagated.{Propagated}
 use Rattle.nodes.specs.Nodes.{At, Seen}
-use Rattle.paths.specs.Standing.{Looked}
+use Rattle.tree_paths.specs.Standing.{Looked}
 use Rattle.domains.specs.declared.Place.{Place}
-use Rattle.paths.specs.declared.outlook.Outlook.the-variants.{Complete, Fork}
+use Rattle.tree_paths.specs.declared.outlook.Outlook.the-variants.{Complete, Fork}
 use Rattle.model.specs.Search as S
 use Rattle.nodes.specs.declared.branching.Branching.the-variants as B
 

@@ -6,7 +6,7 @@ ghost use Rattle.model.specs.Problem.{Problem};
 ghost use Rattle.domains.specs.Queue.{Long};
 ghost use Rattle.chains.specs.Totals.{SameMeasures};
 ghost use Rattle.propagation.specs.Propagated.{Ready};
-ghost use Rattle.paths.specs.Standing.{Lookable, Looked};
+ghost use Rattle.tree_paths.specs.Standing.{Lookable, Looked};
 use chains::totals::TOTALS;
 use domains::DOMAINS;
 use domains::Place;

@@ -1,7 +1,0 @@
--- `paths::path::length_allowed` meets its contract.
-use Rattle.prelude.specs.Names.{needs}
-use Rattle.paths.proofs.path.length_allowed.Tie as tie
-
-pub length-allowed-spec : {M : Type 1} → Rattle.paths.proofs.path.length_allowed.Statement.statement M
-length-allowed-spec = tie.close (tie.spec (λ c. search needs) (λ c. search needs) (λ c. search needs) (λ c. search needs)
-    (λ c. rw (c .enum-told2 .given .1)) (λ c. search needs))
