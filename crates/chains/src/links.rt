@@ -35,12 +35,12 @@ pub fn apply_link(
     if !ends.fits {
         return false;
     }
-    let turned = Place {
+    let back = Place {
         axis: a,
         u: place.v,
         v: place.u,
     };
-    let starts = link_on(rows, t, STARTS, 1, turned);
+    let starts = link_on(rows, t, STARTS, 1, back);
     if !starts.fits {
         return false;
     }

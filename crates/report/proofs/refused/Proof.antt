@@ -13,7 +13,8 @@ put-fields-requires c κs =
 
 returns : tie.Need-returns
 returns c =
-    let a = c .before .before .before .before .before .before .before .before .before .before .before .before .args in
+    let start = c .before .before .before .before .before .before .before .before .before .before .before .before in
+    let a = start .args in
     let w = c .before .before .before .before .before .before .before .before .put-bytes .ensures in
     let n = c .before .before .before .before .number in
     let m = c .before .before .before .place in
@@ -22,9 +23,10 @@ returns c =
     let l = line-length refused (n .result ∷ m .result ∷ []) in
     rw (← (n .ensures), ← (m .ensures)) (
       (omega (arith, w .0, f .0), omega (arith, w .0, f .0)),
-      rw (f .1, w .1) (line-run (a .out .now) refused (n .result ∷ m .result ∷ []) 0 _ (w .0) ∙ sets-front (line refused (n .result ∷ m .result ∷ [])) (a .out .now) (omega (arith, c .before .before .before .before .before .before .before .before .before .before .before .before .pre))),
+      rw (f .1, w .1) (line-run (a .out .now) refused (n .result ∷ m .result ∷ []) 0 _ (w .0)
+          ∙ sets-front (line refused (n .result ∷ m .result ∷ [])) (a .out .now) (omega (arith, start .pre))),
     )
 
 pub refused-spec : {M : Type 1} → Rattle.report.proofs.refused.Statement.statement M
 refused-spec = tie.close (tie.spec (λ c. search needs) (λ c κs. omega arith) (λ c κs. search needs) (λ c. search needs) (λ c κs. search needs)
-    put-fields-requires (λ c. omega (arith, c .before .before .before .before .before .before .before .before .put-bytes .kept .0, c .before .before .put-fields .kept .0)) returns)
+    put-fields-requires (λ c. let f = c .before .before in omega (arith, f .put-fields .kept .0, f .before .before .before .before .before .before .put-bytes .kept .0)) returns)

@@ -5,15 +5,18 @@ use Rattle.report.proofs.put.put_answer.Tie as tie
 
 put-fields-requires : tie.Need-put-fields-requires
 put-fields-requires c κs =
-    let s = c .before .before .before .before .before .before .before .args .steps in
-    (omega arith, omega (arith, c .before .before .before .put-bytes .kept .0, c .before .before .before .put-bytes .ensures .0, fields-short 9 (s ∷ []) (omega (arith, c .before .before .before .before .before .before .before .fits .steps), tt)))
+    let start = c .before .before .before .before .before .before .before in
+    let w = c .before .before .before .put-bytes in
+    let short = fields-short 9 (start .args .steps ∷ []) (omega (arith, start .fits .steps), tt) in
+    (omega arith, omega (arith, w .kept .0, w .ensures .0))
 
 returns : tie.Need-returns
 returns c =
-    let a = c .before .before .before .before .before .before .before .before .before .before .args in
+    let start = c .before .before .before .before .before .before .before .before .before .before in
+    let a = start .args in
     let w = c .before .before .before .before .before .before .put-bytes .ensures in
     let x = c .before .before .put-fields .ensures in
-    let s = fields-short 9 (a .steps ∷ []) (omega (arith, c .before .before .before .before .before .before .before .before .before .before .fits .steps), tt) in (
+    let short = fields-short 9 (a .steps ∷ []) (omega (arith, start .fits .steps), tt) in (
       (omega (arith, line-length (a .word .now) (a .steps ∷ []), w .0, x .0), omega (arith, w .0, x .0)),
       rw (x .1, w .1) (line-run (a .out .now) (a .word .now) (a .steps ∷ []) 0 _ (w .0)),
     )

@@ -14,10 +14,16 @@ loop-holds : tie.Need-loop-holds Inv-loop μ-loop
 loop-holds c = (omega arith, refl, refl)
 
 loop-again : tie.Need-loop-again Inv-loop μ-loop
-loop-again c = let l = c .before .before .loop in let a = c .before .before .before .args in (search needs, rw (l .inv .1) (sets-next (a .out .now) (a .bytes .now) (a .at) (l .i) (omega arith)), simp length-set (l .inv .2))
+loop-again c =
+    let l = c .before .before .loop in
+    let a = c .before .before .before .args in
+    (search needs, rw (l .inv .1) (sets-next (a .out .now) (a .bytes .now) (a .at) (l .i) (omega arith)), simp length-set (l .inv .2))
 
 returns : tie.Need-returns Inv-loop μ-loop
-returns c = let l = c .before .loop in let a = c .before .before .args in let e : l .i ≡ length (a .bytes .now) = omega arith in (rw e, l .inv .1 ∙ rw (e, take-length))
+returns c =
+    let l = c .before .loop in
+    let e : l .i ≡ length (c .before .before .args .bytes .now) = omega arith in
+    (rw e, l .inv .1 ∙ rw (e, take-length))
 
 pub put-bytes-spec : {M : Type 1} → Rattle.report.proofs.put.put_bytes.Statement.statement M
 put-bytes-spec = tie.close (tie.spec Inv-loop μ-loop loop-holds (λ c. search needs) (λ c. omega arith) (λ c. omega (arith)) (λ c. search needs)

@@ -12,7 +12,8 @@ abbrev μ-loop : tie.MeasureT-loop
 loop-again : tie.Need-loop-again Inv-loop μ-loop
 loop-again c =
     let w = c .before .before .put-field in
-    putting-next (c .before .before .before .before .before .loop .inv) (c .before .before .before .before .loop-test .taken) (w .ensures .1) (w .ensures .0) (w .kept .0)
+    let test = c .before .before .before .before in
+    putting-next (test .before .loop .inv) (test .loop-test .taken) (w .ensures .1) (w .ensures .0) (w .kept .0)
 
 returns : tie.Need-returns Inv-loop μ-loop
 returns c = putting-done (c .before .loop .inv) (c .loop-test .left)

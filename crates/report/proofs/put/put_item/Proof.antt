@@ -8,24 +8,28 @@ use Rattle.report.proofs.put.put_item.Tie as tie
 
 put-fields-requires : tie.Need-put-fields-requires
 put-fields-requires c κs =
-    let a = c .before .before .before .before .before .before .before .before .before .args in
+    let start = c .before .before .before .before .before .before .before .before .before in
+    let a = start .args in
     let w = c .before .before .before .before .before .before .put-decimal in
     let s = fields-short 4 (a .p .x ∷ a .p .y ∷ a .p .t ∷ []) (omega (arith, c .before .before), (omega (arith, c .before), (omega arith, tt))) in
-    (omega arith, omega (arith, w .kept .0, w .ensures .0, decimal-short 0 (a .u) (omega (arith, c .before .before .before .before .before .before .before .before .before .pre))))
+    (omega arith, omega (arith, w .kept .0, w .ensures .0, decimal-short 0 (a .u) (omega (arith, start .pre))))
 
 returns : tie.Need-returns
 unfolding item-line
 returns c =
-    let a = c .before .before .before .before .before .before .before .before .before .before .before .before .args in
-    let ns = a .p .x ∷ a .p .y ∷ a .p .t ∷ [] in
+    let start = c .before .before .before .before .before .before .before .before .before .before .before .before in
+    let a = start .args in
+    let last = c .before .before .before in
     let w = c .before .before .before .before .before .before .before .before .before .put-decimal .ensures in
     let f = c .before .before .put-fields .ensures in
-    let s = fields-short 4 (a .p .x ∷ a .p .y ∷ a .p .t ∷ []) (omega (arith, c .before .before .before .before .before), (omega (arith, c .before .before .before .before), (omega (arith, c .before .before .before), tt))) in
-    let d = decimal-short 0 (a .u) (omega (arith, c .before .before .before .before .before .before .before .before .before .before .before .before .pre)) in (
+    let s = fields-short 4 (a .p .x ∷ a .p .y ∷ a .p .t ∷ [])
+    (omega (arith, last .before .before), (omega (arith, last .before), (omega arith, tt))) in
+    let d = decimal-short 0 (a .u) (omega (arith, start .pre)) in (
       (omega (arith, line-length (decimal (a .u)) (a .p .x ∷ a .p .y ∷ a .p .t ∷ []), w .0, f .0), omega (arith, w .0, f .0)),
       rw (f .1, w .1) (line-run (a .out .now) (decimal (a .u)) (a .p .x ∷ a .p .y ∷ a .p .t ∷ []) (a .at) _ (w .0)),
     )
 
 pub put-item-spec : {M : Type 1} → Rattle.report.proofs.put.put_item.Statement.statement M
 put-item-spec = tie.close (tie.spec (λ c κs. omega (arith, decimal-short 0 (c .before .before .args .u) (omega arith))) (λ c. search needs)
-    (λ c. search needs) (λ c. search needs) put-fields-requires (λ c. omega (arith, c .before .before .before .before .before .before .before .before .before .put-decimal .kept .0, c .before .before .put-fields .kept .0)) returns)
+    (λ c. search needs) (λ c. search needs) put-fields-requires
+    (λ c. let f = c .before .before in omega (arith, f .put-fields .kept .0, f .before .before .before .before .before .before .before .put-decimal .kept .0)) returns)
