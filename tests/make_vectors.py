@@ -1,4 +1,4 @@
-"""Makes crates/vectors/stdin and crates/vectors/stdout: cases for reading, writing, item records, check and clearance.
+"""Makes crates/test_vectors/stdin and crates/test_vectors/stdout: cases for reading, writing, item records, check and clearance.
 
     python3 tests/make_vectors.py            writes both files
     python3 tests/make_vectors.py --check    says whether they are what it would write
@@ -837,7 +837,7 @@ def main():
         assert sum(line.startswith("refused %d 0" % number) for line in lines) >= 2
     stdin = b"".join(bytes([op]) + little(len(payload), 2) + payload for op, payload in cases)
     stdout = "".join(line + "\n" for line in lines).encode()
-    folder = os.path.join(os.path.dirname(os.path.abspath(__file__)), "..", "crates", "vectors")
+    folder = os.path.join(os.path.dirname(os.path.abspath(__file__)), "..", "crates", "test_vectors")
     files = [(os.path.join(folder, "stdin"), stdin), (os.path.join(folder, "stdout"), stdout)]
     if sys.argv[1:] == ["--check"]:
         for path, content in files:

@@ -1,6 +1,6 @@
 """Instances, packings, item records and clearance, written from document 01 alone and plainly.
 
-It shares nothing with the crates. tests/make_vectors.py takes the expected lines of crates/vectors from here.
+It shares nothing with the crates. tests/make_vectors.py takes the expected lines of crates/test_vectors from here.
 
 An instance is a dict:
     container         [width, depth, shifts]

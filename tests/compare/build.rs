@@ -14,7 +14,7 @@ fn main() {
         println!("cargo:rustc-link-lib=dylib=subject");
     } else {
         println!("cargo:rustc-link-search=native={library}");
-        for name in ["c_api", "exports"] {
+        for name in ["c_api", "test_exports"] {
             println!("cargo:rerun-if-changed={library}/lib{name}.a");
             println!("cargo:rustc-link-lib=static={name}");
         }

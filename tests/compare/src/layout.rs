@@ -1,4 +1,4 @@
-//! The bytes in which the crate `exports` takes a value: 264 of them, with the low byte first.
+//! The bytes in which the crate `test_exports` takes a value: 264 of them, with the low byte first.
 
 use crate::reference::sheet::{MOST_ITEMS, MOST_PRECEDENCES};
 use crate::reference::value::Value;

@@ -1,9 +1,0 @@
--- `packing::clearance` of the value.
-use Rattle.prelude.specs.Names.{needs}
-use Rattle.exports.proofs.clearance_of.Tie as tie
-
-returns : tie.Need-returns
-returns c = rw (c .clearance .ensures .0, c .before .packing-at .ensures, c .before .before .instance-in .ensures)
-
-pub clearance-of-spec : {M : Type 1} → Rattle.exports.proofs.clearance_of.Statement.statement M
-clearance-of-spec = tie.close (tie.spec (λ c κs. search needs) (λ c κs. search needs) (λ c κs. search needs) returns)

@@ -1,9 +1,0 @@
--- Of the clearance's answer.
-use Rattle.prelude.specs.Names.{needs}
-use Rattle.exports.proofs.exports_clearance_number.Tie as tie
-
-returns : tie.Need-returns
-returns c = rw (c .clearance-number .ensures, c .before .clearance-of .ensures)
-
-pub exports-clearance-number-spec : {M : Type 1} → Rattle.exports.proofs.exports_clearance_number.Statement.statement M
-exports-clearance-number-spec = tie.close (tie.spec (λ c κs. search needs) (λ c κs. search needs) returns)

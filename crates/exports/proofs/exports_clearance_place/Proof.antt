@@ -1,9 +1,0 @@
--- Of the clearance's answer.
-use Rattle.prelude.specs.Names.{needs}
-use Rattle.exports.proofs.exports_clearance_place.Tie as tie
-
-returns : tie.Need-returns
-returns c = rw (c .clearance-place .ensures, c .before .clearance-of .ensures)
-
-pub exports-clearance-place-spec : {M : Type 1} → Rattle.exports.proofs.exports_clearance_place.Statement.statement M
-exports-clearance-place-spec = tie.close (tie.spec (λ c κs. search needs) (λ c κs. search needs) returns)

@@ -1,9 +1,0 @@
--- Of the reading's answer.
-use Rattle.prelude.specs.Names.{needs}
-use Rattle.exports.proofs.exports_read_place.Tie as tie
-
-returns : tie.Need-returns
-returns c = rw (c .read-place .ensures, c .before .read .ensures)
-
-pub exports-read-place-spec : {M : Type 1} → Rattle.exports.proofs.exports_read_place.Statement.statement M
-exports-read-place-spec = tie.close (tie.spec (λ c κs. search needs) (λ c κs. search needs) returns)

@@ -1,8 +1,0 @@
--- The small halls of document 01, by computation.
-use Rattle.prelude.specs.Names.{true, _≡_, refl}
-use Rattle.model.specs.Below.{all-in}
-use Rattle.halls.specs.Halls.{right, cases}
-
-pub cases-right : all-in right cases ≡ true
-unfolding right cases
-cases-right = refl

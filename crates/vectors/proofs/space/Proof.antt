@@ -1,9 +1,0 @@
--- The array has as many bytes as its type says, with none of them written out.
-use Rattle.prelude.specs.Names.{sym, ℕ, length-replicate}
-use Rattle.vectors.proofs.space.Tie as tie
-
-returns : tie.Need-returns
-returns c = sym (length-replicate {A = ℕ} 524288 0)
-
-pub space-spec : {M : Type 1} → Rattle.vectors.proofs.space.Statement.statement M
-space-spec = tie.close (tie.spec returns)
