@@ -8,7 +8,8 @@ use Rattle.instance.proofs.Positions.{ten-at}
 use Rattle.instance.specs.declared.Packing.{Packing}
 use Rattle.instance.specs.declared.Position.{Position}
 use Rattle.instance.specs.Values.{origin}
-use Rattle.buffers.specs.Bytes.{word-bytes, word-at, position-bytes, packing-bytes, position-at, packing-in, step-bytes, steps-in}
+use Rattle.sheet.specs.Places.{word-at}
+use Rattle.buffers.specs.Bytes.{word-bytes, position-bytes, packing-bytes, plan-position, packing-in, step-bytes, steps-in}
 
 -- a word and the steps come back from their bytes
 pub word-back : (v : ℕ) → v % 256 + 256 * (v / 256) ≡ v
@@ -62,7 +63,7 @@ unfolding packing-bytes
 packing-fills n q out h l = fills (packing-bytes n q) out (l ∙ sym (packing-length n q h))
 
 -- what the bytes do not give is 0
-pub position-past : (s : List ℕ) (u : ℕ) → length s ≤ 6 * u → position-at s u ≡ origin
+pub position-past : (s : List ℕ) (u : ℕ) → length s ≤ 6 * u → plan-position s u ≡ origin
 position-past s u h =
     let z : (k : ℕ) → length s ≤ k → getD s k 0 ≡ 0 = λ k l. List·getD-eq-default s 0 l in
     rw (z (6 * u) h, z (6 * u + 1) (omega arith), z (6 * u + 2) (omega arith), z (6 * u + 2 + 1) (omega arith), z (6 * u + 4) (omega arith), z (6 * u + 4 + 1) (omega arith))
@@ -70,7 +71,7 @@ position-past s u h =
 -- the first u positions are read, with 0 past them
 pub record ReadTo (s : List ℕ) (ps : List Position) (u : ℕ) : Type 0 where
   pub room : length ps ≡ 10
-  pub there : (v : ℕ) → v < u → getD ps v origin ≡ position-at s v
+  pub there : (v : ℕ) → v < u → getD ps v origin ≡ plan-position s v
   pub blank : (v : ℕ) → u ≤ v → getD ps v origin ≡ origin
 
 pub read-none : (s : List ℕ) → ReadTo s (replicate 10 origin) 0
@@ -81,14 +82,14 @@ read-none s = record { room = refl; there = λ v h. absurd (omega arith); blank 
     blank-at (suc n) zero = refl
     blank-at (suc n) (suc v) = blank-at n v
 
-pub read-next : {s : List ℕ} {ps : List Position} {u : ℕ} (p : Position) → ReadTo s ps u → u < 10 → p ≡ position-at s u → ReadTo s (set ps u p) (u + 1)
+pub read-next : {s : List ℕ} {ps : List Position} {u : ℕ} (p : Position) → ReadTo s ps u → u < 10 → p ≡ plan-position s u → ReadTo s (set ps u p) (u + 1)
 read-next {s} {ps} {u} p ρ h e = record {
   room = length-set ps u p ∙ ρ .room;
   there = λ v l. go v l (ℕ-discrete v u);
   blank = λ v l. let d : v ≡ u → ⊥ = λ q. omega arith in getD-set-other ps u v p origin d ∙ ρ .blank v (omega arith);
 }
   where
-    go : (v : ℕ) → v < u + 1 → Dec (v ≡ u) → getD (set ps u p) v origin ≡ position-at s v
+    go : (v : ℕ) → v < u + 1 → Dec (v ≡ u) → getD (set ps u p) v origin ≡ plan-position s v
     go v l (yes q) = rw q (getD-set-same ps u p origin (omega (arith, ρ .room)) ∙ e)
     go v l (no d) = getD-set-other ps u v p origin d ∙ ρ .there v (omega arith)
 
@@ -96,14 +97,14 @@ pub read-all : (s : List ℕ) (ps : List Position) (n : ℕ) → ReadTo s ps n �
 unfolding packing-in
 read-all s ps n ρ l =
     ap (λ (k : List Position). record { positions = k })
-    (ext-getD origin ps _ (ρ .room) (λ u h. at u (decLt u n) ∙ sym (ten-at (position-at s) u (omega (arith, ρ .room)))))
+    (ext-getD origin ps _ (ρ .room) (λ u h. at u (decLt u n) ∙ sym (ten-at (plan-position s) u (omega (arith, ρ .room)))))
   where
-    at : (u : ℕ) → Dec (u < n) → getD ps u origin ≡ position-at s u
+    at : (u : ℕ) → Dec (u < n) → getD ps u origin ≡ plan-position s u
     at u (yes h) = ρ .there u h
     at u (no h) = ρ .blank u (omega arith) ∙ sym (position-past s u (omega arith))
 
 -- positions come back from their bytes
-pub position-back : (ps : List Position) (u : ℕ) → u < length ps → position-at (row-bytes position-bytes ps) u ≡ getD ps u origin
+pub position-back : (ps : List Position) (u : ℕ) → u < length ps → plan-position (row-bytes position-bytes ps) u ≡ getD ps u origin
 unfolding row-bytes
 position-back [] u h = absurd (omega arith)
 position-back (p ∷ ps) zero h = rw (word-back (p .x), word-back (p .y), word-back (p .t))
@@ -122,6 +123,6 @@ position-back (p ∷ ps) (suc u) h =
 pub packing-back : (n u : ℕ) (q : Packing) → n ≤ length (q .positions) → n ≤ 10 → u < n → getD (packing-in (packing-bytes n q) .positions) u origin ≡ getD (q .positions) u origin
 unfolding packing-in packing-bytes
 packing-back n u q l m h =
-    ten-at (position-at (row-bytes position-bytes (take n (q .positions)))) u (omega arith)
+    ten-at (plan-position (row-bytes position-bytes (take n (q .positions)))) u (omega arith)
     ∙ position-back (take n (q .positions)) u (omega (arith, length-take-le n (q .positions) l))
     ∙ getD-take n (q .positions) u origin h

@@ -1,6 +1,7 @@
 -- Positions and steps as bytes (document 01, "Refusals": "The planning screen, written in C, ..").
 use Rattle.prelude.specs.Names.{List, [], _∷_, _++_, map, ℕ, _+_, _*_, _/_, _%_, getD, take}
 use Rattle.formats.specs.Formats.{row-bytes}
+use Rattle.sheet.specs.Places.{word-at}
 use Rattle.instance.specs.declared.Packing.{Packing}
 use Rattle.instance.specs.declared.Position.{Position}
 use Rattle.buffers.specs.Lengths.{position-length}
@@ -8,10 +9,6 @@ use Rattle.buffers.specs.Lengths.{position-length}
 -- "2 bytes each", "low byte first"
 abbrev pub word-bytes : ℕ → List ℕ
 word-bytes v = v % 256 ∷ v / 256 ∷ []
-
--- the word that starts at a place
-abbrev pub word-at : List ℕ → ℕ → ℕ
-word-at s at = getD s at 0 + 256 * getD s (at + 1) 0
 
 -- "Its plan bytes are x, y, t for each piece"
 abbrev pub position-bytes : Position → List ℕ
@@ -21,11 +18,11 @@ unfoldable pub packing-bytes : ℕ → Packing → List ℕ
 packing-bytes n q = row-bytes position-bytes (take n (q .positions))
 
 -- the packing that plan bytes give; what they do not give is 0
-abbrev pub position-at : List ℕ → ℕ → Position
-position-at s u = record { x = word-at s (position-length * u); y = word-at s (position-length * u + 2); t = word-at s (position-length * u + 4) }
+abbrev pub plan-position : List ℕ → ℕ → Position
+plan-position s u = record { x = word-at s (position-length * u); y = word-at s (position-length * u + 2); t = word-at s (position-length * u + 4) }
 
 unfoldable pub packing-in : List ℕ → Packing
-packing-in s = record { positions = map (position-at s) (0 ∷ 1 ∷ 2 ∷ 3 ∷ 4 ∷ 5 ∷ 6 ∷ 7 ∷ 8 ∷ 9 ∷ []) }
+packing-in s = record { positions = map (plan-position s) (0 ∷ 1 ∷ 2 ∷ 3 ∷ 4 ∷ 5 ∷ 6 ∷ 7 ∷ 8 ∷ 9 ∷ []) }
 
 -- "4 bytes of steps, low byte first"
 unfoldable pub step-bytes : ℕ → List ℕ

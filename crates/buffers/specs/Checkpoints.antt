@@ -3,7 +3,8 @@ use Rattle.prelude.specs.Names.{Bool, true, _&&_, List, [], _∷_, _++_, ℕ, z
 use Rattle.instance.specs.declared.Checkpoint.{Checkpoint}
 use Rattle.instance.specs.declared.Status.{Status}
 use Rattle.instance.specs.declared.Status.the-variants.{Open, Infeasible, Packed}
-use Rattle.buffers.specs.Bytes.{word-bytes, word-at}
+use Rattle.sheet.specs.Places.{word-at}
+use Rattle.buffers.specs.Bytes.{word-bytes}
 
 -- "state (0 open, 1 none, 2 placed)"
 abbrev pub status-byte : Status → ℕ

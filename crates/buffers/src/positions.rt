@@ -5,7 +5,7 @@ ghost use mathlib.Core.Path.{_≡_};
 ghost use Prim.Native.Nat.{_+_, _*_, _≤_, _<_};
 ghost use lib.ListN.{length};
 ghost use lib.Seq.{sets};
-ghost use Rattle.buffers.specs.Bytes.{position-bytes, position-at, packing-bytes, packing-in};
+ghost use Rattle.buffers.specs.Bytes.{position-bytes, plan-position, packing-bytes, packing-in};
 use crate::words;
 use instance::Instance;
 use instance::Packing;
@@ -14,7 +14,7 @@ use instance::Position;
 // The position of item u.
 fn read_position(s: &[u8], u: usize) -> Position
     requires { ⌜ (u < max-items) × (position-length * u + position-length ≤ length (now s)) ⌝ }
-    ensures { λ r. ⌜ r ≡ position-at (now (s .entry)) u ⌝ }
+    ensures { λ r. ⌜ r ≡ plan-position (now (s .entry)) u ⌝ }
 {
     let at = crate::POSITION_BYTES * u;
     let x = words::word_at(s, at);

@@ -3,7 +3,8 @@ ghost use mathlib.Core.Path.{_≡_};
 ghost use Prim.Native.Nat.{_+_, _≤_, _<_};
 ghost use lib.ListN.{length};
 ghost use lib.Seq.{sets};
-ghost use Rattle.buffers.specs.Bytes.{word-bytes, word-at, step-bytes};
+ghost use Rattle.sheet.specs.Places.{word-at};
+ghost use Rattle.buffers.specs.Bytes.{word-bytes, step-bytes};
 
 pub fn code(x: u8) -> u32
     ensures { λ r. ⌜ (r ≡ x) × (r < 256) ⌝ }

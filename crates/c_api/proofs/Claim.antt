@@ -19,7 +19,7 @@ use Rattle.search.proofs.Claim.{following-so, short, held-follows}
 use Rattle.tree_paths.specs.Checkpoints.{value-of}
 use Rattle.search.specs.declared.answer.SearchResult.{SearchResult}
 use Rattle.buffers.proofs.Bytes.{steps-back}
-use Rattle.c_api.specs.Calls.{lengths-fit, note-follows, instance-searched, searched, note-of, search-call, search-code}
+use Rattle.c_api.specs.Calls.{lengths-fit, note-follows, instance-searched, searched, note-left, search-call, search-code}
 use Rattle.c_api.specs.Lists.{Lent, Call, own, other, on-bytes}
 use Rattle.c_api.specs.Notes.{note-bytes}
 use Rattle.c_api.proofs.Faults.{untouched}
@@ -56,15 +56,15 @@ module _ (sheet : List ℕ) (bytes : Bytes sheet) (r : Reads sheet) where
     -- and where one has a wrong length it is refused
     wrong-length : lengths-fit i 273 (length (c .steps)) (length (c .plan)) ≡ false
         → 100 ≤ search-code sheet (note-bytes κ) (c .allowance) (c .steps) (c .plan)
-    unfolding search-call instance-searched R.refused
+    unfolding search-call instance-searched R.result-refused
     wrong-length h = rw (r .reads, note-length κ, h) (omega arith)
 
     -- the note that a result leaves
     abbrev left : SearchResult → List ℕ
-    left x = note-of x (note-bytes κ)
+    left x = note-left x (note-bytes κ)
 
     reaches : (t : ℕ) (μ : S.Checkpoint) → t ≡ taken (machine p) (c .allowance) κ
-        → call ≡ R.result-of p (record { answer = C.answer (machine p) (plan-at p) μ; steps = t; checkpoint = μ })
+        → call ≡ R.result-of p (record { answer = C.answer-at (machine p) (plan-at p) μ; steps = t; checkpoint = μ })
         → Reaches (machine p) (on-bytes sheet i) (own c) κ μ
     unfolding R.result-of note-bytes
     reaches t (S.open-at path) d e = record { code = rw e; next = ap left e; steps = rw (e, steps-back t) d; plan = rw e }
@@ -88,7 +88,7 @@ module _ (sheet : List ℕ) (bytes : Bytes sheet) (r : Reads sheet) where
 -- a call that is lent a note of another length is refused
 pub another-length : (sheet note : List ℕ) (c : Lent) → (length note ≡ 273 → ⊥)
     → 100 ≤ search-code sheet note (c .allowance) (c .steps) (c .plan)
-unfolding search-call instance-searched R.refused
+unfolding search-call instance-searched R.result-refused
 another-length sheet note c l = go (decode sheet)
   where
     go : (d : Reading.Read Instance) → 100 ≤ R.answer-number (searched d note (c .allowance) (length (c .steps)) (length (c .plan)) .answer)
@@ -98,7 +98,7 @@ another-length sheet note c l = go (decode sheet)
 -- "on a refused sheet every call is refused, and the note stays the opening one"
 pub every-call-refused : (sheet : List ℕ) (e : Refusal) → decode sheet ≡ Reading.refused e → (i : Instance) (calls : List (Call sheet))
     → AllRefused (on-bytes sheet i) (100 + number-of e) calls
-unfolding search-call R.refused
+unfolding search-call R.result-refused
 every-call-refused sheet e d i = all-refused (on-bytes sheet i) (100 + number-of e) (λ c x. rw d) keeps
   where
     keeps : (c : Call sheet) (x : List ℕ) → on-bytes sheet i .next c x ≡ x

@@ -77,15 +77,15 @@ module _ (sheet note steps plan : List ℕ) (allowance : ℕ) where
   read-is r d e = rw (r .reads, d, e)
 
   unread-code : (e : Refusal) → decode sheet ≡ refused e → code ≡ 100 + number-of e
-  unfolding search-call R.refused
+  unfolding search-call R.result-refused
   unread-code e d = rw d
 
   eight-code : (r : Reads sheet) → fit r ≡ false → code ≡ 108
-  unfolding R.refused
+  unfolding R.result-refused
   eight-code r d = ap number (read-is r d refl)
 
   ten-code : (r : Reads sheet) → fit r ≡ true → follow r ≡ false → code ≡ 110
-  unfolding R.refused
+  unfolding R.result-refused
   ten-code r d e = ap number (read-is r d e)
 
   module _ (bytes : Bytes sheet) (note-is : Bytes note) where
@@ -134,7 +134,7 @@ module _ (sheet note steps plan : List ℕ) (allowance : ℕ) where
         left : Reads sheet → C.Answer Positions → List ℕ
         left r a = when-packed (R.answer-of a) plan (packing-bytes (r .instance .«item_count») (R.packing-with (problem r) a))
 
-        fits : (r : Reads sheet) (μ : S.Checkpoint) → S.Follows (look (problem r)) μ → let a = C.answer (machine (problem r)) (plan-at (problem r)) μ in
+        fits : (r : Reads sheet) (μ : S.Checkpoint) → S.Follows (look (problem r)) μ → let a = C.answer-at (machine (problem r)) (plan-at (problem r)) μ in
             R.answer-number (R.answer-of a) ≡ 1 → check-code sheet (left r a) ≡ 1
         fits r (S.open-at path) f e = absurd (omega arith)
         fits r S.infeasible f e = absurd (omega arith)

@@ -8,7 +8,7 @@ use Rattle.formats.specs.Reading.{Bytes}
 use Rattle.tree_paths.proofs.Checkpoints.{branches-length, branches-past, well-formed-bits, well-formed-length, value-again}
 use Rattle.search.proofs.Claim.{following-so, held-follows}
 use Rattle.tree_paths.specs.Checkpoints.{checkpoint-of, well-formed, following, branches-of, value-of}
-use Rattle.buffers.specs.Bytes.{word-at}
+use Rattle.sheet.specs.Places.{word-at}
 use Rattle.buffers.specs.Checkpoints.{status-of, checkpoint-bytes, checkpoint-in, all-zero, is-checkpoint}
 use Rattle.c_api.specs.Calls.{note-follows}
 use Rattle.c_api.specs.Notes.{note-bytes, NoteFollows}

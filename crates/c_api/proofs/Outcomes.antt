@@ -40,12 +40,12 @@ lengths-so i note steps plan = (
 
 module _ (i : Instance) (note : List ℕ) (budget steps plan : ℕ) where
   pub wrong-lengths : lengths-fit i (length note) steps plan ≡ false
-      → instance-searched i note budget steps plan ≡ R.refused BadArgument (checkpoint-in note)
+      → instance-searched i note budget steps plan ≡ R.result-refused BadArgument (checkpoint-in note)
   unfolding instance-searched
   wrong-lengths h = rw h
 
   pub no-checkpoint : lengths-fit i (length note) steps plan ≡ true → is-checkpoint note ≡ false
-      → instance-searched i note budget steps plan ≡ R.refused NotFollowing (checkpoint-in note)
+      → instance-searched i note budget steps plan ≡ R.result-refused NotFollowing (checkpoint-in note)
   unfolding instance-searched note-follows
   no-checkpoint h k = rw (h, k)
 
@@ -66,7 +66,7 @@ module _ (i : Instance) (v : valid i ≡ true) (long : length (i .items) ≡ 10)
   Fit r = PathFits (r .answer) (r .checkpoint .length)
 
   pub path-fits : (c : Checkpoint) (budget : ℕ) → PathFits (R.search-result i c budget .answer) (R.search-result i c budget .checkpoint .length)
-  unfolding R.refused R.result-of
+  unfolding R.result-refused R.result-of
   path-fits c budget = go (call-is i c budget)
     where
       go : CallIs i c budget (R.search-result i c budget) → Fit (R.search-result i c budget)
@@ -77,7 +77,7 @@ module _ (i : Instance) (v : valid i ≡ true) (long : length (i .items) ≡ 10)
           let μ = steps (machine p) budget (checkpoint-of c) in
           let f = T.reached-follows p budget (checkpoint-of c) (φ .follows) in
           let s = value-short μ (short p (valid-sound i v long) μ f) in
-          subst Fit (sym r) (fits (C.answer (machine p) (plan-at p) μ) (value-of μ .length) s)
+          subst Fit (sym r) (fits (C.answer-at (machine p) (plan-at p) μ) (value-of μ .length) s)
 
 -- the check of a plan of the right length
 pub checked-is : (i : Instance) (plan : List ℕ) (q : Packing) (r : CheckAnswer) → length plan ≡ 6 * i .«item_count» → q ≡ packing-in plan → r ≡ check-answer i q

@@ -14,7 +14,7 @@ use Rattle.instance.specs.Sheets.{decode}
 use Rattle.instance.specs.Meaning.{start, problem-of, positions-of}
 use Rattle.instance.specs.Reads.{Reads}
 use Rattle.instance.specs.Valid.{valid}
-use Rattle.packing.specs.Check.{answer-of, check-answer, check-number}
+use Rattle.packing.specs.Check.{check-answer-if, check-answer, check-number}
 use Rattle.opening.proofs.Sound.{valid-sound}
 use Rattle.search.specs.Results.{packing-of}
 use Rattle.buffers.proofs.Bytes.{packing-length, packing-back}
@@ -71,7 +71,7 @@ module _ (sheet plan : List ℕ) where
     abbrev test : Checkable sheet plan → Bool
     test c = feasible (problem-of (c .sheet-reads .instance)) (positions-of (packing-in plan))
 
-    by-test : (c : Checkable sheet plan) → code ≡ check-number (answer-of true (test c))
+    by-test : (c : Checkable sheet plan) → code ≡ check-number (check-answer-if true (test c))
     unfolding check-code check-answer
     by-test c = rw (c .sheet-reads .reads, eq-eqb _ _ (c .plan-is), reads-valid sheet bytes (c .sheet-reads))
 

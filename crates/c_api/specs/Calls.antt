@@ -50,7 +50,7 @@ note-follows p note = is-checkpoint note && following p (checkpoint-in note)
 
 -- "8 before 10"
 abbrev pub searched-if : Bool → Bool → Instance → List ℕ → ℕ → SearchResult
-searched-if false f i note budget = R.refused BadArgument (checkpoint-in note)
+searched-if false f i note budget = R.result-refused BadArgument (checkpoint-in note)
 searched-if true f i note budget = R.followed-if f (problem-of i) budget (checkpoint-in note) (checkpoint-of (checkpoint-in note))
 
 -- the call on a sheet that reads as i, with so many step bytes and plan bytes
@@ -60,7 +60,7 @@ instance-searched i note budget steps plan =
 
 -- "or a refusal as check does": the sheet's first
 abbrev pub searched : Read Instance → List ℕ → ℕ → ℕ → ℕ → SearchResult
-searched (refused e) note budget steps plan = R.refused e (checkpoint-in note)
+searched (refused e) note budget steps plan = R.result-refused e (checkpoint-in note)
 searched (got i at rest) note budget steps plan = instance-searched i note budget steps plan
 
 -- "Every refusal leaves lent buffers untouched"
@@ -78,22 +78,22 @@ when-packed Infeasible old new = old
 when-packed (Refused e) old new = old
 
 -- "It rewrites the note and 4 bytes of steps"
-abbrev pub note-of : SearchResult → List ℕ → List ℕ
-note-of r note = rewritten (r .answer) note (checkpoint-bytes (r .checkpoint))
+abbrev pub note-left : SearchResult → List ℕ → List ℕ
+note-left r note = rewritten (r .answer) note (checkpoint-bytes (r .checkpoint))
 
-abbrev pub steps-of : SearchResult → List ℕ → List ℕ
-steps-of r steps = rewritten (r .answer) steps (step-bytes (r .steps))
+abbrev pub steps-left : SearchResult → List ℕ → List ℕ
+steps-left r steps = rewritten (r .answer) steps (step-bytes (r .steps))
 
 -- what is to be written has a path that a note has room for
 abbrev pub PathFits : Answer → ℕ → Type 0
-PathFits BudgetSpent length = length ≤ max-branches
-PathFits Packed length = length ≤ max-branches
-PathFits Infeasible length = length ≤ max-branches
-PathFits (Refused e) length = Unit {0}
+PathFits BudgetSpent n = n ≤ max-branches
+PathFits Packed n = n ≤ max-branches
+PathFits Infeasible n = n ≤ max-branches
+PathFits (Refused e) n = Unit {0}
 
 -- n is the number of items
-abbrev pub plan-of : ℕ → SearchResult → List ℕ → List ℕ
-plan-of n r plan = when-packed (r .answer) plan (packing-bytes n (r .packing))
+abbrev pub plan-left : ℕ → SearchResult → List ℕ → List ℕ
+plan-left n r plan = when-packed (r .answer) plan (packing-bytes n (r .packing))
 
 abbrev pub items-in : Read Instance → ℕ
 items-in (refused e) = 0
@@ -109,10 +109,10 @@ module _ (sheet note : List ℕ) (allowance : ℕ) (steps plan : List ℕ) where
   search-code = R.answer-number (search-call .answer)
 
   abbrev pub note-after : List ℕ
-  note-after = note-of search-call note
+  note-after = note-left search-call note
 
   abbrev pub steps-after : List ℕ
-  steps-after = steps-of search-call steps
+  steps-after = steps-left search-call steps
 
   abbrev pub plan-after : List ℕ
-  plan-after = plan-of (items-in (decode sheet)) search-call plan
+  plan-after = plan-left (items-in (decode sheet)) search-call plan

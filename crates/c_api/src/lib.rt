@@ -10,7 +10,7 @@ ghost use Rattle.formats.specs.Reading.{Bytes};
 ghost use Rattle.instance.specs.Valid.{valid};
 ghost use Rattle.packing.specs.Check.{check-number};
 ghost use Rattle.search.specs.Results.{answer-number};
-ghost use Rattle.c_api.specs.Calls.{lengths-fit, checked-if, plan-fits, check-code, instance-searched, note-of, steps-of, plan-of, PathFits, search-code, note-after, steps-after, plan-after};
+ghost use Rattle.c_api.specs.Calls.{lengths-fit, checked-if, plan-fits, check-code, instance-searched, note-left, steps-left, plan-left, PathFits, search-code, note-after, steps-after, plan-after};
 use buffers::checkpoints;
 use buffers::positions;
 use buffers::words;
@@ -107,9 +107,9 @@ fn search_instance(
 ) -> u32
     requires { ⌜ valid instance ≡ true ⌝ }
     ensures { λ r. ⌜ r ≡ answer-number (instance-searched instance (now (note .entry)) allowance (length (now (steps .entry))) (length (now (plan .entry))) .answer) ⌝ }
-    ensures { λ _. ⌜ now (note .exit) ≡ note-of (instance-searched instance (now (note .entry)) allowance (length (now (steps .entry))) (length (now (plan .entry)))) (now (note .entry)) ⌝ }
-    ensures { λ _. ⌜ now (steps .exit) ≡ steps-of (instance-searched instance (now (note .entry)) allowance (length (now (steps .entry))) (length (now (plan .entry)))) (now (steps .entry)) ⌝ }
-    ensures { λ _. ⌜ now (plan .exit) ≡ plan-of (instance .«item_count») (instance-searched instance (now (note .entry)) allowance (length (now (steps .entry))) (length (now (plan .entry)))) (now (plan .entry)) ⌝ }
+    ensures { λ _. ⌜ now (note .exit) ≡ note-left (instance-searched instance (now (note .entry)) allowance (length (now (steps .entry))) (length (now (plan .entry)))) (now (note .entry)) ⌝ }
+    ensures { λ _. ⌜ now (steps .exit) ≡ steps-left (instance-searched instance (now (note .entry)) allowance (length (now (steps .entry))) (length (now (plan .entry)))) (now (steps .entry)) ⌝ }
+    ensures { λ _. ⌜ now (plan .exit) ≡ plan-left (instance .«item_count») (instance-searched instance (now (note .entry)) allowance (length (now (steps .entry))) (length (now (plan .entry)))) (now (plan .entry)) ⌝ }
 {
     if !lengths_fit(instance, note.len(), steps.len(), plan.len()) {
         return refusal_code(Refusal::BadArgument);
@@ -133,9 +133,9 @@ fn hand_over(
     requires { ⌜ PathFits (result .answer) (result .checkpoint .length) ⌝ }
     requires { ⌜ (length (now note) ≡ note-length) × (length (now steps) ≡ steps-length) × (length (now plan) ≡ position-length * n) × (n ≤ max-items) ⌝ }
     ensures { λ r. ⌜ r ≡ answer-number (result .answer) ⌝ }
-    ensures { λ _. ⌜ now (note .exit) ≡ note-of result (now (note .entry)) ⌝ }
-    ensures { λ _. ⌜ now (steps .exit) ≡ steps-of result (now (steps .entry)) ⌝ }
-    ensures { λ _. ⌜ now (plan .exit) ≡ plan-of n result (now (plan .entry)) ⌝ }
+    ensures { λ _. ⌜ now (note .exit) ≡ note-left result (now (note .entry)) ⌝ }
+    ensures { λ _. ⌜ now (steps .exit) ≡ steps-left result (now (steps .entry)) ⌝ }
+    ensures { λ _. ⌜ now (plan .exit) ≡ plan-left n result (now (plan .entry)) ⌝ }
 {
     let answer = result.answer;
     let checkpoint = result.checkpoint;

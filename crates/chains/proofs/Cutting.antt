@@ -11,11 +11,11 @@ use Rattle.model.proofs.Claims.{gone-mono}
 use Rattle.model.proofs.Order.{below-refl}
 use Rattle.model.proofs.Toward.{by-direction}
 use Rattle.domains.specs.Bits.{bit-at, Gives, lowest-bit, TakenOut}
-use Rattle.domains.specs.Rows.{row}
-use Rattle.domains.specs.Queue.{end, Good}
+use Rattle.domains.specs.Rows.{row-at}
+use Rattle.domains.specs.Queue.{queue-end, Good}
 use Rattle.domains.specs.Narrowed.{Grown, Narrowed, Refuted, Each, Spares, All, Askable}
-use Rattle.chains.specs.Totals.{own, capacity-at, Tabled}
-use Rattle.chains.specs.Links.{at}
+use Rattle.chains.specs.Totals.{table-start, capacity-at, Tabled}
+use Rattle.chains.specs.Links.{total-at}
 use Rattle.chains.specs.Cuts.{above-both, exceeds, Comparable, EachAsked, Roomy, CutOf}
 use Rattle.domains.proofs.BitLaws.{bit-and, bit-or, bit-not, bit-power, bit-above, bit-below, bit-zero, bit-shr, bit-shl, shl-small, and-small}
 use Rattle.domains.proofs.Narrowed.{grown-none, grown-then, narrowed-none, narrowed-as}
@@ -50,28 +50,28 @@ module _ (f : ℕ → Bool) (n m : ℕ) (g : Gives n m f) where
   gives-skip e = next m (omega (arith, g .small, up-one)) (bit-above n m n (g .small) (omega arith) ∙ sym e) (λ i l. refl)
 
 -- the items too long with u
-pub compared : {t : List ℕ} {o r a u : ℕ} → Comparable t o r a u → at t o a u ≤ capacity-at t a
+pub compared : {t : List ℕ} {o r a u : ℕ} → Comparable t o r a u → total-at t o a u ≤ capacity-at t a
 compared {t} {o} {r} {a} {u} c =
     total-within {t = t} {o = o} {a = a} (record { tabled = c .tabled; table = c .table; most = omega (arith, c .other); axis = c .axis }) u (c .item)
 
 pub too-long : {t : List ℕ} {o r a u m : ℕ} → Comparable t o r a u
-    → Gives 10 m (λ v. ltb (capacity-at t a - at t o a u) (at t r a v))
+    → Gives 10 m (λ v. ltb (capacity-at t a - total-at t o a u) (total-at t r a v))
     → Gives 10 (bitAnd m (bitXor (2 ^ u) 1023)) (λ v. above-both t o r a u v && not (eqb v u))
 too-long {t} {o} {r} {a} {u} {m} c g = record {
   small = and-small 10 m (bitXor (2 ^ u) 1023) (g .small);
   is = λ v h. simp (bit-and, g .is v h, moved v (above-both t o r a u v) refl, bit-not 10 (2 ^ u) v h, bit-power);
 }
   where
-    moved : (v : ℕ) (b : Bool) → above-both t o r a u v ≡ b → ltb (capacity-at t a - at t o a u) (at t r a v) ≡ b
-    moved v true e = lt-ltb (capacity-at t a - at t o a u) (at t r a v) (omega (arith, compared c, ltb-true (capacity-at t a) _ e))
-    moved v false e = le-ltb (capacity-at t a - at t o a u) (at t r a v) (omega (arith, compared c, ltb-false (capacity-at t a) _ e))
+    moved : (v : ℕ) (b : Bool) → above-both t o r a u v ≡ b → ltb (capacity-at t a - total-at t o a u) (total-at t r a v) ≡ b
+    moved v true e = lt-ltb (capacity-at t a - total-at t o a u) (total-at t r a v) (omega (arith, compared c, ltb-true (capacity-at t a) _ e))
+    moved v false e = le-ltb (capacity-at t a - total-at t o a u) (total-at t r a v) (omega (arith, compared c, ltb-false (capacity-at t a) _ e))
 
 -- The relation x of u is removed with the items of a set: with those that are left of it
 module _ {k : Domains} {rows q : List ℕ} (g : Good k rows q) {x a u items : ℕ} (d : Direction x) (ha : a < 3) (hu : u < 10)
     (small : items < 2 ^ 10)
     (self : bit-at items u ≡ false) where
   abbrev pub left-of : ℕ
-  left-of = bitAnd items (bitXor (row rows a u / 2 ^ (x * 10)) 1023)
+  left-of = bitAnd items (bitXor (row-at rows a u / 2 ^ (x * 10)) 1023)
 
   -- as bits of the row of u
   abbrev pub asked-of : ℕ
@@ -81,10 +81,10 @@ module _ {k : Domains} {rows q : List ℕ} (g : Good k rows q) {x a u items : �
   hx = omega (arith, d .most)
 
   left-at : (v : ℕ) → v < 10 → bit-at left-of v ≡ (bit-at items v && not (gone k x a u v))
-  left-at v hv = simp (bit-and, bit-not 10 (row rows a u / 2 ^ (x * 10)) v hv, bit-shr, g .laid .mirror .is x a u v hx ha hu hv)
+  left-at v hv = simp (bit-and, bit-not 10 (row-at rows a u / 2 ^ (x * 10)) v hv, bit-shr, g .laid .mirror .is x a u v hx ha hu hv)
 
   pub left-small : left-of < 2 ^ 10
-  left-small = and-small 10 items (bitXor (row rows a u / 2 ^ (x * 10)) 1023) small
+  left-small = and-small 10 items (bitXor (row-at rows a u / 2 ^ (x * 10)) 1023) small
 
   left-in : (v : ℕ) → v < 10 → bit-at left-of v ≡ true → (bit-at items v ≡ true) × (gone k x a u v ≡ false)
   left-in v hv e = let p = and-both (bit-at items v) (not (gone k x a u v)) (sym (left-at v hv) ∙ e) in (p .0, not-true (gone k x a u v) (p .1))
@@ -134,7 +134,7 @@ pub record Cutting (t : List ℕ) (x a items : ℕ) (k : Domains) (q : List ℕ)
   pub tabled : Tabled t
   pub direction : Direction x
   pub axis : a < 3
-  pub first : 1 ≤ end q
+  pub first : 1 ≤ queue-end q
   pub grown : Grown k q j rows r
   pub low : (f : Domains) → Roomy t x a f → f ⊑ k → f ⊑ j
   pub through : Through 10 items left (λ u. (v : ℕ) → Proper 10 a u v → exceeds t x a u v ≡ true → gone j x a u v ≡ true)
@@ -154,11 +154,11 @@ module _ {t : List ℕ} {x a items : ℕ} {k : Domains} {q : List ℕ} where
     item : u < 10
     item = bit-below 10 left u (h .through .small) (low .2)
 
-    pub cutting-compared : Comparable t (own (converse x)) (own x) a u
+    pub cutting-compared : Comparable t (table-start (converse x)) (table-start x) a u
     cutting-compared = record {
       tabled = h .tabled;
-      table = by-direction (λ x. own (converse x) % 30 ≡ 0) refl refl x (h .direction);
-      other = by-direction (λ x. own (converse x) + own x ≡ 30) refl refl x (h .direction);
+      table = by-direction (λ x. table-start (converse x) % 30 ≡ 0) refl refl x (h .direction);
+      other = by-direction (λ x. table-start (converse x) + table-start x ≡ 30) refl refl x (h .direction);
       axis = h .axis;
       item = item;
     }

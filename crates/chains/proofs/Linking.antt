@@ -7,7 +7,7 @@ use Rattle.model.specs.Domains.{Domains, fixed-before}
 use Rattle.model.specs.Rules.{joined}
 use Rattle.model.specs.Order.{Proper, _⊑_}
 use Rattle.model.specs.Relations.{gone, Filled}
-use Rattle.model.specs.Claims.{forced, says}
+use Rattle.model.specs.Facts.{forced, says}
 use Rattle.model.specs.Clauses.{of}
 use Rattle.model.specs.Toward.{Goal, Direction, greatest, Linked, extended, Table, Under, Links, Cuts, ClosedBut, NoPair}
 use Rattle.model.proofs.Below.{and-both, and-intro, clash}
@@ -16,11 +16,11 @@ use Rattle.model.proofs.Slots.{proper-sym}
 use Rattle.model.proofs.Toward.{by-direction, goal-fits, under-link, under-cut, closed-grown, closed-less, closed-wider}
 use Rattle.model.proofs.Untouched.{goal-lawful}
 use Rattle.domains.specs.Bits.{bit-at}
-use Rattle.domains.specs.Rows.{row, Mirror}
-use Rattle.domains.specs.Queue.{end, Queued, Good, Long}
+use Rattle.domains.specs.Rows.{row-at, Mirror}
+use Rattle.domains.specs.Queue.{queue-end, Queued, Good, Long}
 use Rattle.domains.specs.Narrowed.{Grown, Narrowed, Refuted, Outcome}
-use Rattle.chains.specs.Totals.{own, table, capacity-at, Tabled, Measured, SameMeasures, Fitting}
-use Rattle.chains.specs.Links.{at, onward, LinkSet, Raised, none, more, Raises, Bursts, Linkable, Only, Told, On, Plain}
+use Rattle.chains.specs.Totals.{table-start, table, capacity-at, Tabled, Measured, SameMeasures, Fitting}
+use Rattle.chains.specs.Links.{total-at, onward, LinkSet, Raised, none, more, Raises, Bursts, Linkable, Only, InRows, On, Plain}
 use Rattle.chains.specs.Cuts.{exceeds, Roomy, CutOf}
 use Rattle.chains.specs.NewLinks.{SamePair, Charted, ExtendedIf, KeptIf}
 use Rattle.domains.proofs.Narrowed.{good-long, grown-then, queued-on}
@@ -34,14 +34,14 @@ extended-is p a v z m = by-direction (λ x. extended x p a v z m ≡ m + p .size
 
 -- The rows tell the links of the domains
 module _ {k : Domains} {rows : List ℕ} (m : Mirror k rows) {x a v z : ℕ} (d : Direction x) (ha : a < 3) where
-  told-is : v < 10 → z < 10 → (bit-at (row rows a v) z && bit-at (row rows a v) (x * 10 + z)) ≡ says (forced x) k a v z
+  told-is : v < 10 → z < 10 → (bit-at (row-at rows a v) z && bit-at (row-at rows a v) (x * 10 + z)) ≡ says (forced x) k a v z
   unfolding says
   told-is hv hz = ap₂ _&&_ (row-first m ha hv hz) (m .is x a v z (omega (arith, d .most)) ha hv hz)
 
-  linked-told : v < 10 → z < 10 → Linked x k a v z → Told rows x a v z
+  linked-told : v < 10 → z < 10 → Linked x k a v z → InRows rows x a v z
   linked-told hv hz l = record { item-v = hv; item-z = hz; bits = told-is hv hz ∙ l }
 
-  told-linked : Told rows x a v z → Linked x k a v z
+  told-linked : InRows rows x a v z → Linked x k a v z
   told-linked t = sym (told-is (t .item-v) (t .item-z)) ∙ t .bits
 
 -- The measures stay
@@ -63,32 +63,32 @@ same-measures l r = let h = grows l r in record { long = h .linkable .tabled .lo
 
 -- Totals under the chains of a goal stay so, and none of them bursts
 module _ {p : Problem} {k : Domains} {rows : List ℕ} (m : Mirror k rows) {x a : ℕ} (d : Direction x) (f : Domains) (goal : Goal p f) (b : f ⊑ k) where
-  link-under : {s : List ℕ} → Linkable s (own x) a → Measured p s → Under p (table s) f → (v z : ℕ) → Told rows x a v z
-      → onward s (own x) a v z ≤ greatest x p f a z
+  link-under : {s : List ℕ} → Linkable s (table-start x) a → Measured p s → Under p (table s) f → (v z : ℕ) → InRows rows x a v z
+      → onward s (table-start x) a v z ≤ greatest x p f a z
   link-under {s} l w under v z t =
       let hz : z < p .items = omega (arith, w .ten, t .item-z) in
       let most = under-link p f goal (table s) under k b x a v z d (l .axis) (omega (arith, w .ten, t .item-v)) hz (told-linked m d (l .axis) t) in
       omega (arith, most, extended-is p a v z (table s x a v) x d, w .size a z (l .axis) hz)
 
-  raised-under : {t s : List ℕ} {g : ℕ} → Linkable t (own x) a → Measured p t → Raised (Told rows x a) (own x) a t s g
+  raised-under : {t s : List ℕ} {g : ℕ} → Linkable t (table-start x) a → Measured p t → Raised (InRows rows x a) (table-start x) a t s g
       → Under p (table t) f → Under p (table s) f
   raised-under l w none under y c i e hc hi = under y c i e hc hi
   raised-under l w (more {s} v z r link longer) under y c i e hc hi =
-      go (λ y c i e hc hi. raised-under l w r under y c i e hc hi) (ℕ-discrete (own y + c * 10 + i) (own x + a * 10 + z))
+      go (λ y c i e hc hi. raised-under l w r under y c i e hc hi) (ℕ-discrete (table-start y + c * 10 + i) (table-start x + a * 10 + z))
     where
       total : ℕ
-      total = onward s (own x) a v z
+      total = onward s (table-start x) a v z
 
-      go : Under p (table s) f → Dec (own y + c * 10 + i ≡ own x + a * 10 + z)
-          → getD (set s (own x + a * 10 + z) total) (own y + c * 10 + i) 0 ≤ greatest y p f c i
+      go : Under p (table s) f → Dec (table-start y + c * 10 + i ≡ table-start x + a * 10 + z)
+          → getD (set s (table-start x + a * 10 + z) total) (table-start y + c * 10 + i) 0 ≤ greatest y p f c i
       go under (yes q) =
           let lk = grows l r .linkable in
           let same : (y ≡ x) × (c ≡ a) × (i ≡ z) = omega (arith, own-is x d, own-is y e, w .ten, longer .item-z) in
           rw (q, stored-same lk (longer .item-z) total, same .0, same .1, same .2)
           (link-under lk (measured-same (same-measures l r) w) under v z link)
-      go under (no q) = rw (getD-set-other s (own x + a * 10 + z) (own y + c * 10 + i) total 0 q) (under y c i e hc hi)
+      go under (no q) = rw (getD-set-other s (table-start x + a * 10 + z) (table-start y + c * 10 + i) total 0 q) (under y c i e hc hi)
 
-  never-bursts : {t s : List ℕ} → Linkable t (own x) a → Measured p t → Under p (table t) f → Bursts (Told rows x a) (own x) a t s → ⊥
+  never-bursts : {t s : List ℕ} → Linkable t (table-start x) a → Measured p t → Under p (table t) f → Bursts (InRows rows x a) (table-start x) a t s → ⊥
   never-bursts l w under burst =
       let ws = measured-same (same-measures l (burst .raised)) w in
       let most = link-under (grows l (burst .raised) .linkable) ws (raised-under l w (burst .raised) under) (burst .from) (burst .to) (burst .link) in
@@ -140,10 +140,10 @@ module _ {k : Domains} {rows q : List ℕ} (good : Good k rows q) {t : List ℕ}
   mirror : Mirror k rows
   mirror = good .laid .mirror
 
-  linkable : Linkable t (own x) a
+  linkable : Linkable t (table-start x) a
   linkable = record { tabled = tabled; table = omega (arith, own-is x d); most = omega (arith, own-is x d); axis = pair .axis }
 
-  link-asked : Plain rows × Linkable t (own x) a × Direction x × Told rows x a u v
+  link-asked : Plain rows × Linkable t (table-start x) a × Direction x × InRows rows x a u v
   link-asked = (
     record { long = mirror .long; small = mirror .small; self = λ a u ha hu. row-first mirror ha hu hu ∙ gone-self k 0 a u },
     linkable,
@@ -151,11 +151,11 @@ module _ {k : Domains} {rows q : List ℕ} (good : Good k rows q) {t : List ℕ}
     linked-told mirror d (pair .axis) (pair .item-u) (pair .item-v) link,
   )
 
-  link-bursts : {s : List ℕ} → Bursts (Told rows x a) (own x) a t s → SameMeasures t s × ((p : Problem) → Measured p t → Refuted (Fitting p t) k)
+  link-bursts : {s : List ℕ} → Bursts (InRows rows x a) (table-start x) a t s → SameMeasures t s × ((p : Problem) → Measured p t → Refuted (Fitting p t) k)
   link-bursts b =
       (same-measures linkable (b .raised), λ p w f fit h. never-bursts mirror d f (fit .goal) h linkable w (fit .under) b)
 
-  link-moves : {s : List ℕ} {g : ℕ} → Raises (Told rows x a) (On (Told rows x a) u v g) (own x) a t s g → Moved k x a u v g t s
+  link-moves : {s : List ℕ} {g : ℕ} → Raises (InRows rows x a) (On (InRows rows x a) u v g) (table-start x) a t s g → Moved k x a u v g t s
   link-moves {s} {g} r = let gr = grows linkable (r .raised) in record {
     tabled = gr .linkable .tabled;
     small = gr .small;
@@ -163,9 +163,9 @@ module _ {k : Domains} {rows q : List ℕ} (good : Good k rows q) {t : List ℕ}
     fitting = λ p w f fit h. record { goal = fit .goal; under = raised-under mirror d f (fit .goal) h linkable w (r .raised) (fit .under) };
     closed = λ p w L M C out c.
         closed-wider (λ y b i z e h n o. settled p w y b i z h n (⊎-map (out y b i z e) (λ c. c) o)) (λ b i z h. h)
-        (closed-grown L C p k (table t) c (Grew x a g) (table s) (λ y b i e hb hi. gr .up (own y + b * 10 + i)) (λ y b i e hb hi. ⊎-map (λ h. h)
-        (λ (z, hz, h, c). let at : (y ≡ x) × (b ≡ a) × (i ≡ z) = omega (arith, own-is x d, own-is y e, pair .axis, w .ten) in
-        (at .0, at .1, rw (at .2) c)) (gr .kept (own y + b * 10 + i))));
+        (closed-grown L C p k (table t) c (Grew x a g) (table s) (λ y b i e hb hi. gr .up (table-start y + b * 10 + i)) (λ y b i e hb hi. ⊎-map (λ h. h)
+        (λ (z, hz, h, c). let same-place : (y ≡ x) × (b ≡ a) × (i ≡ z) = omega (arith, own-is x d, own-is y e, pair .axis, w .ten) in
+        (same-place .0, same-place .1, rw (same-place .2) c)) (gr .kept (table-start y + b * 10 + i))));
   }
     where
       on : (p : Problem) → Measured p t → (y b i z : ℕ) → y ≡ x → b ≡ a → Proper (p .items) b i z → Linked y k b i z
@@ -184,15 +184,15 @@ module _ {k : Domains} {rows q : List ℕ} (good : Good k rows q) {t : List ℕ}
 
 -- a link is new only where its pair is on the queue
 pub closed-on : {k : Domains} {q : List ℕ} {j : Domains} {rows r : List ℕ} → Grown k q j rows r → {C : Cuts} {p : Problem} {t : Table} → p .items ≤ 10
-    → (from : ℕ) → 1 ≤ from → from ≤ end q → ClosedBut (λ x. Queued q from (end q)) C p k t → ClosedBut (λ x. Queued r from (end r)) C p j t
+    → (from : ℕ) → 1 ≤ from → from ≤ queue-end q → ClosedBut (λ x. Queued q from (queue-end q)) C p k t → ClosedBut (λ x. Queued r from (queue-end r)) C p j t
 closed-on {k} {q} {j} {rows} {r} g {C} {p} {t} limited from first within c =
     closed-wider (λ x a v z d w l h. inr (⊎-elim (queued-on g from a v z first) (λ (i, low, high, e). (i, omega arith, high, e)) h)) (λ a u v h. h)
-    (closed-less (λ x. Queued q from (end q)) C p k t c j (g .less) (λ x. Queued r (end q) (end r))
+    (closed-less (λ x. Queued q from (queue-end q)) C p k t c j (g .less) (λ x. Queued r (queue-end q) (queue-end r))
     (λ x a v z d w l. g .new (of (forced x) a v z) (omega arith) l))
 
 -- The function: the link is told by the rows, from either end
 module _ {k : Domains} {rows q t : List ℕ} {a u v : ℕ} (pre : Good k rows q × Tabled t × Proper 10 a u v × (fixed-before k a u v ≡ true)) where
-  pub ends-asked : Plain rows × Linkable t 0 a × Direction 2 × Told rows 2 a u v
+  pub ends-asked : Plain rows × Linkable t 0 a × Direction 2 × InRows rows 2 a u v
   ends-asked = let (g, s, pair, fixed) = pre in link-asked g s {x = 2} (omega arith) pair (forced-before-is k a u v ∙ fixed)
 
   -- what it answers
@@ -201,20 +201,20 @@ module _ {k : Domains} {rows q t : List ℕ} {a u v : ℕ} (pre : Good k rows q 
       (Long j rows′ r × SameMeasures t s × KeptIf j rows′ r s b)
       × ((p : Problem) (from : ℕ) → Charted p k q t from a u v → ExtendedIf p k q t from j rows′ r s b)
 
-  pub ends-burst : {s : List ℕ} → Bursts (Told rows 2 a) 0 a t s → Answer k rows q s false
+  pub ends-burst : {s : List ℕ} → Bursts (InRows rows 2 a) 0 a t s → Answer k rows q s false
   ends-burst b =
       let (g, t, pair, fixed) = pre in
       let (same, nil) = link-bursts g t {x = 2} (omega arith) pair (forced-before-is k a u v ∙ fixed) b in
       ((good-long g, same, tt), λ p from c. nil p (c .measured))
 
-  module _ {t₁ : List ℕ} {ends : ℕ} (r : Raises (Told rows 2 a) (On (Told rows 2 a) u v ends) 0 a t t₁ ends) where
+  module _ {t₁ : List ℕ} {ends : ℕ} (r : Raises (InRows rows 2 a) (On (InRows rows 2 a) u v ends) 0 a t t₁ ends) where
     e : Moved k 2 a u v ends t t₁
     e = let (g, t, pair, fixed) = pre in link-moves g t {x = 2} (omega arith) pair (forced-before-is k a u v ∙ fixed) r
 
-    pub starts-asked : Plain rows × Linkable t₁ 30 a × Direction 1 × Told rows 1 a v u
+    pub starts-asked : Plain rows × Linkable t₁ 30 a × Direction 1 × InRows rows 1 a v u
     starts-asked = let (g, t, pair, fixed) = pre in link-asked g (e .tabled) {x = 1} (omega arith) (proper-sym pair) (forced-after-is k a v u ∙ fixed)
 
-    pub starts-burst : {s : List ℕ} → Bursts (Told rows 1 a) 30 a t₁ s → Answer k rows q s false
+    pub starts-burst : {s : List ℕ} → Bursts (InRows rows 1 a) 30 a t₁ s → Answer k rows q s false
     starts-burst b =
         let (g, t, pair, fixed) = pre in
         let (same, nil) = link-bursts g (e .tabled) {x = 1} (omega arith) (proper-sym pair) (forced-after-is k a v u ∙ fixed) b in (
@@ -222,7 +222,7 @@ module _ {k : Domains} {rows q t : List ℕ} {a u v : ℕ} (pre : Good k rows q 
           λ p from c f fit l. nil p (measured-same (e .same) (c .measured)) f (e .fitting p (c .measured) f fit l) l,
         )
 
-    module _ {s : List ℕ} {starts : ℕ} (r₁ : Raises (Told rows 1 a) (On (Told rows 1 a) v u starts) 30 a t₁ s starts) where
+    module _ {s : List ℕ} {starts : ℕ} (r₁ : Raises (InRows rows 1 a) (On (InRows rows 1 a) v u starts) 30 a t₁ s starts) where
       h : Moved k 1 a v u starts t₁ s
       h = let (g, t, pair, fixed) = pre in link-moves g (e .tabled) {x = 1} (omega arith) (proper-sym pair) (forced-after-is k a v u ∙ fixed) r₁
 
@@ -250,7 +250,7 @@ module _ {k : Domains} {rows q t : List ℕ} {a u v : ℕ} (pre : Good k rows q 
 
         -- both directions followed, and the cuts made around the items that grew
         all-closed : {j : Domains} {rows₂ r : List ℕ} → Narrowed (Roomy s 2 a) (CutOf s 2 a starts) i q₁ j rows₂ r
-            → (p : Problem) (from : ℕ) → Charted p k q t from a u v → ClosedBut (λ x. Queued r from (end r)) NoPair p j (table s)
+            → (p : Problem) (from : ℕ) → Charted p k q t from a u v → ClosedBut (λ x. Queued r from (queue-end r)) NoPair p j (table s)
         unfolding joined
         all-closed {j} {rows₂} {r} n₂ p from c =
             let m = measured-same same (c .measured) in
@@ -265,12 +265,12 @@ module _ {k : Domains} {rows q t : List ℕ} {a u v : ℕ} (pre : Good k rows q 
             Cut b w z = (⊥ ⊎ (Grew 2 a ends 2 b w ⊎ Grew 2 a ends 1 b z)) ⊎ (Grew 1 a starts 2 b w ⊎ Grew 1 a starts 1 b z)
 
             Left : Links
-            Left y b w z = Queued q from (end q) b w z ⊎ ((y ≡ 1) × SamePair a v u b w z)
+            Left y b w z = Queued q from (queue-end q) b w z ⊎ ((y ≡ 1) × SamePair a v u b w z)
 
-            closed : ClosedBut (λ x. Queued r from (end r)) Cut p j (table s)
+            closed : ClosedBut (λ x. Queued r from (queue-end r)) Cut p j (table s)
             closed =
                 closed-on (grown-then (pre .0 .least) (n₁ .grown) (n₂ .grown)) (omega (arith, c .measured .ten)) from (c .first) (c .within)
-                (h .closed p (measured-same (e .same) (c .measured)) Left (λ x. Queued q from (end q)) _ (λ y b w z d o. o)
+                (h .closed p (measured-same (e .same) (c .measured)) Left (λ x. Queued q from (queue-end q)) _ (λ y b w z d o. o)
                 (e .closed p (c .measured) _ Left NoPair
                 (λ y b w z d o. ⊎-elim (λ o. inl (inl o)) (λ (f, o). by-direction (λ y. Left y b w z ⊎ ((y ≡ 2) × SamePair a u v b w z))
                 (inl (inr (refl, (f, ⊎-elim inr inl o)))) (inr (refl, (f, o))) y d) o) (c .closed)))

@@ -7,21 +7,21 @@ use Rattle.model.specs.Toward.{Direction}
 use Rattle.model.proofs.Toward.{by-direction}
 use Rattle.model.proofs.Below.{and-both, or-left, or-right, or-case, clash, fails}
 use Rattle.domains.specs.Bits.{bit-at, Gives, lowest-bit, TakenOut}
-use Rattle.domains.specs.Rows.{row}
-use Rattle.chains.specs.Totals.{own, table, capacity-at, Tabled}
-use Rattle.chains.specs.Links.{at, onward, LinkSet, Longer, Raised, none, more, Raises, Bursts, Linkable, Only, From, Told, On, Plain}
+use Rattle.domains.specs.Rows.{row-at}
+use Rattle.chains.specs.Totals.{table-start, table, capacity-at, Tabled}
+use Rattle.chains.specs.Links.{total-at, onward, LinkSet, Longer, Raised, none, more, Raises, Bursts, Linkable, Only, From, InRows, On, Plain}
 use Rattle.domains.proofs.BitLaws.{bit-or, bit-zero, bit-power, bit-below, has-bit, taken-rest, gives-in}
 use Rattle.chains.proofs.ChainMeasure.{room, measure-falls}
 use Rattle.domains.proofs.Through.{Through, through-none, through-one, through-all}
 
 -- where the table of a direction starts
-pub own-is : (x : ℕ) → Direction x → own x ≡ 60 - 30 * x
-own-is = by-direction (λ x. own x ≡ 60 - 30 * x) refl refl
+pub own-is : (x : ℕ) → Direction x → table-start x ≡ 60 - 30 * x
+own-is = by-direction (λ x. table-start x ≡ 60 - 30 * x) refl refl
 
-pub total-within : {t : List ℕ} {o a : ℕ} → Linkable t o a → (u : ℕ) → u < 10 → at t o a u ≤ capacity-at t a
+pub total-within : {t : List ℕ} {o a : ℕ} → Linkable t o a → (u : ℕ) → u < 10 → total-at t o a u ≤ capacity-at t a
 total-within {t} {o} {a} l u h = go (ℕ-discrete o 0)
   where
-    go : Dec (o ≡ 0) → at t o a u ≤ capacity-at t a
+    go : Dec (o ≡ 0) → total-at t o a u ≤ capacity-at t a
     go (yes z) = rw z (l .tabled .within 2 a u (omega arith) (l .axis) h)
     go (no z) = let e : o ≡ 30 = omega (arith, l .table, l .most) in rw e (l .tabled .within 1 a u (omega arith) (l .axis) h)
 
@@ -61,7 +61,7 @@ module _ {s : List ℕ} {o a : ℕ} (l : Linkable s o a) {z : ℕ} (hz : z < 10)
             (λ (e, f). let same : b ≡ a = omega (arith, own-is x d, l .table, l .axis) in
             let capacity : getD s (90 + b) 0 ≡ getD s (90 + a) 0 = rw same refl in
             omega (arith, stored-far (90 + b) (omega arith)))
-            (λ (e, f). omega (arith, stored-far (90 + b) (omega arith), l .tabled .within x b u d hb hu)) (stored (own x + b * 10 + u));
+            (λ (e, f). omega (arith, stored-far (90 + b) (omega arith), l .tabled .within x b u d hb hu)) (stored (table-start x + b * 10 + u));
       }
 
 -- What raising totals comes to: numbers only grow, those of the set and no others, each by a link
@@ -70,7 +70,7 @@ pub record Grows (L : LinkSet) (o a : ℕ) (t s : List ℕ) (g : ℕ) : Type 0 w
   pub small : g < 2 ^ 10
   pub up : (i : ℕ) → getD t i 0 ≤ getD s i 0
   pub kept : (i : ℕ) → (getD s i 0 ≡ getD t i 0) ⊎ ((z : ℕ) × (z < 10) × (i ≡ o + a * 10 + z) × (bit-at g z ≡ true))
-  pub rises : (z : ℕ) → bit-at g z ≡ true → (at t o a z < at s o a z) × ((v : ℕ) × L v z)
+  pub rises : (z : ℕ) → bit-at g z ≡ true → (total-at t o a z < total-at s o a z) × ((v : ℕ) × L v z)
 
 -- in a union
 in-or : (g h w : ℕ) → bit-at (bitOr g h) w ≡ true → (bit-at g w ≡ true) ⊎ (bit-at h w ≡ true)
@@ -88,7 +88,7 @@ grows {L} {o} {a} {t} l (more {s} {g} v z r link w) = one (grows l r)
     total = onward s o a v z
 
     up : Linkable s o a → (i : ℕ) → getD s i 0 ≤ getD (set s (o + a * 10 + z) total) i 0
-    up lk i = ⊎-elim (λ (e, f). let q : getD s i 0 ≡ at s o a z = rw e refl in omega (arith, w .less)) (λ (e, f). omega arith)
+    up lk i = ⊎-elim (λ (e, f). let q : getD s i 0 ≡ total-at s o a z = rw e refl in omega (arith, w .less)) (λ (e, f). omega arith)
         (stored lk (w .item-z) total i)
 
     -- one link more
@@ -111,9 +111,9 @@ module _ {L : LinkSet} {o a : ℕ} {t s : List ℕ} {g : ℕ} (h : Grows L o a t
   grows-far i far = ⊎-elim (λ e. e) (λ (z, hz, e, b). absurd (omega (arith, h .linkable .axis, h .linkable .most))) (h .kept i)
 
   -- a link that was followed still is, where its first item has not grown
-  pub grows-on : (v z : ℕ) → bit-at g v ≡ false → onward t o a v z ≤ at t o a z → onward s o a v z ≤ at s o a z
+  pub grows-on : (v z : ℕ) → bit-at g v ≡ false → onward t o a v z ≤ total-at t o a z → onward s o a v z ≤ total-at s o a z
   grows-on v z f e =
-      let same : at s o a v ≡ at t o a v =
+      let same : total-at s o a v ≡ total-at t o a v =
       ⊎-elim (λ e. e) (λ (z, hz, e, b). let q : z ≡ v = omega arith in absurd (clash (rw q at b) f)) (h .kept (o + a * 10 + v)) in
       omega (arith, grows-far (60 + a * 10 + z) (omega arith), h .up (o + a * 10 + z))
 
@@ -147,7 +147,7 @@ bursts-after {g = g} p f b = record {
 }
 
 -- One link
-pub link-kept : {o a v z : ℕ} {t : List ℕ} → onward t o a v z ≤ at t o a z → Raises (Only v z) (Only v z) o a t t 0
+pub link-kept : {o a v z : ℕ} {t : List ℕ} → onward t o a v z ≤ total-at t o a z → Raises (Only v z) (Only v z) o a t t 0
 link-kept h = record { raised = none; on = λ w y (e, f). rw (e, f) h }
 
 pub link-longer : {o a v z : ℕ} {t : List ℕ} → Linkable t o a → v ≢ z → Longer t o a v z
@@ -168,7 +168,7 @@ pub record Partway (v items o a : ℕ) (t s : List ℕ) (left grown : ℕ) : Typ
   pub item : v < 10
   pub self : bit-at items v ≡ false
   pub raised : Raised (From v items) o a t s grown
-  pub through : Through 10 items left (λ z. onward s o a v z ≤ at s o a z)
+  pub through : Through 10 items left (λ z. onward s o a v z ≤ total-at s o a z)
 
 module _ {v items o a : ℕ} {t : List ℕ} where
   pub partway-start : Linkable t o a × (v < 10) × (items < 2 ^ 10) × (bit-at items v ≡ false) → Partway v items o a t t items 0
@@ -207,25 +207,25 @@ module _ {v items o a : ℕ} {t : List ℕ} where
     }
 
 -- a link is of two items
-pub told-given : {rows t : List ℕ} {o x a u v : ℕ} → Plain rows × Linkable t o a × Direction x × Told rows x a u v
+pub told-given : {rows t : List ℕ} {o x a u v : ℕ} → Plain rows × Linkable t o a × Direction x × InRows rows x a u v
     → Linkable t o a × (u < 10) × (v < 10) × (u ≢ v)
 told-given {rows} {t} {o} {x} {a} {u} {v} (p, l, d, link) =
-    let linked = and-both (bit-at (row rows a u) v) (bit-at (row rows a u) (x * 10 + v)) (link .bits) .0 in
+    let linked = and-both (bit-at (row-at rows a u) v) (bit-at (row-at rows a u) (x * 10 + v)) (link .bits) .0 in
     (l, link .item-v, link .item-z, λ e. clash linked (rw (← e) (p .self a u (l .axis) (link .item-v))))
 
 -- The link from u to v was followed, to t and the items of `first`, and so are those on from every item that grows, but from those of `todo`
 pub record Progress (rows : List ℕ) (x o a u v : ℕ) (t : List ℕ) (first : ℕ) (s : List ℕ) (todo grown : ℕ) : Type 0 where
   pub plain : Plain rows
   pub linkable : Linkable s o a
-  pub raised : (r : List ℕ) → Raises (Only u v) (Only u v) o a r t first → Raised (Told rows x a) o a r s grown
+  pub raised : (r : List ℕ) → Raises (Only u v) (Only u v) o a r t first → Raised (InRows rows x a) o a r s grown
   pub small : todo < 2 ^ 10
-  pub on : (w z : ℕ) → On (Told rows x a) u v grown w z → (onward s o a w z ≤ at s o a z) ⊎ (bit-at todo w ≡ true)
+  pub on : (w z : ℕ) → On (InRows rows x a) u v grown w z → (onward s o a w z ≤ total-at s o a z) ⊎ (bit-at todo w ≡ true)
 
 pub first-bursts : {L : LinkSet} {o a u v : ℕ} → L u v → {t s : List ℕ} → Bursts (Only u v) o a t s → Bursts L o a t s
 first-bursts link = bursts-after none (λ w z (e, f). rw (e, f) link)
 
 module _ {rows : List ℕ} {x o a u v : ℕ} {r t : List ℕ} {first : ℕ} (b : Raises (Only u v) (Only u v) o a r t first) where
-  pub progress-start : Plain rows × Linkable r o a × Direction x × Told rows x a u v → Progress rows x o a u v t first t first first
+  pub progress-start : Plain rows × Linkable r o a × Direction x × InRows rows x a u v → Progress rows x o a u v t first t first first
   progress-start (p, l, d, link) = let gr = grows l (b .raised) in record {
     plain = p;
     linkable = gr .linkable;
@@ -235,7 +235,7 @@ module _ {rows : List ℕ} {x o a u v : ℕ} {r t : List ℕ} {first : ℕ} (b :
   }
 
   pub progress-end : {s : List ℕ} {todo grown : ℕ} → Progress rows x o a u v t first s todo grown → todo ≡ 0
-      → Raises (Told rows x a) (On (Told rows x a) u v grown) o a r s grown
+      → Raises (InRows rows x a) (On (InRows rows x a) u v grown) o a r s grown
   progress-end h e = record {
     raised = h .raised r b;
     on = λ w z m. ⊎-elim (λ q. q) (λ q. absurd (clash (rw e at q) (bit-zero w))) (h .on w z m);
@@ -247,16 +247,16 @@ module _ {rows : List ℕ} {x o a u v : ℕ} {t : List ℕ} {first : ℕ} {s : L
   pub progress-item : w < 10
   progress-item = bit-below 10 todo w (h .small) (low .2)
 
-  module _ {items : ℕ} (told : Gives 10 items (λ z. bit-at (row rows a w) z && bit-at (row rows a w) (x * 10 + z))) where
+  module _ {items : ℕ} (told : Gives 10 items (λ z. bit-at (row-at rows a w) z && bit-at (row-at rows a w) (x * 10 + z))) where
     pub progress-given : Linkable s o a × (w < 10) × (items < 2 ^ 10) × (bit-at items w ≡ false)
     progress-given =
         (h .linkable, progress-item, told .small, told .is w progress-item ∙ rw (h .plain .self a w (h .linkable .axis) progress-item) refl)
 
-    each : (y z : ℕ) → From w items y z → Told rows x a y z
+    each : (y z : ℕ) → From w items y z → InRows rows x a y z
     each y z (e, b) = let (hz, c) = gives-in told z b in rw e (record { item-v = progress-item; item-z = hz; bits = c })
 
     pub progress-bursts : {q : List ℕ} → Raises (Only u v) (Only u v) o a q t first → {r : List ℕ} → Bursts (From w items) o a s r
-        → Bursts (Told rows x a) o a q r
+        → Bursts (InRows rows x a) o a q r
     progress-bursts {q} b = bursts-after (h .raised q b) each
 
     module _ {rest : ℕ} (out : TakenOut todo (lowest-bit todo) rest) {r : List ℕ} {g : ℕ} (q : Raises (From w items) (From w items) o a s r g) where
@@ -275,8 +275,8 @@ module _ {rows : List ℕ} {x o a u v : ℕ} {t : List ℕ} {first : ℕ} {s : L
         on = λ y z (m, c). go y z m c (ℕ-discrete y w) (bit-at g y) refl;
       }
         where
-          go : (y z : ℕ) → Told rows x a y z → Only u v y z ⊎ (bit-at (bitOr grown g) y ≡ true) → Dec (y ≡ w) → (b : Bool) → bit-at g y ≡ b
-              → (onward r o a y z ≤ at r o a z) ⊎ (bit-at (bitOr rest g) y ≡ true)
+          go : (y z : ℕ) → InRows rows x a y z → Only u v y z ⊎ (bit-at (bitOr grown g) y ≡ true) → Dec (y ≡ w) → (b : Bool) → bit-at g y ≡ b
+              → (onward r o a y z ≤ total-at r o a z) ⊎ (bit-at (bitOr rest g) y ≡ true)
           go y z m c (yes e) b f = inl (q .on y z (e, told .is z (m .item-z) ∙ (rw e at m) .bits))
           go y z m c (no e) true f = inr (or-in rest g y (inr f))
           go y z m c (no e) false f = ⊎-map (grows-on gr y z f) (λ i. or-in rest g y (inl (taken-rest out y (rw (low .0) at e) ∙ i)))
@@ -286,7 +286,7 @@ module _ {rows : List ℕ} {x o a u v : ℕ} {t : List ℕ} {first : ℕ} {s : L
       progress-falls =
           measure-falls o a s r (grows-far gr (90 + a) (omega arith)) (gr .up) 10 todo (bitOr rest g) next-small (go (ℕ-discrete g 0))
         where
-          go : Dec (g ≡ 0) → ((y : ℕ) × (y < 10) × (at s o a y < at r o a y) × (at r o a y ≤ capacity-at r a)) ⊎ (bitOr rest g < todo)
+          go : Dec (g ≡ 0) → ((y : ℕ) × (y < 10) × (total-at s o a y < total-at r o a y) × (total-at r o a y ≤ capacity-at r a)) ⊎ (bitOr rest g < todo)
           go (yes e) = inr (rw (e, or-zero-r rest) (out .less))
           go (no e) =
               let (y, hy, b) = has-bit 10 g (omega arith) (gr .small) e in

@@ -6,11 +6,11 @@ use Rattle.model.specs.Relations.{gone, converse, Filled}
 use Rattle.domains.specs.Bits.{bit-at}
 use Rattle.domains.specs.Narrowed.{Each}
 use Rattle.chains.specs.Totals.{table, capacity-at, Tabled}
-use Rattle.chains.specs.Links.{at}
+use Rattle.chains.specs.Links.{total-at}
 
 -- the totals of u and v together are above the container, in the tables that start at o and r
 abbrev pub above-both : List ℕ → ℕ → ℕ → ℕ → ℕ → ℕ → Bool
-above-both t o r a u v = ltb (capacity-at t a) (at t o a u + at t r a v)
+above-both t o r a u v = ltb (capacity-at t a) (total-at t o a u + total-at t r a v)
 
 -- .. so that the relation x has no room: 1 "u before v", 2 "v before u"
 abbrev pub exceeds : List ℕ → ℕ → ℕ → ℕ → ℕ → Bool

@@ -1,15 +1,15 @@
 -- Totals extended along links, on the axis a and in the table that starts at o: 0 of the chains ending in an item, 30 of those starting in it.
 use Rattle.prelude.specs.Names.{Bool, true, false, _&&_, List, _⊎_, _≡_, ℕ, _+_, _*_, _%_, _^_, _≤_, _<_, bitOr, getD, length, set}
 use Rattle.domains.specs.Bits.{bit-at}
-use Rattle.domains.specs.Rows.{row}
-use Rattle.chains.specs.Totals.{size-at, capacity-at, Tabled}
+use Rattle.domains.specs.Rows.{row-at}
+use Rattle.chains.specs.Totals.{measure-at, capacity-at, Tabled}
 
-abbrev pub at : List ℕ → ℕ → ℕ → ℕ → ℕ
-at t o a u = getD t (o + a * 10 + u) 0
+abbrev pub total-at : List ℕ → ℕ → ℕ → ℕ → ℕ
+total-at t o a u = getD t (o + a * 10 + u) 0
 
 -- the total of z where its chain goes on from that of v
 abbrev pub onward : List ℕ → ℕ → ℕ → ℕ → ℕ → ℕ
-onward t o a v z = at t o a v + size-at t a z
+onward t o a v z = total-at t o a v + measure-at t a z
 
 -- sets of links, from one item to another
 abbrev pub LinkSet : Type 1
@@ -19,7 +19,7 @@ LinkSet = ℕ → ℕ → Type 0
 pub record Longer (t : List ℕ) (o a v z : ℕ) : Type 0 where
   pub item-v : v < 10
   pub item-z : z < 10
-  pub less : at t o a z < onward t o a v z
+  pub less : total-at t o a z < onward t o a v z
   pub fits : onward t o a v z ≤ capacity-at t a
 
 -- from t to s totals are raised along links of L, one after another; the items whose totals they are make up the set g
@@ -31,7 +31,7 @@ pub data Raised (L : LinkSet) (o a : ℕ) (t : List ℕ) : List ℕ → ℕ → 
 -- .. and then the totals go on along every link of M
 pub record Raises (L M : LinkSet) (o a : ℕ) (t s : List ℕ) (g : ℕ) : Type 0 where
   pub raised : Raised L o a t s g
-  pub on : (v z : ℕ) → M v z → onward s o a v z ≤ at s o a z
+  pub on : (v z : ℕ) → M v z → onward s o a v z ≤ total-at s o a z
 
 -- .. and then some link of L makes a total above the container
 pub record Bursts (L : LinkSet) (o a : ℕ) (t s : List ℕ) : Type 0 where
@@ -63,10 +63,10 @@ Only v z w y = (w ≡ v) × (y ≡ z)
 abbrev pub From : ℕ → ℕ → LinkSet
 From v items w z = (w ≡ v) × (bit-at items z ≡ true)
 
-pub record Told (rows : List ℕ) (x a v z : ℕ) : Type 0 where
+pub record InRows (rows : List ℕ) (x a v z : ℕ) : Type 0 where
   pub item-v : v < 10
   pub item-z : z < 10
-  pub bits : (bit-at (row rows a v) z && bit-at (row rows a v) (x * 10 + z)) ≡ true
+  pub bits : (bit-at (row-at rows a v) z && bit-at (row-at rows a v) (x * 10 + z)) ≡ true
 
 -- of the links of L the one from u to v, and those from items of g
 abbrev pub On : LinkSet → ℕ → ℕ → ℕ → LinkSet
@@ -76,4 +76,4 @@ On L u v g w z = L w z × (Only u v w z ⊎ (bit-at g w ≡ true))
 pub record Plain (rows : List ℕ) : Type 0 where
   pub long : length rows ≡ 30
   pub small : (i : ℕ) → getD rows i 0 < 2 ^ 30
-  pub self : (a u : ℕ) → a < 3 → u < 10 → bit-at (row rows a u) u ≡ false
+  pub self : (a u : ℕ) → a < 3 → u < 10 → bit-at (row-at rows a u) u ≡ false

@@ -4,7 +4,7 @@ use Rattle.model.specs.Problem.{Problem}
 use Rattle.model.specs.Domains.{Domains}
 use Rattle.model.specs.Order.{_⊑_}
 use Rattle.model.specs.Toward.{Under, ClosedBut, NoPair}
-use Rattle.domains.specs.Queue.{end, Queued, Good}
+use Rattle.domains.specs.Queue.{queue-end, Queued, Good}
 use Rattle.domains.specs.Narrowed.{Narrowed, Refuted}
 use Rattle.chains.specs.Totals.{table, Tabled, Measured, Fitting}
 
@@ -16,12 +16,12 @@ SamePair a u v b s t = (b ≡ a) × (((s ≡ u) × (t ≡ v)) ⊎ ((s ≡ v) × 
 pub record Charted (p : Problem) (k : Domains) (q t : List ℕ) (from a u v : ℕ) : Type 0 where
   pub measured : Measured p t
   pub first : 1 ≤ from
-  pub within : from ≤ end q
-  pub closed : ClosedBut (λ x b s z. Queued q from (end q) b s z ⊎ SamePair a u v b s z) NoPair p k (table t)
+  pub within : from ≤ queue-end q
+  pub closed : ClosedBut (λ x b s z. Queued q from (queue-end q) b s z ⊎ SamePair a u v b s z) NoPair p k (table t)
 
 -- .. and now along that of the pair too
 pub record Extended (p : Problem) (k : Domains) (q t : List ℕ) (from : ℕ) (j : Domains) (rows r s : List ℕ) : Type 0 where
-  pub narrowed : Narrowed (Fitting p t) (λ i. ClosedBut (λ x. Queued r from (end r)) NoPair p i (table s)) k q j rows r
+  pub narrowed : Narrowed (Fitting p t) (λ i. ClosedBut (λ x. Queued r from (queue-end r)) NoPair p i (table s)) k q j rows r
   pub measured : Measured p s
   pub tabled : Tabled s
   pub under : (f : Domains) → Fitting p t f → f ⊑ k → Under p (table s) f

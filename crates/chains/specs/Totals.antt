@@ -6,16 +6,16 @@ use Rattle.model.specs.Domains.{Domains}
 use Rattle.model.specs.Toward.{Goal, Direction, Under}
 
 -- where the table of a direction starts: 1 of the chains starting in an item, 2 of those ending in it
-abbrev pub own : ℕ → ℕ
-own zero = 30
-own (suc zero) = 30
-own (suc (suc x)) = 0
+abbrev pub table-start : ℕ → ℕ
+table-start zero = 30
+table-start (suc zero) = 30
+table-start (suc (suc x)) = 0
 
 abbrev pub table : List ℕ → ℕ → ℕ → ℕ → ℕ
-table t x a u = getD t (own x + a * 10 + u) 0
+table t x a u = getD t (table-start x + a * 10 + u) 0
 
-abbrev pub size-at : List ℕ → ℕ → ℕ → ℕ
-size-at t a u = getD t (60 + a * 10 + u) 0
+abbrev pub measure-at : List ℕ → ℕ → ℕ → ℕ
+measure-at t a u = getD t (60 + a * 10 + u) 0
 
 abbrev pub capacity-at : List ℕ → ℕ → ℕ
 capacity-at t a = getD t (90 + a) 0
@@ -30,7 +30,7 @@ pub record Tabled (t : List ℕ) : Type 0 where
 pub record Measured (p : Problem) (t : List ℕ) : Type 0 where
   pub ten : p .items ≡ 10
   pub capacity : (a : ℕ) → a < 3 → p .capacity a ≡ capacity-at t a
-  pub size : (a u : ℕ) → a < 3 → u < p .items → p .size a u ≡ size-at t a u
+  pub size : (a u : ℕ) → a < 3 → u < p .items → p .size a u ≡ measure-at t a u
 
 -- totals at most change, the measures stay
 pub record SameMeasures (t s : List ℕ) : Type 0 where

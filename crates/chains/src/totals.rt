@@ -6,7 +6,7 @@ ghost use mathlib.Core.Logic.{_≢_};
 ghost use Prim.Native.Nat.{_+_, _*_, _<_, _^_};
 ghost use Rattle.model.specs.Toward.{Direction};
 ghost use Rattle.domains.specs.Bits.{bit-at, Gives};
-ghost use Rattle.chains.specs.Links.{Linkable, Raising, Only, From, Told, On, Plain};
+ghost use Rattle.chains.specs.Links.{Linkable, Raising, Only, From, InRows, On, Plain};
 use domains::Place;
 use domains::ROWS;
 use domains::bits::ITEMS;
@@ -92,8 +92,8 @@ pub fn link_on(
     x: usize,
     place: Place,
 ) -> Growth
-    requires { ⌜ Plain (now rows) × Linkable (now t) own (place .axis) × Direction x × Told (now rows) x (place .axis) (place .u) (place .v) ⌝ }
-    ensures { λ r. ⌜ Raising (Told (now (rows .entry)) x (place .axis)) (On (Told (now (rows .entry)) x (place .axis)) (place .u) (place .v) (r .items)) own (place .axis) (now (t .entry)) (now (t .exit)) (r .fits) (r .items) ⌝ }
+    requires { ⌜ Plain (now rows) × Linkable (now t) own (place .axis) × Direction x × InRows (now rows) x (place .axis) (place .u) (place .v) ⌝ }
+    ensures { λ r. ⌜ Raising (InRows (now (rows .entry)) x (place .axis)) (On (InRows (now (rows .entry)) x (place .axis)) (place .u) (place .v) (r .items)) own (place .axis) (now (t .entry)) (now (t .exit)) (r .fits) (r .items) ⌝ }
 {
     let a = place.axis;
     let u = place.u;

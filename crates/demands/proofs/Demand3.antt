@@ -4,7 +4,7 @@ use Rattle.model.specs.Admits.{Sound}
 use Rattle.model.specs.Lists.{Service, status-number, budget-sum, returned-code, returned-plan, plan-by, Right, Serves}
 use Rattle.model.specs.Machine.{steps}
 use Rattle.model.specs.Problem.{Problem, Positions, Feasible}
-use Rattle.model.specs.Run.{look, machine, plan-at, run, step-count}
+use Rattle.model.specs.Run.{look, machine, plan-at, run-end, step-count}
 use Rattle.formats.specs.Reading.{Bytes}
 use Rattle.instance.specs.Meaning.{problem-of, positions-of}
 use Rattle.instance.specs.Reads.{Reads, Full}
@@ -21,7 +21,7 @@ use Rattle.buffers.specs.Bytes.{packing-in}
 use Rattle.c_api.proofs.Plans.{reads-one, reads-sound, yes-exactly, placed-checks}
 use Rattle.c_api.specs.Calls.{check-code}
 use Rattle.c_api.specs.Lists.{on-bytes}
-use Rattle.demands.specs.Demand3.{run-number, Holds, Demand3}
+use Rattle.demands.specs.Demand3.{run-number, SearchDemand, Demand3}
 use Rattle.instance.proofs.Readings.{decode-refuses}
 use Rattle.model.proofs.Theorems as T
 use Rattle.model.specs.Search as S
@@ -41,7 +41,7 @@ module _ {C X P : Type 0} (p : Problem) (σ : Sound p) (w : Service S.Checkpoint
   abbrev end : S.Checkpoint
   end = steps (machine p) (step-count p) S.opening
 
-  end-run : end ≡ run p
+  end-run : end ≡ run-end p
   end-run = T.run-after p σ (step-count p) (omega arith)
 
   none-exactly : (run-number p ≡ 2) ↔ ((q : Positions) → Feasible p q → ⊥)
@@ -85,7 +85,7 @@ module _ {C X P : Type 0} (p : Problem) (σ : Sound p) (w : Service S.Checkpoint
       let r = as-run earlier c (omega arith) (omega arith) in
       rw (r .plan) (placed (λ z. omega (arith, r .number)) .yes c)
 
-  holds : Holds p w check
+  holds : SearchDemand p w check
   holds = record {
     count = T.counted p σ;
     one-count = T.one-count p σ;
@@ -111,7 +111,7 @@ module _ (i : Instance) (v : valid i ≡ true) (φ : Full i) where
       let q = plan-at p κ in
       decides i (packing-of p q) .yes .1 (v, feasible-same p sound q _ (packing-back p (sound .limited) q) f)
 
-  in-values : Holds (problem-of i) (values i) (λ q. check-number (check-answer i q))
+  in-values : SearchDemand (problem-of i) (values i) (λ q. check-number (check-answer i q))
   in-values =
       holds (problem-of i) sound (values i) _ (Values.values-serve i v (φ .items-room)) value-checks
       (λ q y. (positions-of q, decides i q .yes .0 y .1))
@@ -136,7 +136,7 @@ module _ (sheet : List ℕ) (bytes : Bytes sheet) (r : Reads sheet) where
       let (c, f) = yes-exactly sheet q bytes .0 y in
       (positions-of (packing-in q), rw (reads-one sheet r (c .sheet-reads)) f)
 
-  in-bytes : Holds (problem-of (r .instance)) (on-bytes sheet (r .instance)) (check-code sheet)
+  in-bytes : SearchDemand (problem-of (r .instance)) (on-bytes sheet (r .instance)) (check-code sheet)
   in-bytes =
       holds (problem-of (r .instance)) (reads-sound sheet bytes r) (on-bytes sheet (r .instance)) (check-code sheet)
       (OnBytes.bytes-serve sheet bytes r) (placed-checks sheet bytes r) yes-fits

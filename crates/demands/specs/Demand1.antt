@@ -8,7 +8,7 @@ use Rattle.formats.specs.Reading.{Bytes}
 use Rattle.parts.specs.Parts.{item}
 use Rattle.parts.specs.Sizes.{no-item}
 use Rattle.sheet.specs.Faults.{Fault, FirstFault}
-use Rattle.sheet.specs.Told.{sheet-at}
+use Rattle.sheet.specs.Contents.{sheet-at}
 use Rattle.instance.specs.Answers.{read-result, read-values}
 use Rattle.instance.specs.Meaning.{problem-of, positions-of}
 use Rattle.instance.specs.Reads.{Reads}
@@ -18,7 +18,7 @@ use Rattle.instance.specs.Values.{origin-packing}
 use Rattle.instance.specs.declared.Checkpoint.{Checkpoint}
 use Rattle.instance.specs.declared.Instance.{Instance}
 use Rattle.instance.specs.declared.Packing.{Packing}
-use Rattle.item_record.specs.Record.{item-record, item-record-code, code}
+use Rattle.item_record.specs.Record.{item-record, item-record-code, refusal-code}
 use Rattle.item_record.specs.Refusing.{RecordFault}
 use Rattle.writer.specs.Answers.{write-answer, write-values, written-room}
 use Rattle.writer.specs.Refusing.{WriteFault}
@@ -82,10 +82,10 @@ pub record Demand1 : Type 2 where
   -- An item's record: the sheet's number and place, then 5 and 0, and the part is empty; otherwise 0 and 0, and the part is the
   -- bytes that the item was read from
   pub record-refuses : (sheet : List ℕ) (k : ℕ) (e : Refusal)
-      → (item-record-code sheet k ≡ code (number-of e) (place-of e)) ↔ RecordFault sheet k e
+      → (item-record-code sheet k ≡ refusal-code (number-of e) (place-of e)) ↔ RecordFault sheet k e
   pub record-answers : (sheet : List ℕ) (k : ℕ)
-      → (item-record-code sheet k ≡ code 0 0) ↔ ((r : Reads sheet) × (k < r .instance .«item_count»))
+      → (item-record-code sheet k ≡ refusal-code 0 0) ↔ ((r : Reads sheet) × (k < r .instance .«item_count»))
   pub record-part : (sheet : List ℕ) → Bytes sheet → (r : Reads sheet) (k : ℕ) → k < r .instance .«item_count»
       → item-record sheet k ≡ item .bytes (getD (r .instance .items) k no-item)
   pub record-empty : (sheet : List ℕ) (k : ℕ) (e : Refusal)
-      → item-record-code sheet k ≡ code (number-of e) (place-of e) → item-record sheet k ≡ []
+      → item-record-code sheet k ≡ refusal-code (number-of e) (place-of e) → item-record sheet k ≡ []

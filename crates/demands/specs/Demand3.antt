@@ -27,7 +27,7 @@ abbrev pub run-number : Problem → ℕ
 run-number p = status-number (S.status (steps (machine p) (step-count p) S.opening))
 
 -- What holds of the calls C on a sheet that isn't refused and means the problem p; `check` is demand 2's, 1 for yes
-pub record Holds {C X P : Type 0} (p : Problem) (w : Service S.Checkpoint C X P) (check : P → ℕ) : Type 0 where
+pub record SearchDemand {C X P : Type 0} (p : Problem) (w : Service S.Checkpoint C X P) (check : P → ℕ) : Type 0 where
   -- "Every sheet that isn't refused has a finite step count, that of document 01's search in one run."
   pub count : Count (machine p) S.opening (step-count p)
   pub one-count : (n : ℕ) → Count (machine p) S.opening n → n ≡ step-count p
@@ -49,10 +49,10 @@ pub record Holds {C X P : Type 0} (p : Problem) (w : Service S.Checkpoint C X P)
 
 pub record Demand3 : Type 0 where
   -- in values: a sheet value that gets no 9. `Full`: its arrays have ten and ninety entries, as every value of the type has
-  pub in-values : (i : Instance) → valid i ≡ true → Full i → Holds (problem-of i) (values i) (λ q. check-number (check-answer i q))
+  pub in-values : (i : Instance) → valid i ≡ true → Full i → SearchDemand (problem-of i) (values i) (λ q. check-number (check-answer i q))
   -- in bytes: a sheet that reads. `Bytes`: its elements are below 256, as in every slice of u8
   pub in-bytes : (sheet : List ℕ) → Bytes sheet → (r : Reads sheet)
-      → Holds (problem-of (r .instance)) (on-bytes sheet (r .instance)) (check-code sheet)
+      → SearchDemand (problem-of (r .instance)) (on-bytes sheet (r .instance)) (check-code sheet)
   -- a call that is lent bytes of another length as its note is refused too, so it may stand in the list
   pub another-length : (sheet note : List ℕ) (c : Lent) → (length note ≡ note-length → ⊥)
       → 100 ≤ search-code sheet note (c .allowance) (c .steps) (c .plan)

@@ -11,7 +11,7 @@ use Rattle.model.proofs.Domains.{gone-distinct}
 use Rattle.model.proofs.Order.{below-refl, below-trans}
 use Rattle.model.proofs.Without.{without-less, without-well-formed, without-gone, without-other}
 use Rattle.domains.specs.Bits.{bit-at, Gives}
-use Rattle.domains.specs.Rows.{row}
+use Rattle.domains.specs.Rows.{row-at}
 use Rattle.domains.specs.Queue.{Good}
 use Rattle.domains.specs.Narrowed.{Narrowed, Refuted, Each, Spares, All, Asked, Askable, Left, Outcome}
 use Rattle.domains.proofs.BitLaws.{bit-zero, bit-or, bit-first, has-bit, gives-in, true-or-false, bit-and, bit-not, and-small}
@@ -46,11 +46,11 @@ module _ {k : Domains} (wf : WellFormed k) {x a u : ℕ} (items : ℕ) (hx : x <
 
 module _ {k : Domains} {rows q : List ℕ} {a u set : ℕ} (g : Good k rows q) (ask : Askable a u set) where
   abbrev pub all-of : ℕ
-  all-of = bitOr (row rows a u) set
+  all-of = bitOr (row-at rows a u) set
 
   module _ (x v : ℕ) (hx : x < 3) (hv : v < 10) where
     all-is : bit-at all-of (x * 10 + v) ≡ (gone k x a u v || bit-at set (x * 10 + v))
-    all-is = cc (bit-or (row rows a u) set (x * 10 + v), g .laid .mirror .is x a u v hx (ask .axis) (ask .item) hv)
+    all-is = cc (bit-or (row-at rows a u) set (x * 10 + v), g .laid .mirror .is x a u v hx (ask .axis) (ask .item) hv)
 
     -- a bit of the row or of the set
     asked-gone : (f : Domains) → Asked a u set f → f ⊑ k → bit-at all-of (x * 10 + v) ≡ true → gone f x a u v ≡ true
@@ -123,13 +123,13 @@ module _ {k : Domains} {rows q : List ℕ} {a u set : ℕ} (g : Good k rows q) (
 
   -- What is left of the set: its bits that the row does not have
   abbrev pub rest : ℕ
-  rest = bitAnd set (bitXor (row rows a u) 1073741823)
+  rest = bitAnd set (bitXor (row-at rows a u) 1073741823)
 
   module _ (x v : ℕ) (hx : x < 3) (hv : v < 10) where
     rest-at : bit-at rest (x * 10 + v) ≡ (bit-at set (x * 10 + v) && not (gone k x a u v))
     rest-at =
         let is = g .laid .mirror .is x a u v hx (ask .axis) (ask .item) hv in
-        cc (bit-and set (bitXor (row rows a u) 1073741823) (x * 10 + v), bit-not 30 (row rows a u) (x * 10 + v) (omega arith))
+        cc (bit-and set (bitXor (row-at rows a u) 1073741823) (x * 10 + v), bit-not 30 (row-at rows a u) (x * 10 + v) (omega arith))
 
     -- a bit of it is one of the set, and left
     in-set : bit-at rest (x * 10 + v) ≡ true → (bit-at set (x * 10 + v) ≡ true) × (gone k x a u v ≡ false)
@@ -139,7 +139,7 @@ module _ {k : Domains} {rows q : List ℕ} {a u set : ℕ} (g : Good k rows q) (
   rest-askable = record {
     axis = ask .axis;
     item = ask .item;
-    small = and-small 30 set (bitXor (row rows a u) 1073741823) (ask .small);
+    small = and-small 30 set (bitXor (row-at rows a u) 1073741823) (ask .small);
     other = λ x hx. cc (rest-at x u hx (ask .item), ask .other x hx);
   }
 

@@ -7,7 +7,7 @@ use Rattle.model.proofs.Below.{fails}
 use Rattle.model.proofs.Claims.{gone-mono}
 use Rattle.model.proofs.Without.{without-less, without-gone, without-other}
 use Rattle.domains.specs.Bits.{bit-at, TakenOut}
-use Rattle.domains.specs.Queue.{end, Good}
+use Rattle.domains.specs.Queue.{queue-end, Good}
 use Rattle.domains.specs.Narrowed.{Narrowed, One, Spare, Each, Spares}
 use Rattle.domains.proofs.BitLaws.{bit-below, taken-in}
 use Rattle.domains.proofs.Narrowed.{narrowed-none, narrowed-then, narrowed-as}
@@ -20,7 +20,7 @@ still-left {j = j} n f g b y a u v e = fails (gone-mono f j (n .low f g b) y a u
 
 -- The items of the set that are not left over are dealt with, and the others can be
 pub record Dealing (x a u items : ℕ) (k : Domains) (q : List ℕ) (j : Domains) (rows r : List ℕ) (left : ℕ) : Type 0 where
-  pub known : (1 ≤ end q) × (x < 3) × (a < 3) × (u < 10)
+  pub known : (1 ≤ queue-end q) × (x < 3) × (a < 3) × (u < 10)
   pub narrowed : Narrowed (Each x a u items) (λ f. Through 10 items left (λ v. gone f x a u v ≡ true)) k q j rows r
   pub spares : Spares j x a u left
 

@@ -5,11 +5,11 @@ use mathlib.Core.Logic.{Dec·and}
 use Rattle.model.specs.Domains.{Domains}
 use Rattle.model.specs.Order.{Proper, WellFormed}
 use Rattle.model.specs.Relations.{gone, without, converse}
-use Rattle.model.specs.Claims.{overlaps, says}
+use Rattle.model.specs.Facts.{overlaps, says}
 use Rattle.model.proofs.Claims.{gone-converse, gone-self, converse-small}
 use Rattle.model.proofs.Without.{Other, without-gone, without-other}
 use Rattle.domains.specs.Bits.{bit-at, Gives}
-use Rattle.domains.specs.Rows.{row, Mirror}
+use Rattle.domains.specs.Rows.{row-at, Mirror}
 use Rattle.domains.proofs.BitLaws.{bit-or, bit-power, bit-first}
 
 -- a row's number gives back axis and item, a bit's the relation and the item
@@ -17,12 +17,12 @@ pub parts-same : {x v y w : ℕ} → v < 10 → w < 10 → y * 10 + w ≡ x * 10
 parts-same hv hw e = (omega arith, omega arith)
 
 -- Reading a row is the field `is`; for overlap, whose bits stand lowest, without the relation's number
-pub row-first : {k : Domains} {rows : List ℕ} → Mirror k rows → {a u v : ℕ} → a < 3 → u < 10 → v < 10 → bit-at (row rows a u) v ≡ gone k 0 a u v
-row-first {rows = rows} m {a} {u} {v} ha hu hv = sym (bit-first (row rows a u) v) ∙ m .is 0 a u v (omega arith) ha hu hv
+pub row-first : {k : Domains} {rows : List ℕ} → Mirror k rows → {a u v : ℕ} → a < 3 → u < 10 → v < 10 → bit-at (row-at rows a u) v ≡ gone k 0 a u v
+row-first {rows = rows} m {a} {u} {v} ha hu hv = sym (bit-first (row-at rows a u) v) ∙ m .is 0 a u v (omega arith) ha hu hv
 
 -- known to overlap
 pub row-overlaps : {k : Domains} {rows : List ℕ} → Mirror k rows → {a u v s : ℕ} → a < 3 → u < 10 → v < 10
-    → Gives 10 s (λ v. bit-at (row rows a u) (10 + v) && bit-at (row rows a u) (20 + v)) → bit-at s v ≡ says overlaps k a u v
+    → Gives 10 s (λ v. bit-at (row-at rows a u) (10 + v) && bit-at (row-at rows a u) (20 + v)) → bit-at s v ≡ says overlaps k a u v
 unfolding says
 row-overlaps m {a} {u} {v} ha hu hv g = cc (g .is v hv, m .is 1 a u v (omega arith) ha hu hv, m .is 2 a u v (omega arith) ha hu hv)
 

@@ -3,14 +3,14 @@ use Rattle.prelude.specs.Names.{List, [], _∷_, _≡_, ℕ, zero, suc, _*_, _�
 use Rattle.model.specs.Domains.{Domains}
 use Rattle.model.specs.Propagate.{sum}
 use Rattle.domains.specs.Rows.{Laid}
-use Rattle.domains.specs.Queue.{max-queue, end, Good}
+use Rattle.domains.specs.Queue.{max-queue, queue-end, Good}
 
 sum-le : (k : Domains) → ((i : ℕ) → getD k i 0 < 8) → sum k ≤ 7 * length k
 sum-le [] h = omega arith
 sum-le (m ∷ k) h = omega (arith, h zero, sum-le k (λ i. h (suc i)))
 
 -- the queue is empty
-pub good-start : {k : Domains} {rows q : List ℕ} → Laid k rows → length q ≡ max-queue → end q ≡ 1 → Good k rows q
+pub good-start : {k : Domains} {rows q : List ℕ} → Laid k rows → length q ≡ max-queue → queue-end q ≡ 1 → Good k rows q
 good-start {k} l h e = record {
   laid = l;
   long = h;

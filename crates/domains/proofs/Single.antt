@@ -5,30 +5,30 @@ use Rattle.model.specs.Domains.{Domains}
 use Rattle.model.specs.Propagate.{sum}
 use Rattle.model.specs.Order.{Proper, WellFormed}
 use Rattle.model.specs.Relations.{gone, without, converse, Filled}
-use Rattle.model.specs.Claims.{Saying, nothing, says}
+use Rattle.model.specs.Facts.{Saying, nothing, says}
 use Rattle.model.proofs.Claims.{converse-small, gone-converse}
 use Rattle.model.proofs.Without.{without-less, without-above, without-well-formed, without-gone, without-other, says-elsewhere, sum-falls}
-use Rattle.domains.specs.Queue.{code, Coded, end, pushed, Pushable, Good}
+use Rattle.domains.specs.Queue.{pair-code, Coded, queue-end, pushed, Pushable, Good}
 use Rattle.domains.specs.Narrowed.{Narrowed, One, Spare}
 use Rattle.domains.proofs.Mirror.{marked, mirror-one, same-relation}
 use Rattle.domains.proofs.BitLaws.{below-three}
 
-coded : {a u v : ℕ} → Proper 10 a u v → Coded (code a u v)
+coded : {a u v : ℕ} → Proper 10 a u v → Coded (pair-code a u v)
 coded {a} {u} {v} w =
-    let e : code a u v / 16 % 16 ≡ u = omega arith in
-    let f : code a u v % 16 ≡ v = omega arith in
+    let e : pair-code a u v / 16 % 16 ≡ u = omega arith in
+    let f : pair-code a u v % 16 ≡ v = omega arith in
     omega arith
 
 -- what stands on the queue with one more
-module _ (q : List ℕ) (x : ℕ) (h : end q < length q) where
-  push-end : end (pushed q x) ≡ end q + 1
-  push-end = getD-set-same (set q (end q) x) 0 (end q + 1) 0 (rw length-set (omega arith))
+module _ (q : List ℕ) (x : ℕ) (h : queue-end q < length q) where
+  push-end : queue-end (pushed q x) ≡ queue-end q + 1
+  push-end = getD-set-same (set q (queue-end q) x) 0 (queue-end q + 1) 0 (rw length-set (omega arith))
 
-  push-old : (i : ℕ) → 1 ≤ i → i ≢ end q → getD (pushed q x) i 0 ≡ getD q i 0
-  push-old i l d = getD-set-other (set q (end q) x) 0 i (end q + 1) 0 (omega arith) ∙ getD-set-other q (end q) i x 0 d
+  push-old : (i : ℕ) → 1 ≤ i → i ≢ queue-end q → getD (pushed q x) i 0 ≡ getD q i 0
+  push-old i l d = getD-set-other (set q (queue-end q) x) 0 i (queue-end q + 1) 0 (omega arith) ∙ getD-set-other q (queue-end q) i x 0 d
 
-  push-new : 1 ≤ end q → getD (pushed q x) (end q) 0 ≡ x
-  push-new l = getD-set-other (set q (end q) x) 0 (end q) (end q + 1) 0 (omega arith) ∙ getD-set-same q (end q) x 0 h
+  push-new : 1 ≤ queue-end q → getD (pushed q x) (queue-end q) 0 ≡ x
+  push-new l = getD-set-other (set q (queue-end q) x) 0 (queue-end q) (queue-end q + 1) 0 (omega arith) ∙ getD-set-same q (queue-end q) x 0 h
 
 -- a pair of which one relation is left has not lost all three
 one-left : (k : Domains) (a u v y : ℕ) → y < 3 → gone k y a u v ≡ false → (gone k 0 a u v && (gone k 1 a u v && gone k 2 a u v)) ≡ false
@@ -72,10 +72,10 @@ module _ {k : Domains} {rows q : List ℕ} (g : Good k rows q) {x a u v : ℕ} (
   pub pushable : Pushable q a u v
   pushable = record { long = g .long; least = g .least; room = omega (arith, g .room, falls); proper = w }
 
-  free : end q < length q
+  free : queue-end q < length q
   free = rw (g .long) (pushable .room)
 
-  pub removed-one : Narrowed (One x a u v) (One x a u v) k q (without k x a u v) (marked rows x a u v) (pushed q (code a u v))
+  pub removed-one : Narrowed (One x a u v) (One x a u v) k q (without k x a u v) (marked rows x a u v) (pushed q (pair-code a u v))
   removed-one = record {
     grown = record {
       good = record {
@@ -86,19 +86,19 @@ module _ {k : Domains} {rows q : List ℕ} (g : Good k rows q) {x a u v : ℕ} (
           mirror = mirror-one (g .laid .well-formed) (g .laid .mirror) x a u v hx w;
         };
         long = simp length-set (g .long);
-        least = omega (arith, push-end q (code a u v) free);
-        room = omega (arith, g .room, falls, push-end q (code a u v) free);
-        coded = λ j l h. elim (ℕ-discrete j (end q)) [
-          | yes e ↦ rw (e, push-new q (code a u v) free (g .least)) (coded w)
-          | no d ↦ rw (push-old q (code a u v) free j l d) (g .coded j l (omega (arith, push-end q (code a u v) free)))
+        least = omega (arith, push-end q (pair-code a u v) free);
+        room = omega (arith, g .room, falls, push-end q (pair-code a u v) free);
+        coded = λ j l h. elim (ℕ-discrete j (queue-end q)) [
+          | yes e ↦ rw (e, push-new q (pair-code a u v) free (g .least)) (coded w)
+          | no d ↦ rw (push-old q (pair-code a u v) free j l d) (g .coded j l (omega (arith, push-end q (pair-code a u v) free)))
         ];
       };
       less = without-less k x a u v;
-      up = omega (arith, push-end q (code a u v) free);
-      old = λ i l h. push-old q (code a u v) free i l (omega arith);
+      up = omega (arith, push-end q (pair-code a u v) free);
+      old = λ i l h. push-old q (pair-code a u v) free i l (omega arith);
       new = λ c z h. elim (elsewhere (g .laid .well-formed) x a u v hx w z) [
-        | inl (e, o) ↦ let last = push-new q (code a u v) free (g .least) in
-            inr (end q, le-refl (end q), omega (arith, push-end q (code a u v) free), ⊎-map (λ p. cc) (λ p. cc) o)
+        | inl (e, o) ↦ let last = push-new q (pair-code a u v) free (g .least) in
+            inr (queue-end q, le-refl (queue-end q), omega (arith, push-end q (pair-code a u v) free), ⊎-map (λ p. cc) (λ p. cc) o)
         | inr t ↦ inl (sym (t (c .saying)) ∙ h)
       ];
     };

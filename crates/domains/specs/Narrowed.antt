@@ -3,17 +3,17 @@ use Rattle.prelude.specs.Names.{Bool, true, false, List, _⊎_, _≢_, _≡_, �
 use Rattle.model.specs.Domains.{Domains}
 use Rattle.model.specs.Order.{Proper, _⊑_}
 use Rattle.model.specs.Relations.{gone, Filled}
-use Rattle.model.specs.Claims.{Claim, Holds}
+use Rattle.model.specs.Facts.{Fact, Holds}
 use Rattle.domains.specs.Bits.{bit-at}
-use Rattle.domains.specs.Queue.{end, Queued, Good, Long}
+use Rattle.domains.specs.Queue.{queue-end, Queued, Good, Long}
 
 -- from k to j relations are only removed, and each pair of which one is removed goes on the queue
 pub record Grown (k : Domains) (q : List ℕ) (j : Domains) (rows r : List ℕ) : Type 0 where
   pub good : Good j rows r
   pub less : j ⊑ k
-  pub up : end q ≤ end r
-  pub old : (i : ℕ) → 1 ≤ i → i < end q → getD r i 0 ≡ getD q i 0
-  pub new : (c : Claim) → Proper 10 (c .axis) (c .u) (c .v) → Holds j c → Holds k c ⊎ Queued r (end q) (end r) (c .axis) (c .u) (c .v)
+  pub up : queue-end q ≤ queue-end r
+  pub old : (i : ℕ) → 1 ≤ i → i < queue-end q → getD r i 0 ≡ getD q i 0
+  pub new : (c : Fact) → Proper 10 (c .axis) (c .u) (c .v) → Holds j c → Holds k c ⊎ Queued r (queue-end q) (queue-end r) (c .axis) (c .u) (c .v)
 
 -- narrowed: no domains of G below k have lost anything, and D is done
 pub record Narrowed (G D : Domains → Type 0) (k : Domains) (q : List ℕ) (j : Domains) (rows r : List ℕ) : Type 0 where

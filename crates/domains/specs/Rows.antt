@@ -5,14 +5,14 @@ use Rattle.model.specs.Order.{WellFormed}
 use Rattle.model.specs.Relations.{gone, Filled}
 use Rattle.domains.specs.Bits.{bit-at}
 
-abbrev pub row : List ℕ → ℕ → ℕ → ℕ
-row rows a u = getD rows (a * 10 + u) 0
+abbrev pub row-at : List ℕ → ℕ → ℕ → ℕ
+row-at rows a u = getD rows (a * 10 + u) 0
 
 -- rows that say what the domains say
 pub record Mirror (k : Domains) (rows : List ℕ) : Type 0 where
   pub long : length rows ≡ 30
   pub small : (i : ℕ) → getD rows i 0 < 2 ^ 30
-  pub is : (x a u v : ℕ) → x < 3 → a < 3 → u < 10 → v < 10 → bit-at (row rows a u) (x * 10 + v) ≡ gone k x a u v
+  pub is : (x a u v : ℕ) → x < 3 → a < 3 → u < 10 → v < 10 → bit-at (row-at rows a u) (x * 10 + v) ≡ gone k x a u v
 
 -- domains with their rows; every pair has a relation left
 pub record Laid (k : Domains) (rows : List ℕ) : Type 0 where

@@ -11,7 +11,7 @@ pub const MAX_QUEUE: usize = 946;
 // A pair on an axis as a number.
 pub fn code(a: usize, u: usize, v: usize) -> u16
     requires { ⌜ Proper 10 a u v ⌝ }
-    ensures { λ r. ⌜ r ≡ Q.code a u v ⌝ }
+    ensures { λ r. ⌜ r ≡ Q.pair-code a u v ⌝ }
 {
     (a * 256 + u * 16 + v) as u16
 }
@@ -19,7 +19,7 @@ pub fn code(a: usize, u: usize, v: usize) -> u16
 // A pair is put at the end.
 pub fn push(queue: &mut [u16; MAX_QUEUE], a: usize, u: usize, v: usize)
     requires { ⌜ Pushable (now queue) a u v ⌝ }
-    ensures { λ _. ⌜ now (queue .exit) ≡ pushed (now (queue .entry)) (Q.code a u v) ⌝ }
+    ensures { λ _. ⌜ now (queue .exit) ≡ pushed (now (queue .entry)) (Q.pair-code a u v) ⌝ }
 {
     let end = queue[0] as usize;
     queue[end] = code(a, u, v);

@@ -3,7 +3,7 @@ use Rattle.prelude.specs.Names.{_≡_, refl, sym, ap, _∙_, subst, Bool, true,
 use Rattle.prelude.specs.Names.{append-nil, ℕ, zero, suc, _+_, _*_, _/_, _%_, _<_, arith, add-zero, zero-add, add-assoc, length, length-append}
 use Rattle.prelude.specs.Names.{getD-append-add, not-true}
 use Rattle.formats.specs.Reading.{Reading, done, due, end, _>>=_, got, run, Bytes}
-use Rattle.formats.specs.Formats.{Format, byte, word, pair, converted, Test, testing, passes, tested, keyed, row-bytes, row-reading, row-valid}
+use Rattle.formats.specs.Formats.{Format, byte, word, pair, converted, Test, testing, passes-all, tested, keyed, row-bytes, row-reading, row-valid}
 use Rattle.formats.specs.Formats.{row, count, counted, whole}
 use Rattle.formats.proofs.Run.{after-same, run-then, never-both, cond-got, after-got, run-length}
 
@@ -105,15 +105,15 @@ converted-lawful {f = f} φ to from to-from from-to = lawful
     (then-only (reads-only φ) (λ x xs (v, p). done-only (ap (f .valid) (from-to x) ∙ v, ap (f .bytes) (from-to x) ∙ p ∙ rw append-nil)))
 
 -- tests give what is tested, if it passes them
-testing-back : {A : Type 0} (ts : List Test) (p : ℕ) (x : A) (at : ℕ) (rest : List ℕ) → passes ts ≡ true → run (testing ts p x) at rest ≡ got x at rest
-unfolding testing passes run
+testing-back : {A : Type 0} (ts : List Test) (p : ℕ) (x : A) (at : ℕ) (rest : List ℕ) → passes-all ts ≡ true → run (testing ts p x) at rest ≡ got x at rest
+unfolding testing passes-all run
 testing-back [] p x at rest h = refl
 testing-back (t ∷ ts) p x at rest h =
-    let (a, b) = both-true (not (t .fault)) (passes ts) h in
+    let (a, b) = both-true (not (t .fault)) (passes-all ts) h in
     rw (not-true (t .fault) a) (testing-back ts p x at rest b)
 
-testing-only : {A : Type 0} {P : A → List ℕ → Type 0} (ts : List Test) (p : ℕ) (x : A) → (passes ts ≡ true → P x []) → ReadsOnly (testing ts p x) P
-unfolding testing passes run
+testing-only : {A : Type 0} {P : A → List ℕ → Type 0} (ts : List Test) (p : ℕ) (x : A) → (passes-all ts ≡ true → P x []) → ReadsOnly (testing ts p x) P
+unfolding testing passes-all run
 testing-only [] p x h = done-only (h refl)
 testing-only {P = P} (t ∷ ts) p x h = record {
   took = λ at rest b e.
@@ -123,7 +123,7 @@ testing-only {P = P} (t ∷ ts) p x h = record {
 pub tested-lawful : {A : Type 0} {f : Format A} → Lawful f → (tests : A → List Test) → Lawful (tested f tests)
 unfolding tested run
 tested-lawful {f = f} φ tests = lawful
-    (λ x v at rest. let (v₁, v₂) = both-true (f .valid x) (passes (tests x)) v in simp (run-then, φ .written-read x v₁, testing-back))
+    (λ x v at rest. let (v₁, v₂) = both-true (f .valid x) (passes-all (tests x)) v in simp (run-then, φ .written-read x v₁, testing-back))
     (record {
       took = λ at. then-only {k = λ x. testing (tests x) at x} (reads-only φ)
           (λ x xs (v, p). testing-only (tests x) at x (λ u. (rw (v, u), simp (p, append-nil)))) .took at;

@@ -3,7 +3,7 @@ use Rattle.prelude.specs.Names.{_≡_, refl, sym, _∙_, Bool, true, false, not
 use Rattle.prelude.specs.Names.{add-zero, add-assoc, eqb, leb, length-append, eqb-true, eqb-false, eq-eqb, leb-false, lt-leb, not-true}
 use native.Mathlib.Nat.{div-one, div-div-eq-div-mul}
 use Rattle.formats.specs.Reading.{run}
-use Rattle.formats.specs.Formats.{byte, tested, passes, keyed}
+use Rattle.formats.specs.Formats.{byte, tested, passes-all, keyed}
 use Rattle.formats.specs.Fields.{Optional, optional-reading, optional-bytes, optional-valid, flag, Fields, made, field, is-set, maps}
 use Rattle.formats.specs.Fields.{fields-reading, fields-bytes, fields-valid, flags, fields, map-tests, map-byte, with-map}
 use Rattle.formats.proofs.Run.{run-then}
@@ -86,7 +86,7 @@ module _ {S : Type 0} where
 
   -- a map byte and its fields
   pub with-map-lawful : {n : ℕ} (f : Fields S n) → FieldsLaws f → ((s : S) → Rebuilds f s) → Lawful (with-map f)
-  unfolding with-map map-byte fields tested byte passes
+  unfolding with-map map-byte fields tested byte passes-all
   with-map-lawful {n} f φ ρ =
       keyed-lawful (tested-lawful byte-lawful (map-tests n))
       (λ map v. fields-lawful f φ ρ map (leb-false (maps n) map (not-true _ (both-true (not (leb (maps n) map)) true v .0))))
@@ -94,5 +94,5 @@ module _ {S : Type 0} where
 
   -- with a map byte the fields alone say what may be written: their bits always fit it
   pub with-map-valid : {n : ℕ} (f : Fields S n) (s : S) → with-map f .valid s ≡ fields-valid f s
-  unfolding with-map map-byte fields keyed tested byte passes
+  unfolding with-map map-byte fields keyed tested byte passes-all
   with-map-valid {n} f s = rw (lt-leb (maps n) (flags f s) (flags-small f s), eq-eqb (flags f s) (flags f s) refl)

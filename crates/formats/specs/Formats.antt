@@ -45,16 +45,16 @@ unfoldable pub testing : {A : Type 0} → List Test → ℕ → A → Reading A
 testing [] place x = done x
 testing (t ∷ ts) place x = refuse-if (t .fault) (t .refusal place) (testing ts place x)
 
-unfoldable pub passes : List Test → Bool
-passes [] = true
-passes (t ∷ ts) = not (t .fault) && passes ts
+unfoldable pub passes-all : List Test → Bool
+passes-all [] = true
+passes-all (t ∷ ts) = not (t .fault) && passes-all ts
 
 -- "judged once all its bytes are read", at the place of the first; "at one place the lower number"
 unfoldable pub tested : {A : Type 0} → Format A → (A → List Test) → Format A
 tested f tests = record {
   reading = at-place λ place. f .reading >>= λ x. testing (tests x) place x;
   bytes = f .bytes;
-  valid = λ x. f .valid x && passes (tests x);
+  valid = λ x. f .valid x && passes-all (tests x);
 }
 
 -- a key first, by which the rest is read and which the rest shows

@@ -7,7 +7,7 @@ use Rattle.formats.proofs.Run.{read-as-refused}
 use Rattle.formats.proofs.Laws.{whole-ends}
 use Rattle.sheet.specs.Faults.{Fault, FirstFault}
 use Rattle.sheet.specs.Sheet.{sheet}
-use Rattle.sheet.specs.Told.{sheet-at}
+use Rattle.sheet.specs.Contents.{sheet-at}
 use Rattle.sheet.proofs.Faults.{refused-first, faultless-got, faultless-reads}
 use Rattle.instance.specs.declared.Instance.{Instance}
 use Rattle.instance.specs.declared.ReadResult.{ReadResult}

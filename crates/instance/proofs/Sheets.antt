@@ -3,7 +3,7 @@ use Rattle.prelude.specs.Names.{_≡_, _∙_, true, _&&_, _≤_, ℕ, zero, suc
 use Rattle.prelude.specs.Names.{eqb-false, not-true, List, [], _∷_, _≢_, le-of-suc-le-suc}
 use Rattle.formats.proofs.Laws.{both-true}
 use Rattle.parts.specs.declared.Previous.the-variants.{Nothing, Was}
-use Rattle.parts.specs.Precedences.{all-stand, names-items, rises}
+use Rattle.parts.specs.Precedences.{all-allowed, names-items, rises}
 use Rattle.parts.specs.Sizes.{positive, all-have-size, no-precedence}
 use Rattle.sheet.specs.Sheet.{max-items, max-precedences, longest-sheet, sheet}
 use Rattle.sheet.proofs.Longest.{sheet-most}
@@ -20,7 +20,7 @@ pub record Says (i : Instance) : Type 0 where
   pub precedences-few : i .«precedence_count» ≤ max-precedences
   pub container-has-size : positive (i .container) ≡ true
   pub items-have-size : all-have-size (items-of i) ≡ true
-  pub precedences-stand : all-stand (i .«item_count») Nothing (precedences-of i) ≡ true
+  pub precedences-stand : all-allowed (i .«item_count») Nothing (precedences-of i) ≡ true
 
 pub valid-says : (i : Instance) → valid i ≡ true → Says i
 unfolding valid
@@ -32,9 +32,9 @@ valid-says i h =
     record { items-few = leb-true _ _ a; precedences-few = leb-true _ _ c; container-has-size = e; items-have-size = g; precedences-stand = k }
 
 -- each of the precedences that stand names two items below n
-pub stands-at : (n : ℕ) (last : Previous) (os : List Precedence) → all-stand n last os ≡ true → (k : ℕ) → k < length os
+pub stands-at : (n : ℕ) (last : Previous) (os : List Precedence) → all-allowed n last os ≡ true → (k : ℕ) → k < length os
     → let o = getD os k no-precedence in (o .predecessor < n) × (o .successor < n) × (o .predecessor ≢ o .successor)
-unfolding all-stand names-items
+unfolding all-allowed names-items
 stands-at n last [] e k h = absurd (omega arith)
 stands-at n last (o ∷ os) e zero h =
     let (a, r) = both-true (ltb (o .predecessor) n) _ (both-true (names-items n o) _ (both-true (names-items n o && rises last o) _ e .0) .0) in

@@ -5,13 +5,13 @@ use Rattle.formats.specs.Fields.{Fields, field, fields-reading}
 use Rattle.parts.specs.Sizes.{no-item, no-precedence}
 use Rattle.sheet.specs.Sheet.{Sheet, sheet-fields, max-items, max-precedences}
 use Rattle.instance.specs.declared.Instance.{Instance}
-use Rattle.lists.specs.Lists.{Filled}
+use Rattle.lists.specs.Lists.{Padded}
 use Rattle.instance.specs.Sheets.{instance-of}
 
 -- its counts are within the limits and the entries past them blank
 pub record Draft (i : Instance) : Type 0 where
-  pub items : Filled max-items no-item (i .«item_count») (i .items)
-  pub precedences : Filled max-precedences no-precedence (i .«precedence_count») (i .precedences)
+  pub items : Padded max-items no-item (i .«item_count») (i .items)
+  pub precedences : Padded max-precedences no-precedence (i .«precedence_count») (i .precedences)
 
 -- the fields after the first, which the draft holds
 abbrev pub later : {n : ℕ} → Fields Sheet (suc n) → Sheet → Fields Sheet n

@@ -11,10 +11,10 @@ use Rattle.instance.specs.Values.{origin}
 use Rattle.model.specs.Problem as M
 
 -- the measure on an axis
-abbrev pub measure : ℕ → Size → ℕ
-measure zero s = s .width
-measure (suc zero) s = s .depth
-measure (suc (suc a)) s = s .shifts
+abbrev pub measure-on : ℕ → Size → ℕ
+measure-on zero s = s .width
+measure-on (suc zero) s = s .depth
+measure-on (suc (suc a)) s = s .shifts
 
 -- the start on an axis
 abbrev pub start : ℕ → Position → ℕ
@@ -29,8 +29,8 @@ precedence-of o = record { predecessor = o .predecessor; successor = o .successo
 unfoldable pub problem-of : Instance → M.Problem
 problem-of i = record {
   items = i .«item_count»;
-  size = λ a u. measure a (getD (i .items) u no-item .size);
-  capacity = λ a. measure a (i .container);
+  size = λ a u. measure-on a (getD (i .items) u no-item .size);
+  capacity = λ a. measure-on a (i .container);
   precedences = map precedence-of (precedences-of i);
 }
 

@@ -4,16 +4,16 @@ use Rattle.formats.specs.Reading.{Read, run, read-as}
 use Rattle.formats.specs.Formats.{whole}
 use Rattle.parts.specs.Sizes.{no-item, no-precedence}
 use Rattle.sheet.specs.Sheet.{Sheet, sheet, max-items, max-precedences}
-use Rattle.lists.specs.Lists.{filled}
+use Rattle.lists.specs.Lists.{padded}
 use Rattle.instance.specs.declared.Instance.{Instance}
 use Rattle.instance.specs.Valid.{items-of, precedences-of}
 
 unfoldable pub instance-of : Sheet → Instance
 instance-of s = record {
   container = s .container;
-  items = filled max-items no-item (s .items);
+  items = padded max-items no-item (s .items);
   «item_count» = length (s .items);
-  precedences = filled max-precedences no-precedence (s .precedences);
+  precedences = padded max-precedences no-precedence (s .precedences);
   «precedence_count» = length (s .precedences);
   «yard_number» = s .yard-number;
 }

@@ -12,7 +12,7 @@ use Rattle.instance.proofs.Readings.{reads-as, decode-refuses}
 use Rattle.item_record.specs.declared.RefusalCode.{RefusalCode}
 use Rattle.item_record.specs.declared.Lookup.{Lookup}
 use Rattle.item_record.specs.declared.Lookup.the-variants.{There, Refused}
-use Rattle.item_record.specs.Record.{lookup, item-record, code, code-of, item-record-code}
+use Rattle.item_record.specs.Record.{lookup, item-record, refusal-code, code-of, item-record-code}
 use Rattle.item_record.specs.Refusing.{RecordFault, unread, missing}
 
 -- number and place tell how the lookup ended
@@ -52,15 +52,15 @@ module _ (sheet : List ℕ) (k : ℕ) where
 
   -- "a second call gives number and place"
   pub record-refuses : (e : Refusal)
-      → (item-record-code sheet k ≡ code (number-of e) (place-of e)) ↔ RecordFault sheet k e
+      → (item-record-code sheet k ≡ refusal-code (number-of e) (place-of e)) ↔ RecordFault sheet k e
   record-refuses e = coded (Refused e)
 
   -- "it gives 0 and 0 where nothing is refused"
-  pub record-serves : (item-record-code sheet k ≡ code 0 0) ↔ ((r : Reads sheet) × (k < r .instance .«item_count»))
+  pub record-serves : (item-record-code sheet k ≡ refusal-code 0 0) ↔ ((r : Reads sheet) × (k < r .instance .«item_count»))
   record-serves = coded There
 
   -- "When the record is refused, the part is empty"
-  pub record-empty : (e : Refusal) → item-record-code sheet k ≡ code (number-of e) (place-of e)
+  pub record-empty : (e : Refusal) → item-record-code sheet k ≡ refusal-code (number-of e) (place-of e)
       → item-record sheet k ≡ []
   unfolding item-record
   record-empty e h = rw (ends-so (Refused e) (record-refuses e .0 h))

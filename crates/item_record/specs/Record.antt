@@ -24,13 +24,13 @@ record-of (Refused e) s k = []
 unfoldable pub item-record : List ℕ → ℕ → List ℕ
 item-record s k = record-of (lookup (decode s) k) s k
 
-abbrev pub code : ℕ → ℕ → RefusalCode
-code number place = record { number = number; place = place }
+abbrev pub refusal-code : ℕ → ℕ → RefusalCode
+refusal-code number place = record { number = number; place = place }
 
 -- "a second call gives number and place; it gives 0 and 0 where nothing is refused"
 abbrev pub code-of : Lookup → RefusalCode
-code-of There = code 0 0
-code-of (Refused e) = code (number-of e) (place-of e)
+code-of There = refusal-code 0 0
+code-of (Refused e) = refusal-code (number-of e) (place-of e)
 
 unfoldable pub item-record-code : List ℕ → ℕ → RefusalCode
 item-record-code s k = code-of (lookup (decode s) k)

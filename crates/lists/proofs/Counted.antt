@@ -7,7 +7,7 @@ use Rattle.formats.specs.Fields.{optional-reading}
 use Rattle.formats.proofs.Run.{after, cond-got, never-both, run-then}
 use Rattle.parts.specs.Parts.{count-field}
 use Rattle.sheet.specs.Sheet.{list-of}
-use Rattle.lists.specs.Lists.{Filled}
+use Rattle.lists.specs.Lists.{Padded}
 
 -- a counted row is a count, left out for 0, and the row
 pub list-run : {P A : Type 0} (part : Format A) (tests : P → A → List Test) (next : P → A → P) (p : P) (limit : ℕ) (present : Bool) (at : ℕ) (rest : List ℕ)
@@ -28,6 +28,6 @@ count-within limit true at (x ∷ rest) {n} h =
     let no : ¬ (limit < x) = λ l. true≢false (simp (lt-ltb limit x l, or-true) at c) in
     omega arith
 
-module _ {A : Type 0} (room n : ℕ) (blank : A) (xs : List A) (φ : Filled room blank n xs) where
+module _ {A : Type 0} (room n : ℕ) (blank : A) (xs : List A) (φ : Padded room blank n xs) where
   pub filled-many : length (take n xs) ≡ n
   filled-many = omega (arith, length-take n xs, simp (length-append, length-replicate) at (ap length (φ .same)))

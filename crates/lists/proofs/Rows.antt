@@ -7,8 +7,8 @@ use Rattle.formats.specs.Reading.{Reading, Read, got, refused, run, read-as}
 use Rattle.formats.specs.Formats.{Format, Test, tested, row-reading}
 use Rattle.formats.proofs.Entries.{rest-of}
 use Rattle.formats.proofs.Run.{after, run-then, run-took}
-use Rattle.parts.specs.Answers.{taken}
-use Rattle.lists.specs.Lists.{Filled}
+use Rattle.parts.specs.Answers.{value-taken}
+use Rattle.lists.specs.Lists.{Padded}
 
 -- what was read before, and then the rest of the row: nothing before, and one part more
 none-before : {A : Type 0} (r : Read (List A)) → read-as (λ ys. ys) r ≡ r
@@ -34,7 +34,7 @@ pub record Along {P A : Type 0} (part : Format A) (tests : P → A → List Test
 
 -- the bytes that a part took are there
 pub part-took : {A : Type 0} (r : Reading A) (at used : ℕ) (rest : List ℕ) {x : A} {more : ℕ}
-    → run r at (take (length rest - used) (drop used rest)) ≡ taken at (take (length rest - used) (drop used rest)) x more → more ≤ length rest - used
+    → run r at (take (length rest - used) (drop used rest)) ≡ value-taken at (take (length rest - used) (drop used rest)) x more → more ≤ length rest - used
 part-took r at used rest e = rw (rest-of, length-drop) at (run-took r at _ e)
 
 module _ {P A : Type 0} {part : Format A} {tests : P → A → List Test} {next : P → A → P} {start : P} {room : ℕ} {blank : A} {at from n : ℕ}
@@ -55,13 +55,13 @@ module _ {P A : Type 0} {part : Format A} {tests : P → A → List Test} {next 
     entries : take i xs ≡ α .parts
     entries = rw (α .stored) (take-at (α .parts) _ i (α .many))
 
-    along-filled : Filled room blank i xs
+    along-filled : Padded room blank i xs
     along-filled = record { few = omega (arith, α .in-row); same = rw entries (α .stored) }
 
     -- one part more is read and stored after those so far, before the blanks
     pub along-next : i < n → (x : A) (more : ℕ)
         → run (tested part (tests p) .reading) (at + used) (take (length rest - used) (drop used rest))
-        ≡ taken (at + used) (take (length rest - used) (drop used rest)) x more
+        ≡ value-taken (at + used) (take (length rest - used) (drop used rest)) x more
         → Along part tests next start room blank at from n rest (next p x) (set xs i x) (i + 1) (used + more)
     unfolding row-reading run
     along-next l x more e =
@@ -80,7 +80,7 @@ module _ {P A : Type 0} {part : Format A} {tests : P → A → List Test} {next 
     -- the next part is refused
     pub along-refused : i < n → {e : Refusal}
         → run (tested part (tests p) .reading) (at + used) (take (length rest - used) (drop used rest)) ≡ refused e
-        → (run (row-reading part tests next start n) (at + from) (drop from rest) ≡ refused e) × Filled room blank i xs
+        → (run (row-reading part tests next start n) (at + from) (drop from rest) ≡ refused e) × Padded room blank i xs
     unfolding row-reading run
     along-refused l h =
         let left : n - i ≡ suc (n - (i + 1)) = omega arith in let h₁ = rw rest-of at h in
@@ -89,6 +89,6 @@ module _ {P A : Type 0} {part : Format A} {tests : P → A → List Test} {next 
     -- the whole row is read
     pub along-done : n ≤ i
         → (run (row-reading part tests next start n) (at + from) (drop from rest) ≡ got (take i xs) (at + used) (drop used rest))
-        × Filled room blank i xs
+        × Padded room blank i xs
     unfolding row-reading run
     along-done l = let z : n - i ≡ 0 = omega arith in (α .same ∙ rw (z, entries, append-nil), along-filled)

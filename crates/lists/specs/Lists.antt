@@ -24,10 +24,10 @@ row-read at rest (S.After used) xs = got xs (at + used) (drop used rest)
 row-read at rest (S.Refused e) xs = refused e
 
 -- "Entries of a sheet past its counts are no part of it; reading leaves them 0"
-abbrev pub filled : {A : Type 0} → ℕ → A → List A → List A
-filled room blank xs = xs ++ replicate (room - length xs) blank
+abbrev pub padded : {A : Type 0} → ℕ → A → List A → List A
+padded room blank xs = xs ++ replicate (room - length xs) blank
 
 -- of `room` entries the first n count, and those past them are blank
-pub record Filled {A : Type 0} (room : ℕ) (blank : A) (n : ℕ) (xs : List A) : Type 0 where
+pub record Padded {A : Type 0} (room : ℕ) (blank : A) (n : ℕ) (xs : List A) : Type 0 where
   pub few : n ≤ room
-  pub same : xs ≡ filled room blank (take n xs)
+  pub same : xs ≡ padded room blank (take n xs)

@@ -5,10 +5,10 @@ ghost use lib.ListN.{length, take, drop, replicate};
 ghost use Rattle.formats.specs.Reading.{run};
 ghost use Rattle.formats.specs.Fields.{optional-reading};
 ghost use Rattle.parts.specs.Answers.{PlacesFit};
-ghost use Rattle.parts.specs.Precedences.{all-stand};
+ghost use Rattle.parts.specs.Precedences.{all-allowed};
 ghost use Rattle.parts.specs.Sizes.{no-item, no-precedence, all-have-size};
 ghost use Rattle.sheet.specs.Sheet.{max-items, max-precedences, item-list, precedence-list};
-ghost use Rattle.lists.specs.Lists.{item-row, precedence-row, row-read, Filled};
+ghost use Rattle.lists.specs.Lists.{item-row, precedence-row, row-read, Padded};
 use parts::FieldRead;
 use parts::Item;
 use parts::ItemRead;
@@ -74,7 +74,7 @@ pub fn no_precedences() -> [Precedence; MAX_PRECEDENCES]
 fn read_item_row(rest: &[u8], at: usize, from: usize, n: usize) -> ItemsRead
     requires { ⌜ PlacesFit at (now rest) × (from ≤ length (now rest)) × (n ≤ max-items) ⌝ }
     ensures { λ r. ⌜ run (item-row n) (at + from) (drop from (now (rest .entry))) ≡ row-read at (now (rest .entry)) (r .stop) (take (r .count) (r .items)) ⌝ }
-    ensures { λ r. ⌜ Filled max-items no-item (r .count) (r .items) ⌝ }
+    ensures { λ r. ⌜ Padded max-items no-item (r .count) (r .items) ⌝ }
 {
     let mut items = no_items();
     let mut used = from;
@@ -106,7 +106,7 @@ fn read_item_row(rest: &[u8], at: usize, from: usize, n: usize) -> ItemsRead
 fn read_precedence_row(rest: &[u8], at: usize, from: usize, n: usize, m: usize) -> PrecedencesRead
     requires { ⌜ PlacesFit at (now rest) × (from ≤ length (now rest)) × (m ≤ max-precedences) ⌝ }
     ensures { λ r. ⌜ run (precedence-row n Previous.Nothing m) (at + from) (drop from (now (rest .entry))) ≡ row-read at (now (rest .entry)) (r .stop) (take (r .count) (r .precedences)) ⌝ }
-    ensures { λ r. ⌜ Filled max-precedences no-precedence (r .count) (r .precedences) ⌝ }
+    ensures { λ r. ⌜ Padded max-precedences no-precedence (r .count) (r .precedences) ⌝ }
 {
     let mut precedences = no_precedences();
     let mut last = Previous::Nothing;
@@ -140,7 +140,7 @@ fn read_precedence_row(rest: &[u8], at: usize, from: usize, n: usize, m: usize) 
 pub fn read_items(rest: &[u8], at: usize, present: bool) -> ItemsRead
     requires { ⌜ PlacesFit at (now rest) ⌝ }
     ensures { λ r. ⌜ run (optional-reading item-list present) at (now (rest .entry)) ≡ row-read at (now (rest .entry)) (r .stop) (take (r .count) (r .items)) ⌝ }
-    ensures { λ r. ⌜ Filled max-items no-item (r .count) (r .items) ⌝ }
+    ensures { λ r. ⌜ Padded max-items no-item (r .count) (r .items) ⌝ }
 {
     match parts::read::read_count(rest, at, present, MAX_ITEMS) {
         FieldRead::Value(n, used) => read_item_row(rest, at, used, widened(n)),
@@ -159,7 +159,7 @@ pub fn read_items(rest: &[u8], at: usize, present: bool) -> ItemsRead
 pub fn read_precedences(rest: &[u8], at: usize, n: usize, present: bool) -> PrecedencesRead
     requires { ⌜ PlacesFit at (now rest) ⌝ }
     ensures { λ r. ⌜ run (optional-reading (precedence-list n) present) at (now (rest .entry)) ≡ row-read at (now (rest .entry)) (r .stop) (take (r .count) (r .precedences)) ⌝ }
-    ensures { λ r. ⌜ Filled max-precedences no-precedence (r .count) (r .precedences) ⌝ }
+    ensures { λ r. ⌜ Padded max-precedences no-precedence (r .count) (r .precedences) ⌝ }
 {
     match parts::read::read_count(rest, at, present, MAX_PRECEDENCES) {
         FieldRead::Value(m, used) => read_precedence_row(rest, at, used, n, widened(m)),
@@ -194,7 +194,7 @@ pub fn all_positive(items: [Item; MAX_ITEMS], n: usize) -> bool
 // The first m precedences name two of n items each and rise.
 pub fn all_in_order(precedences: [Precedence; MAX_PRECEDENCES], m: usize, n: usize) -> bool
     requires { ⌜ m ≤ max-precedences ⌝ }
-    ensures { λ r. ⌜ r ≡ all-stand n Previous.Nothing (take m precedences) ⌝ }
+    ensures { λ r. ⌜ r ≡ all-allowed n Previous.Nothing (take m precedences) ⌝ }
 {
     let mut last = Previous::Nothing;
     let mut i: usize = 0;

@@ -5,7 +5,7 @@ use Rattle.model.specs.Below.{most-below}
 use Rattle.model.specs.Problem.{Problem}
 use Rattle.model.specs.Domains.{Domains, fixed-before}
 use Rattle.model.specs.Rules.{listed, joined, longest, ending, starting, greatest-ending, greatest-starting}
-use Rattle.model.specs.Chain.{Chain, alone, link, total-from, Starting, starting-total, Ending, ending-total, measures}
+use Rattle.model.specs.Chain.{Chain, alone, link, total-from, Starting, starting-total, Ending, ending-total, measure-sum}
 use Rattle.model.proofs.Below.{and-both, or-elim, or-left, or-right, or-neither, neither-or, most-some, refuted, clash, Implies, most-at}
 use Rattle.model.proofs.Below.{most-le, up-to}
 use Rattle.model.proofs.Ends.{joined-mono}
@@ -195,12 +195,12 @@ module _ (p : Problem) (k : Domains) (a u : ℕ) where
   greatest-starting-attained hu = longest-attained p a (λ u v. fixed-before k a u v) _ (front-mono p a) u hu
 
 -- a chain's total is the sum of its measures, read from either end
-pub starting-total-measures : (p : Problem) (a u : ℕ) (l : List ℕ) → starting-total p a u l ≡ measures p a (u ∷ l)
+pub starting-total-measures : (p : Problem) (a u : ℕ) (l : List ℕ) → starting-total p a u l ≡ measure-sum p a (u ∷ l)
 unfolding joined
 starting-total-measures p a u [] = omega arith
 starting-total-measures p a u (v ∷ l) = ap (λ (x : ℕ). p .size a u + x) (starting-total-measures p a v l)
 
-pub ending-total-measures : (p : Problem) (a u : ℕ) (l : List ℕ) → ending-total p a u l ≡ measures p a (u ∷ l)
+pub ending-total-measures : (p : Problem) (a u : ℕ) (l : List ℕ) → ending-total p a u l ≡ measure-sum p a (u ∷ l)
 unfolding joined
 ending-total-measures p a u [] = omega arith
 ending-total-measures p a u (v ∷ l) = omega (arith, ending-total-measures p a v l)

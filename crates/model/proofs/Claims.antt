@@ -5,7 +5,7 @@ use Rattle.model.specs.Order.{_⊑_}
 use Rattle.model.proofs.Below.{and-mono, below-three}
 use Rattle.model.proofs.Domains.{left-converse, gone-is}
 use Rattle.model.specs.Relations.{gone, converse}
-use Rattle.model.specs.Claims.{Saying, overlaps, nothing, removed, forced, Claim, says, Holds}
+use Rattle.model.specs.Facts.{Saying, overlaps, nothing, removed, forced, Fact, says, Holds}
 pub use Rattle.model.proofs.Domains.{converse-small, gone-self}
 pub use Rattle.model.proofs.Monotone.{gone-mono}
 
@@ -17,7 +17,7 @@ says-mono f k h nothing a u v =
 says-mono f k h (removed x) a u v = gone-mono f k h x a u v
 says-mono f k h (forced x) a u v = and-mono (gone-mono f k h 0 a u v) (gone-mono f k h x a u v)
 
-pub holds-mono : (f k : Domains) → f ⊑ k → (c : Claim) → Holds k c → Holds f c
+pub holds-mono : (f k : Domains) → f ⊑ k → (c : Fact) → Holds k c → Holds f c
 holds-mono f k h c = says-mono f k h (c .saying) (c .axis) (c .u) (c .v)
 
 -- The same relation seen from the other item

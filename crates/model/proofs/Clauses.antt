@@ -6,7 +6,7 @@ use Rattle.model.specs.Domains.{Domains, may-overlap, may-before, fixed-
 use Rattle.model.specs.Rules.{rule1, rule2, rule3, rule4, rule5, asks-overlap, asks-before, asks}
 use Rattle.model.specs.Order.{Proper, AtRest}
 use Rattle.model.specs.Relations.{gone}
-use Rattle.model.specs.Claims.{removed, forced, says, Holds}
+use Rattle.model.specs.Facts.{removed, forced, says, Holds}
 use Rattle.model.specs.Clauses.{of, Three, Order, c3, d2, d1-far, d1-near, g1, Obeyed}
 use Rattle.model.proofs.Below.{some-of, and-intro, and-both, and-three, or-elim, or-left, or-right, past-three, all-at, some-at}
 use Rattle.model.proofs.Slots.{proper-sym}

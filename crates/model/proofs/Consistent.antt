@@ -6,7 +6,7 @@ use Rattle.model.specs.Domains.{Domains, may-overlap, may-before, fixed-
 use Rattle.model.specs.Branching.{empty, inconsistent}
 use Rattle.model.specs.Order.{Proper, Rising}
 use Rattle.model.specs.Relations.{gone}
-use Rattle.model.specs.Claims.{says}
+use Rattle.model.specs.Facts.{says}
 use Rattle.model.specs.Clauses.{d2, Obeyed}
 use Rattle.model.proofs.Below.{and-intro, or-left, or-neither, neither-or, some-of, none-at, none-of, clash}
 use Rattle.model.proofs.Slots.{lt-or-gt}

@@ -5,7 +5,7 @@ use Rattle.model.specs.Domains.{Domains, fix-before, full-domains}
 use Rattle.model.specs.Branching.{opening-domains, Branch, branched, path-domains}
 use Rattle.model.specs.Order.{Proper}
 use Rattle.model.specs.Relations.{gone, without, Untouched}
-use Rattle.model.specs.Claims.{removed, says}
+use Rattle.model.specs.Facts.{removed, says}
 use Rattle.model.specs.Admits.{Sound}
 use Rattle.model.specs.Search.{fork, Forking}
 use Rattle.model.specs.Run.{look}

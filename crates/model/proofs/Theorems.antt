@@ -9,9 +9,9 @@ use Rattle.model.specs.Removals.{Removed, path-removals}
 use Rattle.model.specs.Admits.{Sound, Admits}
 use Rattle.model.specs.Machine.{steps, taken, Finished, Count}
 use Rattle.model.specs.Search.{fork, Checkpoint, open-at, infeasible, packed-at, opening, Forking, Follows, follows, path-count}
-use Rattle.model.specs.Calls.{budget-spent, packing, answer}
+use Rattle.model.specs.Calls.{budget-spent, packing, answer-at}
 use Rattle.model.specs.Lists.{Service, Serves, Claim}
-use Rattle.model.specs.Run.{look, machine, plan-at, search, path-limit, run, step-count}
+use Rattle.model.specs.Run.{look, machine, plan-at, search, path-limit, run-end, step-count}
 use Rattle.model.proofs.Feasible.{feasible-so}
 use Rattle.model.proofs.Propagate.{propagate-at-rest, between-rest}
 use Rattle.model.proofs.Sound.{propagate-admits}
@@ -60,8 +60,8 @@ path-at-once = one-propagation
 
 -- how the run ends: "none, or placed with its plan"
 pub data RunEnds (p : Problem) : Type 0 where
-  ends-infeasible : run p ≡ infeasible → ((q : Positions) → Feasible p q → ⊥) → RunEnds p
-  ends-packed : (path : List Branch) → run p ≡ packed-at path → Feasible p (plan p path) → RunEnds p
+  ends-infeasible : run-end p ≡ infeasible → ((q : Positions) → Feasible p q → ⊥) → RunEnds p
+  ends-packed : (path : List Branch) → run-end p ≡ packed-at path → Feasible p (plan p path) → RunEnds p
 
 module _ (p : Problem) (σ : Sound p) where
   -- "A row of turns has at most 3 × n × (n − 1) entries", and one that is a branching point has fewer
@@ -82,8 +82,8 @@ module _ (p : Problem) (σ : Sound p) where
   one-count c k = count-unique (machine p) opening c (step-count p) k counted
 
   -- "takes steps from the opening note until the note is finished": the run is where the search stands after so many steps, or more
-  pub run-after : (i : ℕ) → step-count p ≤ i → steps (machine p) i opening ≡ run p
-  unfolding run
+  pub run-after : (i : ℕ) → step-count p ≤ i → steps (machine p) i opening ≡ run-end p
+  unfolding run-end
   run-after i h =
       past-count (machine p) opening (step-count p) i counted h
       ∙ sym (past-count (machine p) opening (step-count p) (path-count (path-limit p)) counted (omega (arith, count-is p σ, ended p σ .bounded)))
@@ -95,14 +95,14 @@ module _ (p : Problem) (σ : Sound p) where
   -- the run ends infeasible, and nothing fits; or packed, with a plan that fits
   pub run-ends : RunEnds p
   run-ends =
-      let at-end : run p ≡ steps (machine p) (ended p σ .count) opening = sym (run-after (ended p σ .count) (omega (arith, count-is p σ))) in
+      let at-end : run-end p ≡ steps (machine p) (ended p σ .count) opening = sym (run-after (ended p σ .count) (omega (arith, count-is p σ))) in
       elim (ended p σ .end) [
         | inl (e, f) ↦ ends-infeasible (at-end ∙ e) (λ q h. f (q, h))
         | inr (path, e, f) ↦ ends-packed path (at-end ∙ e) (packed-feasible path f)
       ]
 
   -- none exactly when nothing fits
-  pub infeasible-exactly : (run p ≡ infeasible) ↔ ((q : Positions) → Feasible p q → ⊥)
+  pub infeasible-exactly : (run-end p ≡ infeasible) ↔ ((q : Positions) → Feasible p q → ⊥)
   infeasible-exactly = elim run-ends [
     | ends-infeasible e f ↦ ((λ _. f), (λ _. e))
     | ends-packed path e f ↦ ((λ i. let z : _≡_ {A = ℕ} 0 1 = cc in absurd (omega arith)), (λ h. absurd (h (plan p path) f)))
@@ -112,7 +112,7 @@ module _ (p : Problem) (σ : Sound p) where
   pub answer-feasible : (budget : ℕ) (κ : Checkpoint) → Follows (look p) κ → (q : Positions) → search p budget κ .answer ≡ packing q → Feasible p q
   answer-feasible budget κ f q e = go (steps (machine p) budget κ) (steps-follow (look p) budget κ f) e
     where
-      go : (μ : Checkpoint) → Follows (look p) μ → answer (machine p) (plan-at p) μ ≡ packing q → Feasible p q
+      go : (μ : Checkpoint) → Follows (look p) μ → answer-at (machine p) (plan-at p) μ ≡ packing q → Feasible p q
       go (open-at path) f e = let z : _≡_ {A = ℕ} 0 1 = cc in absurd (omega arith)
       go infeasible f e = let z : _≡_ {A = ℕ} 0 1 = cc in absurd (omega arith)
       go (packed-at path) f e = let z : plan p path ≡ q = cc in subst (Feasible p) z (packed-feasible path f)
@@ -128,7 +128,7 @@ module _ (p : Problem) where
 
   -- "A finished note repeats its answer with 0 steps"
   pub finished-repeats : (budget : ℕ) (κ : Checkpoint) → Finished (machine p) κ
-      → search p budget κ ≡ record { answer = answer (machine p) (plan-at p) κ; steps = 0; checkpoint = κ }
+      → search p budget κ ≡ record { answer = answer-at (machine p) (plan-at p) κ; steps = 0; checkpoint = κ }
   finished-repeats budget κ f = rw (finished-stays (machine p) budget κ f, finished-takes-none (machine p) budget κ f)
 
   -- i steps and then j are i + j steps

@@ -9,7 +9,7 @@ use Rattle.model.specs.Propagate.{propagate}
 use Rattle.model.specs.Branching.{inconsistent}
 use Rattle.model.specs.Order.{Proper, WellFormed, _⊑_, AtRest}
 use Rattle.model.specs.Relations.{gone, Untouched}
-use Rattle.model.specs.Claims.{forced}
+use Rattle.model.specs.Facts.{forced}
 use Rattle.model.specs.Clauses.{of, Obeyed}
 use Rattle.model.specs.Toward.{Goal, Direction, greatest, Linked, extended, Table, Under, Toward, Links, Cuts, ClosedBut, Closed}
 use Rattle.model.proofs.Below.{stays, clash}

@@ -6,7 +6,7 @@ use Rattle.model.specs.Propagate.{pass, propagate}
 use Rattle.model.specs.Branching.{empty, inconsistent}
 use Rattle.model.specs.Order.{Proper, WellFormed}
 use Rattle.model.specs.Relations.{gone, Filled, Untouched}
-use Rattle.model.specs.Claims.{overlaps, removed, forced, Claim, says, Holds}
+use Rattle.model.specs.Facts.{overlaps, removed, forced, Fact, says, Holds}
 use Rattle.model.specs.Clauses.{of, Three, Order, c3, d2, d1-far, d1-near, g1, Rule, AllHold, Obeyed, Lawful}
 use Rattle.model.specs.Toward.{Goal, Linked}
 use Rattle.model.proofs.Below.{and-both, fails}
@@ -55,7 +55,7 @@ module _ (n m : ℕ) (k : Domains) (lost : (x a u v : ℕ) → x < 3 → Proper 
   three : {a u v w : ℕ} → Three n a u v w → Proper m a u v → Proper m a v w → Three m a u v w
   three t f g = omega arith
 
-  rule-into : {ps : List Claim} {c : Claim} → Rule n ps c → AllHold k ps → Rule m ps c
+  rule-into : {ps : List Fact} {c : Fact} → Rule n ps c → AllHold k ps → Rule m ps c
   rule-into (c3 a b c u v x s) (f, _) = c3 a b c u v x (overlaps-into s f)
   rule-into (d2 x a u v w o t) (f, (g, _)) = d2 x a u v w o (three t (forced-into x (t .uv) f) (forced-into x (t .vw) g))
   rule-into (d1-far x a u v w o t) (f, (g, _)) = d1-far x a u v w o (three t (forced-into x (t .uv) f) (removed-into x o (t .vw) g))

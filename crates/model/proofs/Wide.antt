@@ -4,7 +4,7 @@ use Rattle.prelude.specs.Names.{ltb-true, lt-ltb, le-ltb}
 use Rattle.model.specs.Problem.{Problem}
 use Rattle.model.specs.Domains.{Domains, fixed-before}
 use Rattle.model.specs.Rules.{joined, greatest-ending, greatest-starting, rule5}
-use Rattle.model.specs.Chain.{Chain, alone, link, measures}
+use Rattle.model.specs.Chain.{Chain, alone, link, measure-sum}
 use Rattle.model.specs.Propagate.{propagate}
 use Rattle.model.specs.Branching.{empty, inconsistent}
 use Rattle.model.specs.Order.{WellFormed, _⊑_, AtRest}
@@ -36,8 +36,8 @@ module _ (p : Problem) (a u : ℕ) where
 
 -- m is the greatest sum of measures of chains from u
 record Greatest (p : Problem) (linked : ℕ → ℕ → Bool) (a u m : ℕ) : Type 0 where
-  most : (l : List ℕ) → Chain p linked (u ∷ l) → measures p a (u ∷ l) ≤ m
-  attained : (l : List ℕ) × Chain p linked (u ∷ l) × (measures p a (u ∷ l) ≡ m)
+  most : (l : List ℕ) → Chain p linked (u ∷ l) → measure-sum p a (u ∷ l) ≤ m
+  attained : (l : List ℕ) × Chain p linked (u ∷ l) × (measure-sum p a (u ∷ l) ≡ m)
 
 -- what may stand next to u in a chain, followed in the direction x
 abbrev linked : ℕ → Domains → ℕ → ℕ → ℕ → Bool
@@ -64,7 +64,7 @@ module _ (p : Problem) (limited : p .items ≤ 10) (linked : ℕ → ℕ → Boo
   chain-wide (alone h) = alone (le-trans h limited)
   chain-wide (link h b d c) = link (le-trans h limited) b d (chain-wide c)
 
-  wide-measures : {l : List ℕ} → Chain p linked l → measures (wide p) a l ≡ measures p a l
+  wide-measures : {l : List ℕ} → Chain p linked l → measure-sum (wide p) a l ≡ measure-sum p a l
   wide-measures (alone h) = rw (wide-size p a _ h)
   wide-measures (link h b d c) = ap₂ _+_ (wide-size p a _ h) (wide-measures c)
 

@@ -4,7 +4,7 @@ use Rattle.prelude.specs.Names.{max, compare, ℕ-discrete, decLt, arith, getD,
 use Rattle.model.specs.Domains.{Domains, index-of, bit, clear, converse, place, left, struck, gone, without}
 use Rattle.model.specs.Propagate.{sum}
 use Rattle.model.specs.Order.{Proper, WellFormed, Subdomain, _⊑_}
-use Rattle.model.specs.Claims.{Saying, overlaps, nothing, removed, forced, says}
+use Rattle.model.specs.Facts.{Saying, overlaps, nothing, removed, forced, says}
 use Rattle.model.proofs.Below.{clash, fails}
 use Rattle.model.proofs.Order.{sub-le, cleared, clear-other, clear-small, clear-less, clear-above, clear-none, sub-refl, sub-zero, sub-trans}
 use Rattle.model.proofs.Slots.{proper-sym, index-of-same}

@@ -22,9 +22,9 @@ pub record Result (S P : Type 0) : Type 0 where
   pub checkpoint : S
 
 module _ {S P : Type 0} (M : Machine S) (plan : S → P) where
-  abbrev pub answer : S → Answer P
-  answer κ = answer-by (M .status κ) (plan κ)
+  abbrev pub answer-at : S → Answer P
+  answer-at κ = answer-by (M .status κ) (plan κ)
 
   -- one call on a checkpoint that follows its instance
   abbrev pub call : ℕ → S → Result S P
-  call budget κ = record { answer = answer (steps M budget κ); steps = taken M budget κ; checkpoint = steps M budget κ }
+  call budget κ = record { answer = answer-at (steps M budget κ); steps = taken M budget κ; checkpoint = steps M budget κ }

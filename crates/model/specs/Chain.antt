@@ -10,7 +10,7 @@ module _ (p : Problem) (linked : ℕ → ℕ → Bool) where
     alone : {u : ℕ} → u < p .items → Chain (u ∷ [])
     link : {u v : ℕ} {l : List ℕ} → u < p .items → linked u v ≡ true → listed u (v ∷ l) ≡ false → Chain (v ∷ l) → Chain (u ∷ v ∷ l)
 
--- "its total the sum of measures" (proofs/Chain shows that it is `measures`)
+-- "its total the sum of measures" (proofs/Chain shows that it is `measure-sum`)
 module _ (p : Problem) (a : ℕ) (on : ℕ → ℕ → ℕ → ℕ) where
   abbrev pub total-from : ℕ → List ℕ → ℕ
   total-from u [] = p .size a u
@@ -30,6 +30,6 @@ Ending p k a = Chain p (λ u v. fixed-before k a v u)
 abbrev pub ending-total : Problem → ℕ → ℕ → List ℕ → ℕ
 ending-total p a = total-from p a (λ u v rest. joined p a v u rest (p .size a u))
 
-abbrev pub measures : Problem → ℕ → List ℕ → ℕ
-measures p a [] = 0
-measures p a (u ∷ l) = p .size a u + measures p a l
+abbrev pub measure-sum : Problem → ℕ → List ℕ → ℕ
+measure-sum p a [] = 0
+measure-sum p a (u ∷ l) = p .size a u + measure-sum p a l

@@ -5,10 +5,10 @@ use Rattle.prelude.specs.Names.{List, [], _∷_, _≢_, ℕ, _≤_, _<_}
 use Rattle.model.specs.Domains.{Domains}
 use Rattle.model.specs.Order.{Proper}
 use Rattle.model.specs.Relations.{Filled}
-use Rattle.model.specs.Claims.{Saying, overlaps, removed, forced, Claim, Holds}
+use Rattle.model.specs.Facts.{Saying, overlaps, removed, forced, Fact, Holds}
 
 -- the claim of u and v on the axis a
-abbrev pub of : Saying → ℕ → ℕ → ℕ → Claim
+abbrev pub of : Saying → ℕ → ℕ → ℕ → Fact
 of s a u v = record { saying = s; axis = a; u = u; v = v }
 
 -- the three axes in some order
@@ -31,7 +31,7 @@ pub record Order (x : ℕ) : Type 0 where
   pub least : 1 ≤ x
   pub most : x ≤ 2
 
-pub data Rule (n : ℕ) : List Claim → Claim → Type 0 where
+pub data Rule (n : ℕ) : List Fact → Fact → Type 0 where
   -- "1. Overlap known on two axes of a pair: strike it on the third (C3)."
   c3 : (a b c u v : ℕ) → Axes a b c → Proper n a u v → Rule n (of overlaps a u v ∷ of overlaps b u v ∷ []) (of (removed 0) c u v)
   -- "2. u before v and v before w known: strike all but u before w (D2)."
@@ -44,13 +44,13 @@ pub data Rule (n : ℕ) : List Claim → Claim → Type 0 where
   g1 : (a q r s t : ℕ) → Three n a q r s → Three n a s t q → Proper n a r t
       → Rule n (of overlaps a q r ∷ of overlaps a r s ∷ of overlaps a s t ∷ of overlaps a t q ∷ of (removed 0) a q s ∷ []) (of overlaps a r t)
 
-abbrev pub AllHold : Domains → List Claim → Type 0
+abbrev pub AllHold : Domains → List Fact → Type 0
 AllHold k [] = Unit {0}
 AllHold k (c ∷ cs) = Holds k c × AllHold k cs
 
 -- where the premises hold, so does the conclusion
 abbrev pub Obeyed : ℕ → Domains → Type 0
-Obeyed n k = (ps : List Claim) (c : Claim) → Rule n ps c → AllHold k ps → Holds k c
+Obeyed n k = (ps : List Fact) (c : Fact) → Rule n ps c → AllHold k ps → Holds k c
 
 -- domains that obey rules 1 to 4 for ten items and have something left of each pair
 pub record Lawful (f : Domains) : Type 0 where

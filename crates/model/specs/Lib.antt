@@ -8,7 +8,7 @@ pub mod Propagate
 pub mod Branching
 pub mod Order
 pub mod Relations
-pub mod Claims
+pub mod Facts
 pub mod Clauses
 pub mod Removals
 pub mod Obeys
@@ -22,4 +22,5 @@ pub mod Calls
 pub mod Lists
 pub mod Run
 pub mod Turns
+pub mod Computing
 pub mod Trials

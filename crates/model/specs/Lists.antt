@@ -32,8 +32,8 @@ status-number succeeded = 1
 status-number failed = 2
 
 -- what counts of a call that returns this number: nothing where it is refused
-abbrev pub counted : ℕ → ℕ → ℕ
-counted code m = cond (ltb code 100) m 0
+abbrev pub if-answered : ℕ → ℕ → ℕ
+if-answered code m = cond (ltb code 100) m 0
 
 module _ {S C X P : Type 0} (w : Service S C X P) where
   -- "each later one the note that the last returned or left"
@@ -48,7 +48,7 @@ module _ {S C X P : Type 0} (w : Service S C X P) where
   -- added up over the calls that are not refused
   abbrev pub added : (C → X → ℕ) → X → List C → ℕ
   added f x [] = 0
-  added f x (c ∷ cs) = counted (w .code c x) (f c x) + added f (w .next c x) cs
+  added f x (c ∷ cs) = if-answered (w .code c x) (f c x) + added f (w .next c x) cs
 
   -- "The sum at any point adds the allowances of the calls so far that were not refused"
   abbrev pub budget-sum : List C → ℕ

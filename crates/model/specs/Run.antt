@@ -31,8 +31,8 @@ abbrev pub path-limit : Problem → ℕ
 path-limit p = 3 * (p .items * (p .items - 1))
 
 -- "one run of this search takes steps from the opening note until the note is finished": no run takes more steps than there are paths (proofs/Theorems)
-unfoldable pub run : Problem → Checkpoint
-run p = steps (machine p) (path-count (path-limit p)) opening
+unfoldable pub run-end : Problem → Checkpoint
+run-end p = steps (machine p) (path-count (path-limit p)) opening
 
 -- "The number of these steps .. is the sheet's step count"
 unfoldable pub step-count : Problem → ℕ

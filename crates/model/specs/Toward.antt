@@ -7,7 +7,7 @@ use Rattle.model.specs.Rules.{joined, greatest-ending, greatest-starting
 use Rattle.model.specs.Branching.{inconsistent}
 use Rattle.model.specs.Order.{Proper, WellFormed, _⊑_, AtRest}
 use Rattle.model.specs.Relations.{gone, Untouched}
-use Rattle.model.specs.Claims.{forced, Holds}
+use Rattle.model.specs.Facts.{forced, Holds}
 use Rattle.model.specs.Clauses.{of, Order}
 
 -- domains that propagation may end in where it finds no inconsistency

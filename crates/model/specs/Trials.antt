@@ -1,37 +1,30 @@
 -- Halls tried by computation: a problem, the calls made, and what they have to answer.
 use Rattle.prelude.specs.Names.{Bool, true, false, _&&_, List, [], _∷_, ℕ, _+_, eqb, getD, length}
 use Rattle.model.specs.Below.{all-below}
-use Rattle.model.specs.Problem.{Problem, Precedence, Positions, ends-before, inside-test, apart-on-some-axis, apart-test, ordered-test}
-use Rattle.model.specs.Problem.{feasible}
-use Rattle.model.specs.Domains.{pairs, pair-number, domain, overlap-bit, before-bit, after-bit, index, index-of, may-overlap, may-before}
-use Rattle.model.specs.Domains.{remove-overlap, remove-before, fixed-before, fixed-overlap, fix-before, fix-overlap}
-use Rattle.model.specs.Rules.{joined, ending, starting, greatest-ending, greatest-starting, rule1, rule2, rule3, rule4, rule5, asks-overlap}
-use Rattle.model.specs.Rules.{asks-before}
-use Rattle.model.specs.Propagate.{slots, kept, pass, passes, propagate}
-use Rattle.model.specs.Branching.{opening-domains, empty, inconsistent, separated, packed, undecided, choice-pair, choice-axis, choice}
-use Rattle.model.specs.Branching.{branched, path-domains, starts, plan}
+use Rattle.model.specs.Problem.{Problem, Precedence, Positions, feasible}
 use Rattle.model.specs.Search.{Checkpoint, opening}
 use Rattle.model.specs.Calls.{Answer, budget-spent, no-packing, packing}
-use Rattle.model.specs.Run.{look, search, step-count}
+use Rattle.model.specs.Run.{search, step-count}
+use Rattle.model.specs.Computing.{search-computing}
 
 -- measures or starts on x, y, t
 abbrev pub Triple : Type 0
 Triple = List ℕ
 
 -- a call with its budget, and what it has to answer after how many steps; a packing is told by the starts of each item
-pub record Call : Type 0 where
+pub record TrialCall : Type 0 where
   pub budget : ℕ
   pub answer : Answer (List Triple)
   pub steps : ℕ
 
 -- a container, items and precedences, and the calls made one after the other
-pub record Case : Type 0 where
+pub record Trial : Type 0 where
   pub container : Triple
   pub items : List Triple
   pub precedences : List Precedence
-  pub calls : List Call
+  pub calls : List TrialCall
 
-abbrev pub problem : Case → Problem
+abbrev pub problem : Trial → Problem
 problem c = record {
   items = length (c .items);
   size = λ a u. getD (getD (c .items) u []) a 0;
@@ -53,34 +46,34 @@ answers p (packing q) (packing s) =
     (eqb (length s) (p .items) && all-below 3 (λ a. all-below (p .items) (λ u. eqb (q a u) (getD (getD s u []) a 0)))) && feasible p q
 
 -- each call, on the checkpoint that the last one left, answers as it has to
-abbrev pub right-calls : Problem → Checkpoint → List Call → Bool
+abbrev pub right-calls : Problem → Checkpoint → List TrialCall → Bool
 right-calls p κ [] = true
 right-calls p κ (c ∷ cs) =
     let r = search p (c .budget) κ in
     let rest = right-calls p (r .checkpoint) cs in
     (answers p (r .answer) (c .answer) && eqb (r .steps) (c .steps)) && rest
 
-abbrev pub all-steps : List Call → ℕ
+abbrev pub all-steps : List TrialCall → ℕ
 all-steps [] = 0
 all-steps (c ∷ cs) = c .steps + all-steps cs
 
 -- the calls answer as they have to, and their steps add up to the step count
-abbrev pub right-problem : Problem → List Call → Bool
+abbrev pub right-problem : Problem → List TrialCall → Bool
 right-problem p cs = right-calls p opening cs && eqb (step-count p) (all-steps cs)
 
 -- the same of a case. This opens all that the search computes by
-unfoldable pub right : Case → Bool
-unfolding ends-before inside-test apart-on-some-axis apart-test ordered-test feasible pairs pair-number domain overlap-bit before-bit after-bit index index-of may-overlap may-before remove-overlap remove-before fixed-before fixed-overlap fix-before fix-overlap joined ending starting greatest-ending greatest-starting rule1 rule2 rule3 rule4 rule5 asks-overlap asks-before slots kept pass passes propagate opening-domains empty inconsistent separated packed undecided choice-pair choice-axis choice branched path-domains starts plan look step-count
-right c = right-problem (problem c) (c .calls)
+unfoldable pub trial-right : Trial → Bool
+unfolding search-computing
+trial-right c = right-problem (problem c) (c .calls)
 
 abbrev pub xyt : ℕ → ℕ → ℕ → Triple
 xyt x y t = x ∷ y ∷ t ∷ []
 
-abbrev pub with-budget : ℕ → Answer (List Triple) → ℕ → Call
+abbrev pub with-budget : ℕ → Answer (List Triple) → ℕ → TrialCall
 with-budget b a m = record { budget = b; answer = a; steps = m }
 
-abbrev pub case : Triple → List Triple → List Precedence → List Call → Case
-case container items precedences calls = record { container = container; items = items; precedences = precedences; calls = calls }
+abbrev pub trial : Triple → List Triple → List Precedence → List TrialCall → Trial
+trial container items precedences calls = record { container = container; items = items; precedences = precedences; calls = calls }
 
 abbrev pub unit : Triple
 unit = xyt 1 1 1

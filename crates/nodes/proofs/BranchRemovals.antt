@@ -5,14 +5,14 @@ use Rattle.model.specs.Domains.{Domains, may-overlap, may-before, fix-overlap}
 use Rattle.model.specs.Branching.{undecided, Branch, first, second, branch-at}
 use Rattle.model.specs.Order.{Proper, WellFormed, _⊑_}
 use Rattle.model.specs.Relations.{gone, without, Filled}
-use Rattle.model.specs.Claims.{nothing, says}
+use Rattle.model.specs.Facts.{nothing, says}
 use Rattle.model.proofs.Below.{clash, or-case, or-left, or-right}
 use Rattle.model.proofs.Claims.{gone-mono, says-mono}
 use Rattle.model.proofs.Order.{below-trans, below-eq}
 use Rattle.model.proofs.Slots.{proper-up}
 use Rattle.model.proofs.Without.{without-less, without-above, without-well-formed, without-gone}
 use Rattle.domains.specs.Bits.{bit-at}
-use Rattle.domains.specs.Rows.{row}
+use Rattle.domains.specs.Rows.{row-at}
 use Rattle.domains.specs.Queue.{Good, Long}
 use Rattle.domains.specs.Narrowed.{Grown, Outcome, All, Asked, Askable, Left}
 use Rattle.nodes.specs.Choice.{branch-by, Branchable, Branched}
@@ -135,20 +135,20 @@ module _ {k : Domains} {rows q : List ℕ} {c : Place} (g : Branchable k rows q 
   pair = proper-up (g .place)
 
   -- the row tells whether overlap is left
-  overlap-row : bit-at (row rows (c .axis) (c .u)) (c .v) ≡ gone k 0 (c .axis) (c .u) (c .v)
+  overlap-row : bit-at (row-at rows (c .axis) (c .u)) (c .v) ≡ gone k 0 (c .axis) (c .u) (c .v)
   overlap-row = row-first (g .laid .mirror) (pair .axis) (pair .item-u) (pair .item-v)
 
   pub branch-removes : {items : ℕ} {P : ℕ → Type 0} → SetOf items (c .v) P → Good k rows (set q 0 1) × Askable (c .axis) (c .u) items
   branch-removes h = (good-start (g .laid) (length-set q 0 1 ∙ g .long) (getD-set-same q 0 1 0 (omega (arith, g .long))), askable pair h)
 
-  pub overlap-left : bit-at (row rows (c .axis) (c .u)) (c .v) ≡ false → (x : ℕ) → x ≡ 0 → gone k x (c .axis) (c .u) (c .v) ≡ false
+  pub overlap-left : bit-at (row-at rows (c .axis) (c .u)) (c .v) ≡ false → (x : ℕ) → x ≡ 0 → gone k x (c .axis) (c .u) (c .v) ≡ false
   overlap-left e x z = rw z (sym overlap-row ∙ e)
 
   pub take-one : (x : ℕ) → Taken k (c .axis) (c .u) (c .v) (λ y. y ≡ x) (without k x (c .axis) (c .u) (c .v))
   take-one x = taken-one pair (g .laid .well-formed) x
 
   -- the row of overlap tells which branch it is
-  pub branched : (o s : Bool) → bit-at (row rows (c .axis) (c .u)) (c .v) ≡ not o → {second : Bool} → second ≡ s → {P : ℕ → Type 0} {items : ℕ}
+  pub branched : (o s : Bool) → bit-at (row-at rows (c .axis) (c .u)) (c .v) ≡ not o → {second : Bool} → second ≡ s → {P : ℕ → Type 0} {items : ℕ}
       → Taken k (c .axis) (c .u) (c .v) P (branch-at o (branch-by s) k (c .axis) (c .u) (c .v)) → SetOf items (c .v) P
       → {j : Domains} {rows′ r : List ℕ} (b : Bool) → Outcome (Asked (c .axis) (c .u) items) (All (c .axis) (c .u) items) k (set q 0 1) j rows′ r b
       → Branched k q c second j rows′ r

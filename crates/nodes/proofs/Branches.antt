@@ -12,7 +12,7 @@ use Rattle.model.proofs.Path.{path-fork, path-branch}
 use Rattle.model.proofs.Search.{look-fork}
 use Rattle.model.proofs.Outside.{branched-untouched}
 use Rattle.model.proofs.Toward.{under-mono, closed-wider}
-use Rattle.domains.specs.Queue.{max-queue, end}
+use Rattle.domains.specs.Queue.{max-queue, queue-end}
 use Rattle.chains.specs.Totals.{table}
 use Rattle.nodes.specs.Choice.{branch-by, Branchable, Branched}
 use Rattle.nodes.specs.Nodes.{slot-of, At, Seen}
@@ -42,7 +42,7 @@ module _ (p : Problem) (sound : Sound p) (path : List Branch) (forking : Forking
 
     pub branch-at-path : At p j rows′ r t (branch-by b ∷ path)
     branch-at-path =
-        let start : end (set q 0 1) ≡ 1 = getD-set-same q 0 1 0 (omega arith) in
+        let start : queue-end (set q 0 1) ≡ 1 = getD-set-same q 0 1 0 (omega arith) in
         let comes = ap (propagate p) left-is ∙ sym (path-branch p (branch-by b) path) in
         record {
           ready = record {

@@ -8,9 +8,9 @@ use Rattle.parts.specs.Sizes.{no-item}
 use Rattle.parts.specs.declared.Item.{Item}
 use Rattle.parts.specs.declared.Size.{Size}
 use Rattle.instance.specs.declared.Instance.{Instance}
-use Rattle.instance.specs.Meaning.{measure, problem-of}
+use Rattle.instance.specs.Meaning.{measure-on, problem-of}
 use Rattle.nodes.proofs.Loops.{blank-at, written, by-axis}
-use Rattle.chains.specs.Totals.{table, size-at, capacity-at}
+use Rattle.chains.specs.Totals.{table, measure-at, capacity-at}
 use Rattle.opening.specs.Layout.{put, put-item, LaidOut}
 
 -- A measure is put at its three places: what holds of it there, and of the other entries, holds of all
@@ -24,7 +24,7 @@ put-at t i m long h P here other =
 
 -- The measures of an item, likewise
 module _ (t : List ℕ) (u : ℕ) (s : Size) (long : length t ≡ 93) (h : u < 10) where
-  item-at : (P : ℕ → ℕ → Type 0) → ((a j : ℕ) → a < 3 → j < 90 → j % 30 ≡ a * 10 + u → P j (measure a s))
+  item-at : (P : ℕ → ℕ → Type 0) → ((a j : ℕ) → a < 3 → j < 90 → j % 30 ≡ a * 10 + u → P j (measure-on a s))
       → ((j : ℕ) → (j < 90 → j % 10 ≢ u) → P j (getD t j 0)) → (j : ℕ) → P j (getD (put-item t u s) j 0)
   item-at P here other =
       put-at (put (put t u (s .width)) (10 + u) (s .depth)) (20 + u) (s .shifts) (simp length-set long) (omega arith) P
@@ -36,9 +36,9 @@ module _ (t : List ℕ) (u : ℕ) (s : Size) (long : length t ≡ 93) (h : u < 1
 
 -- the first n items of a list, in the container of t₀
 abbrev pub first-items : List Item → List ℕ → ℕ → Problem
-first-items items t₀ n = record { items = n; size = λ a u. measure a (getD items u no-item .size); capacity = capacity-at t₀; precedences = [] }
+first-items items t₀ n = record { items = n; size = λ a u. measure-on a (getD items u no-item .size); capacity = capacity-at t₀; precedences = [] }
 
-module _ (items : List Item) (t₀ t : List ℕ) (u : ℕ) (h : u < 10) (small : (a : ℕ) → a < 3 → measure a (getD items u no-item .size) < 65536)
+module _ (items : List Item) (t₀ t : List ℕ) (u : ℕ) (h : u < 10) (small : (a : ℕ) → a < 3 → measure-on a (getD items u no-item .size) < 65536)
     (out : LaidOut (first-items items t₀ u) t) where
   abbrev s : Size
   s = getD items u no-item .size
@@ -47,7 +47,7 @@ module _ (items : List Item) (t₀ t : List ℕ) (u : ℕ) (h : u < 10) (small :
   q = first-items items t₀ (u + 1)
 
   -- in each of the three tables
-  next-size : (o a w : ℕ) → (o < 90) × (o % 30 ≡ 0) × (a < 3) × (w < 10) → getD t (o + a * 10 + w) 0 ≡ size-at t a w
+  next-size : (o a w : ℕ) → (o < 90) × (o % 30 ≡ 0) × (a < 3) × (w < 10) → getD t (o + a * 10 + w) 0 ≡ measure-at t a w
       → getD (put-item t u s) (o + a * 10 + w) 0 ≡ wide q .size a w
   next-size o a w (ho, whole, ha, hw) was =
       item-at t u s (out .long) h (λ j v. j ≡ o + a * 10 + w → v ≡ wide q .size a w)
@@ -87,7 +87,7 @@ module _ (c : Size) where
   held-zero : (j : ℕ) → j < 90 → getD (held c) j 0 ≡ 0
   held-zero = held-at (λ j v. j < 90 → v ≡ 0) (λ h. absurd (omega arith)) (λ h. absurd (omega arith)) (λ h. absurd (omega arith)) (λ j h. refl)
 
-  pub laid-none : (items : List Item) → ((a : ℕ) → a < 3 → measure a c < 65536) → LaidOut (first-items items (held c) 0) (held c)
+  pub laid-none : (items : List Item) → ((a : ℕ) → a < 3 → measure-on a c < 65536) → LaidOut (first-items items (held c) 0) (held c)
   laid-none items small = record {
     long = refl;
     small = held-at (λ j v. v < 65536) (small 0 (omega arith)) (small 1 (omega arith)) (small 2 (omega arith)) (λ j. omega arith);
@@ -105,7 +105,7 @@ unfolding problem-of wide
 laid-all i u e out = record {
   long = out .long;
   small = out .small;
-  capacity = λ a ha. out .capacity a ha ∙ by-axis (λ a. capacity-at (held (i .container)) a ≡ measure a (i .container)) refl refl refl a ha;
+  capacity = λ a ha. out .capacity a ha ∙ by-axis (λ a. capacity-at (held (i .container)) a ≡ measure-on a (i .container)) refl refl refl a ha;
   size = λ a w ha hw. rw e at (out .size a w ha hw);
   alone = out .alone;
 }

@@ -3,7 +3,7 @@ use Rattle.prelude.specs.Names.{Bool, true, false, List, [], _∷_, map, List·
 use Rattle.prelude.specs.Names.{_+_, _^_, _≤_, _<_, arith, bitOr, getD, length, take, drop, getD-take, length-take-le}
 use Rattle.parts.specs.declared.Precedence.{Precedence}
 use Rattle.parts.specs.declared.Previous.the-variants.{Nothing}
-use Rattle.parts.specs.Precedences.{all-stand}
+use Rattle.parts.specs.Precedences.{all-allowed}
 use Rattle.parts.specs.Sizes.{no-precedence}
 use Rattle.formats.proofs.Entries.{part-next, part-done}
 use Rattle.instance.specs.Meaning.{precedence-of}
@@ -13,7 +13,7 @@ use Rattle.model.specs.Order.{Proper, _⊑_}
 use Rattle.model.specs.Relations.{without}
 use Rattle.model.proofs.Order.{below-refl, below-trans}
 use Rattle.model.proofs.Removal.{fix-before-less}
-use Rattle.domains.specs.Queue.{end, Good, Long}
+use Rattle.domains.specs.Queue.{queue-end, Good, Long}
 use Rattle.domains.specs.Narrowed.{Grown, Narrowed, Refuted, Outcome, All, Asked, Askable}
 use Rattle.opening.specs.Openings.{FixedIf}
 use Rattle.domains.proofs.Narrowed.{grown-none, grown-then}
@@ -48,7 +48,7 @@ module _ {m : ℕ} {os : List Precedence} {k : Domains} {q : List ℕ} {i : ℕ}
   abbrev o : Precedence
   o = getD os i no-precedence
 
-  module _ (stand : all-stand 10 Nothing (take m os) ≡ true) (more : i < m) where
+  module _ (stand : all-allowed 10 Nothing (take m os) ≡ true) (more : i < m) where
     pub next-proper : Proper 10 2 (o .predecessor) (o .successor)
     next-proper =
         let inner = getD-in no-precedence (take m os) i (rw (length-take-le m os (f .room)) more) in
@@ -74,7 +74,7 @@ module _ {m : ℕ} {os : List Precedence} {k : Domains} {q : List ℕ} {i : ℕ}
       fixed = exact next-proper (taken-more next-proper (taken-one next-proper (f .grown .good .laid .well-formed) 2) 0) of-both r
 
       module _ {l : Domains} {rows′ z : List ℕ} where
-        pub fixing-next : 1 ≤ end q → Narrowed (Asked 2 (o .predecessor) (bitOr x y)) (All 2 (o .predecessor) (bitOr x y)) j r l rows′ z
+        pub fixing-next : 1 ≤ queue-end q → Narrowed (Asked 2 (o .predecessor) (bitOr x y)) (All 2 (o .predecessor) (bitOr x y)) j r l rows′ z
             → Fixing m os k q (i + 1) l rows′ z
         fixing-next least n =
             let (is, grown) = fixed l rows′ z true n in

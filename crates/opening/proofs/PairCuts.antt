@@ -12,7 +12,7 @@ use Rattle.model.proofs.Slots.{index-of-same, index-of-small}
 use Rattle.model.proofs.Without.{gone-same}
 use Rattle.model.proofs.Claims.{gone-mono}
 use Rattle.domains.specs.Bits.{bit-at, Gives}
-use Rattle.domains.specs.Queue.{end, Good}
+use Rattle.domains.specs.Queue.{queue-end, Good}
 use Rattle.domains.specs.Narrowed.{Narrowed, Refuted, All, Asked, Askable}
 use Rattle.chains.specs.Totals.{table, capacity-at, Tabled}
 use Rattle.chains.specs.Cuts.{above-both}
@@ -93,7 +93,7 @@ module _ (t : List ℕ) (a u m : ℕ) (ha : a < 3) (hu : u < 10) (g : Gives 10 m
   pairs-all p = record { all = λ x v hx h e. let (is, s, too) = in-set x v h e in rw is (p .all a u v s too); filled = p .filled }
 
   module _ {k : Domains} {q : List ℕ} {j : Domains} {rows r : List ℕ} (i : ℕ) (is : i ≡ a * 10 + u)
-      (n : Narrowed (PairsAsked t) (CutTo t i) k q j rows r) (least : 1 ≤ end q) where
+      (n : Narrowed (PairsAsked t) (CutTo t i) k q j rows r) (least : 1 ≤ queue-end q) where
     pub pairs-refuted : Refuted (Asked a u (shifted m)) j → Refuted (PairsAsked t) k
     pairs-refuted none = refuted-later n (λ f p l. none f (pairs-all p) l)
 

@@ -8,7 +8,7 @@ use Rattle.model.specs.Propagate.{propagate}
 use Rattle.model.specs.Branching.{opening-domains, inconsistent}
 use Rattle.model.specs.Order.{Proper, Between}
 use Rattle.model.specs.Relations.{gone, Filled}
-use Rattle.model.specs.Claims.{Saying, overlaps, nothing, removed, forced, Claim, says, Holds}
+use Rattle.model.specs.Facts.{Saying, overlaps, nothing, removed, forced, Fact, says, Holds}
 use Rattle.model.specs.Clauses.{of, c3, d2, d1-far, d1-near, g1, Obeyed}
 use Rattle.model.specs.Toward.{Direction, Goal}
 use Rattle.model.specs.Admits.{Sound}
@@ -42,7 +42,7 @@ use Rattle.nodes.proofs.BranchRemovals.{filled-more}
 use Rattle.opening.proofs.PairCuts.{too-inside}
 
 -- Nothing is removed yet
-full-not : (c : Claim) → Proper 10 (c .axis) (c .u) (c .v) → Holds full-domains c → ⊥
+full-not : (c : Fact) → Proper 10 (c .axis) (c .u) (c .v) → Holds full-domains c → ⊥
 unfolding says
 full-not c s h = by (c .saying) h
   where

@@ -5,25 +5,25 @@ use mathlib.Core.List.{Memᴰ·of-map}
 use Rattle.model.proofs.Below.{and-both, and-intro}
 use Rattle.model.specs.Admits.{Sound}
 use Rattle.model.specs.Order.{Proper}
-use Rattle.parts.specs.Precedences.{names-items, rises, all-stand}
+use Rattle.parts.specs.Precedences.{names-items, rises, all-allowed}
 use Rattle.parts.specs.Sizes.{positive, all-have-size, no-item}
 use Rattle.parts.specs.declared.Item.{Item}
 use Rattle.parts.specs.declared.Precedence.{Precedence}
 use Rattle.parts.specs.declared.Previous.{Previous}
 use Rattle.parts.specs.declared.Previous.the-variants.{Nothing, Was}
 use Rattle.parts.specs.declared.Size.{Size}
-use Rattle.instance.specs.Meaning.{measure, precedence-of, problem-of}
+use Rattle.instance.specs.Meaning.{measure-on, precedence-of, problem-of}
 use Rattle.instance.specs.Valid.{valid, items-of, precedences-of}
 use Rattle.instance.specs.declared.Instance.{Instance}
 use Rattle.nodes.proofs.Loops.{by-axis}
 use Rattle.model.specs.Problem as M
 
-positive-so : (s : Size) → positive s ≡ true → (a : ℕ) → a < 3 → 1 ≤ measure a s
+positive-so : (s : Size) → positive s ≡ true → (a : ℕ) → a < 3 → 1 ≤ measure-on a s
 unfolding positive
 positive-so s h =
     let q = and-both _ _ h in
     let r = and-both _ _ (q .1) in
-    by-axis (λ a. 1 ≤ measure a s) (leb-true _ _ (q .0)) (leb-true _ _ (r .0)) (leb-true _ _ (r .1))
+    by-axis (λ a. 1 ≤ measure-on a s) (leb-true _ _ (q .0)) (leb-true _ _ (r .0)) (leb-true _ _ (r .1))
 
 sizes-so : (l : List Item) → all-have-size l ≡ true → (u : ℕ) → u < length l → positive (getD l u no-item .size) ≡ true
 unfolding all-have-size
@@ -39,18 +39,18 @@ names-so n o h =
     let r = and-both _ _ (q .1) in
     record { axis = omega arith; item-u = ltb-true _ _ (q .0); item-v = ltb-true _ _ (r .0); distinct = eqb-false _ _ (not-true _ (r .1)) }
 
-pub stand-so : (n : ℕ) (last : Previous) {l : List Precedence} → all-stand n last l ≡ true → {o : Precedence} → List·Memᴰ o l
+pub stand-so : (n : ℕ) (last : Previous) {l : List Precedence} → all-allowed n last l ≡ true → {o : Precedence} → List·Memᴰ o l
     → Proper n M.time (o .predecessor) (o .successor)
-unfolding all-stand
+unfolding all-allowed
 stand-so n last h (List·Memᴰ·head {x = x} e) = rw e (names-so n x (and-both _ _ (and-both _ _ h .0) .0))
-stand-so n last h (List·Memᴰ·tail {x = x} {xs = l} m) = stand-so n (Was x) (and-both (names-items n x && rises last x) (all-stand n (Was x) l) h .1) m
+stand-so n last h (List·Memᴰ·tail {x = x} {xs = l} m) = stand-so n (Was x) (and-both (names-items n x && rises last x) (all-allowed n (Was x) l) h .1) m
 
 -- precedences of n items are precedences of ten
-pub stands-wide : (n : ℕ) → n ≤ 10 → (last : Previous) (l : List Precedence) → all-stand n last l ≡ true → all-stand 10 last l ≡ true
-unfolding all-stand names-items
+pub stands-wide : (n : ℕ) → n ≤ 10 → (last : Previous) (l : List Precedence) → all-allowed n last l ≡ true → all-allowed 10 last l ≡ true
+unfolding all-allowed names-items
 stands-wide n h last [] e = refl
 stands-wide n h last (o ∷ os) e =
-    let q = and-both (names-items n o && rises last o) (all-stand n (Was o) os) e in
+    let q = and-both (names-items n o && rises last o) (all-allowed n (Was o) os) e in
     let r = and-both (names-items n o) (rises last o) (q .0) in
     let p = names-so n o (r .0) in
     let below = lt-ltb (o .successor) 10 (omega arith) in
@@ -60,13 +60,13 @@ stands-wide n h last (o ∷ os) e =
 -- validity taken apart
 pub valid-parts : (i : Instance) → valid i ≡ true
     → (i .«item_count» ≤ 10) × (i .«precedence_count» ≤ 90) × (all-have-size (items-of i) ≡ true)
-    × (all-stand (i .«item_count») Nothing (precedences-of i) ≡ true)
+    × (all-allowed (i .«item_count») Nothing (precedences-of i) ≡ true)
 unfolding valid
 valid-parts i h =
     let q = and-both _ _ h in
     let r = and-both _ _ (q .1) in
     let sizes = all-have-size (items-of i) in
-    let stand = all-stand (i .«item_count») Nothing (precedences-of i) in
+    let stand = all-allowed (i .«item_count») Nothing (precedences-of i) in
     let s = and-both sizes stand (and-both (positive (i .container)) (sizes && stand) (r .1) .1) in
     (leb-true _ _ (q .0), leb-true _ _ (r .0), s .0, s .1)
 

@@ -5,7 +5,7 @@ ghost use mathlib.Core.List.{map};
 ghost use Prim.Native.Nat.{_≤_};
 ghost use lib.ListN.{take};
 ghost use Rattle.sheet.specs.Sheet.{max-precedences};
-ghost use Rattle.parts.specs.Precedences.{all-stand};
+ghost use Rattle.parts.specs.Precedences.{all-allowed};
 ghost use Rattle.parts.specs.declared.Previous.{Previous};
 ghost use Rattle.instance.specs.Valid.{valid};
 ghost use Rattle.instance.specs.Meaning.{problem-of, precedence-of};
@@ -43,7 +43,7 @@ fn fix_precedences(
     precedences: [Precedence; Instance::MAX_PRECEDENCES],
     m: usize,
 ) -> bool
-    requires { ⌜ Good (now k) (now rows) (now queue) × (m ≤ max-precedences) × (all-stand 10 Previous.Nothing (take m precedences) ≡ true) ⌝ }
+    requires { ⌜ Good (now k) (now rows) (now queue) × (m ≤ max-precedences) × (all-allowed 10 Previous.Nothing (take m precedences) ≡ true) ⌝ }
     ensures { λ r. ⌜ FixedIf (map precedence-of (take m precedences)) (now (k .entry)) (now (queue .entry)) (now (k .exit)) (now (rows .exit)) (now (queue .exit)) r ⌝ }
 {
     let mut i: usize = 0;

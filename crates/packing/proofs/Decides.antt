@@ -6,7 +6,7 @@ use Rattle.instance.specs.declared.Packing.{Packing}
 use Rattle.instance.specs.Valid.{valid}
 use Rattle.instance.specs.Meaning.{problem-of, positions-of}
 use Rattle.packing.specs.declared.CheckAnswer.{CheckAnswer}
-use Rattle.packing.specs.Check.{answer-of, check-answer, check-number, Decides}
+use Rattle.packing.specs.Check.{check-answer-if, check-answer, check-number, Decides}
 use Rattle.model.specs.Problem as M
 
 -- a test that was made
@@ -18,17 +18,17 @@ failed {t} e h = sym e ∙ not-true t h
 
 -- the numbers by the two tests: v, that the value is an instance, and f, that the packing is feasible
 module _ (F : Type 0) where
-  yes-by : (v f : Bool) → (f ≡ true) ↔ F → (check-number (answer-of v f) ≡ 1) ↔ ((v ≡ true) × F)
+  yes-by : (v f : Bool) → (f ≡ true) ↔ F → (check-number (check-answer-if v f) ≡ 1) ↔ ((v ≡ true) × F)
   yes-by false f so = ((λ e. absurd (omega arith)), (λ (v, g). absurd (false≢true v)))
   yes-by true true so = ((λ e. (refl, so .0 refl)), (λ _. refl))
   yes-by true false so = ((λ e. absurd (omega arith)), (λ (v, g). absurd (false≢true (so .1 g))))
 
-  no-by : (v f : Bool) → (f ≡ true) ↔ F → (check-number (answer-of v f) ≡ 0) ↔ ((v ≡ true) × (F → ⊥))
+  no-by : (v f : Bool) → (f ≡ true) ↔ F → (check-number (check-answer-if v f) ≡ 0) ↔ ((v ≡ true) × (F → ⊥))
   no-by false f so = ((λ e. absurd (omega arith)), (λ (v, g). absurd (false≢true v)))
   no-by true true so = ((λ e. absurd (omega arith)), (λ (v, g). absurd (g (so .0 refl))))
   no-by true false so = ((λ e. (refl, λ g. false≢true (so .1 g))), (λ _. refl))
 
-refused-by : (v f : Bool) (n : ℕ) → (check-number (answer-of v f) ≡ 100 + n) ↔ ((v ≡ false) × (n ≡ 9))
+refused-by : (v f : Bool) (n : ℕ) → (check-number (check-answer-if v f) ≡ 100 + n) ↔ ((v ≡ false) × (n ≡ 9))
 refused-by false f n = ((λ e. (refl, omega arith)), (λ (v, k). omega arith))
 refused-by true true n = ((λ e. absurd (omega arith)), (λ (v, k). absurd (false≢true (sym v))))
 refused-by true false n = ((λ e. absurd (omega arith)), (λ (v, k). absurd (false≢true (sym v))))

@@ -12,8 +12,8 @@ use Rattle.instance.specs.declared.Instance.{Instance}
 use Rattle.instance.specs.declared.Packing.{Packing}
 use Rattle.instance.specs.declared.Position.{Position}
 use Rattle.instance.specs.Valid.{precedences-of}
-use Rattle.instance.specs.Meaning.{precedence-of, measure, start, problem-of, positions-of}
-use Rattle.packing.specs.Parts.{within, inside-on, apart-from-lower, placed-at, end-of, kept, all-kept}
+use Rattle.instance.specs.Meaning.{precedence-of, measure-on, start, problem-of, positions-of}
+use Rattle.packing.specs.Parts.{within, inside-on, apart-from-lower, placed-at, end-of, precedence-kept, all-kept}
 use Rattle.packing.specs.declared.axes.Placed.{Placed}
 use Rattle.model.specs.Problem as M
 
@@ -95,22 +95,22 @@ module _ (items : List Item) (positions : List Position) where
   within-limit-is a limit u p e = rw (e, p)
 
   pub kept-is : (o : Precedence) {t : Bool} {i j : Placed} → i ≡ placed-at items positions (o .predecessor) → j ≡ placed-at items positions (o .successor)
-      → t ≡ leb (end-of time i) (start time (j .position)) → t ≡ kept items positions o
-  unfolding kept
+      → t ≡ leb (end-of time i) (start time (j .position)) → t ≡ precedence-kept items positions o
+  unfolding precedence-kept
   kept-is o p r e = e ∙ rw (p, r)
 
   kept-last : (os : List Precedence) (o : Precedence)
-      → all-kept items positions (os ++ o ∷ []) ≡ (kept items positions o && all-kept items positions os)
+      → all-kept items positions (os ++ o ∷ []) ≡ (precedence-kept items positions o && all-kept items positions os)
   unfolding all-kept
   kept-last [] o = refl
-  kept-last (x ∷ os) o = rw (kept-last os o, ← and-assoc, and-comm (kept items positions x) (kept items positions o), and-assoc)
+  kept-last (x ∷ os) o = rw (kept-last os o, ← and-assoc, and-comm (precedence-kept items positions x) (precedence-kept items positions o), and-assoc)
 
   -- the first m precedences, one after the other
   pub kept-loop : (os : List Precedence) (m : ℕ) → m ≤ length os
-      → all-kept items positions (take m os) ≡ all-below m (λ k. kept items positions (getD os k no-precedence))
+      → all-kept items positions (take m os) ≡ all-below m (λ k. precedence-kept items positions (getD os k no-precedence))
   unfolding all-kept
   kept-loop os zero h = refl
-  kept-loop os (suc m) h = rw (take-suc os m no-precedence, kept-last) (sym (both-pass (kept items positions _) (sym (kept-loop os m (omega arith)))))
+  kept-loop os (suc m) h = rw (take-suc os m no-precedence, kept-last) (sym (both-pass (precedence-kept items positions _) (sym (kept-loop os m (omega arith)))))
 
 -- two items are parted on an axis
 unfoldable pub parted-on : Placed → Placed → ℕ → Bool
@@ -131,7 +131,7 @@ module _ (x y : Placed) (a : ℕ) {t : Bool} (e : t ≡ leb (end-of a x) (start 
     parted-more f l h k = record { within = omega arith; fail = rw (add-one, some-below, ← e, ← d, h, k) (f .fail) }
 
 module _ (i : Instance) (q : Packing) where
-  pub inside-by : (a : ℕ) {limit : ℕ} → limit ≡ measure a (i .container)
+  pub inside-by : (a : ℕ) {limit : ℕ} → limit ≡ measure-on a (i .container)
       → inside-on (problem-of i) (positions-of q) a ≡ all-below (i .«item_count») (within-limit (i .items) (q .positions) a limit)
   unfolding inside-on within within-limit end-of problem-of positions-of
   inside-by a e = rw e
@@ -152,11 +152,11 @@ module _ (i : Instance) (q : Packing) where
     not-parted {a} d l = let n : a ≡ 3 = omega arith in rw (parted-by, ← (rw n at (d .fail)))
 
   pub ordered-by : ordered-test (problem-of i) (positions-of q) ≡ all-kept (i .items) (q .positions) (precedences-of i)
-  unfolding ordered-test ends-before all-kept kept end-of problem-of positions-of
+  unfolding ordered-test ends-before all-kept precedence-kept end-of problem-of positions-of
   ordered-by = go (precedences-of i)
     where
       go : (os : List Precedence)
           → all-in (λ (o : M.Precedence). ends-before (problem-of i) (positions-of q) time (o .predecessor) (o .successor)) (map precedence-of os)
           ≡ all-kept (i .items) (q .positions) os
       go [] = refl
-      go (o ∷ os) = both-pass (kept (i .items) (q .positions) o) (go os)
+      go (o ∷ os) = both-pass (precedence-kept (i .items) (q .positions) o) (go os)

@@ -11,13 +11,13 @@ use Rattle.packing.specs.declared.CheckAnswer.the-variants.{Feasible, No
 use Rattle.model.specs.Problem as M
 
 -- "9 is tested before 5, 8 and 10 by whoever takes a sheet value"; then yes or no
-abbrev pub answer-of : Bool → Bool → CheckAnswer
-answer-of false feasible = Refused InvalidInstance
-answer-of true true = Feasible
-answer-of true false = NotFeasible
+abbrev pub check-answer-if : Bool → Bool → CheckAnswer
+check-answer-if false feasible = Refused InvalidInstance
+check-answer-if true true = Feasible
+check-answer-if true false = NotFeasible
 
 unfoldable pub check-answer : Instance → Packing → CheckAnswer
-check-answer i q = answer-of (valid i) (M.feasible (problem-of i) (positions-of q))
+check-answer i q = check-answer-if (valid i) (M.feasible (problem-of i) (positions-of q))
 
 -- "Check returns 0 no, 1 yes, 100 plus the number for a refusal"
 abbrev pub check-number : CheckAnswer → ℕ

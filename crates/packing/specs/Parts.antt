@@ -7,7 +7,7 @@ use Rattle.parts.specs.declared.Precedence.{Precedence}
 use Rattle.parts.specs.Sizes.{no-item, no-precedence}
 use Rattle.instance.specs.declared.Position.{Position}
 use Rattle.instance.specs.Values.{origin}
-use Rattle.instance.specs.Meaning.{measure, start}
+use Rattle.instance.specs.Meaning.{measure-on, start}
 use Rattle.packing.specs.declared.axes.Placed.{Placed}
 
 -- one item on one axis: "start plus measure is at most the hall's measure"
@@ -33,12 +33,12 @@ placed-at items positions u = record { size = getD items u no-item .size; positi
 
 -- start plus measure
 unfoldable pub end-of : ℕ → Placed → ℕ
-end-of a i = start a (i .position) + measure a (i .size)
+end-of a i = start a (i .position) + measure-on a (i .size)
 
 -- "u's end in t is at most v's start", over the arrays of items and positions
-unfoldable pub kept : List Item → List Position → Precedence → Bool
-kept items positions o = leb (end-of time (placed-at items positions (o .predecessor))) (start time (placed-at items positions (o .successor) .position))
+unfoldable pub precedence-kept : List Item → List Position → Precedence → Bool
+precedence-kept items positions o = leb (end-of time (placed-at items positions (o .predecessor))) (start time (placed-at items positions (o .successor) .position))
 
 unfoldable pub all-kept : List Item → List Position → List Precedence → Bool
 all-kept items positions [] = true
-all-kept items positions (o ∷ os) = kept items positions o && all-kept items positions os
+all-kept items positions (o ∷ os) = precedence-kept items positions o && all-kept items positions os

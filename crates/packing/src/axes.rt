@@ -3,7 +3,7 @@ ghost use Rattle.sheet.specs.Sheet.{max-items};
 ghost use mathlib.Core.Path.{_≡_};
 ghost use Prim.Native.Nat.{_<_};
 ghost use lib.Dec.{leb};
-ghost use Rattle.instance.specs.Meaning.{measure, start};
+ghost use Rattle.instance.specs.Meaning.{measure-on, start};
 ghost use Rattle.packing.specs.Parts.{placed-at, end-of};
 use instance::Instance;
 use instance::Position;
@@ -11,7 +11,7 @@ use parts::Item;
 use parts::Size;
 
 pub fn measure_on(size: Size, axis: u8) -> u16
-    ensures { λ r. ⌜ r ≡ measure axis size ⌝ }
+    ensures { λ r. ⌜ r ≡ measure-on axis size ⌝ }
 {
     match axis {
         0 => size.width,

@@ -1,7 +1,7 @@
 -- The parts of a sheet have their laws; what may be written of each, and how many bytes it has at most.
 use Rattle.prelude.specs.Names.{_≡_, refl, sym, _∙_, true, false, not, cond, _&&_, and-true, Bool·not-not, [], _∷_, ℕ, _/_, _%_, _≤_, arith, decLe}
 use Rattle.prelude.specs.Names.{ℕ-discrete, eqb, leb, length, length-append, eqb-true, eq-eqb, ne-eqb, leb-false, le-leb, lt-leb, not-true}
-use Rattle.formats.specs.Formats.{byte, word, pair, converted, tested, passes, keyed}
+use Rattle.formats.specs.Formats.{byte, word, pair, converted, tested, passes-all, keyed}
 use Rattle.formats.specs.Fields.{optional-bytes, optional-valid, fields-bytes, fields-valid, fields, map-byte, with-map}
 use Rattle.formats.proofs.Laws.{Lawful, both-true, byte-lawful, word-lawful, pair-lawful, converted-lawful, tested-lawful}
 use Rattle.formats.proofs.Maps.{OptionalLaws, FieldsLaws, with-map-lawful, with-map-valid}
@@ -13,7 +13,7 @@ use Rattle.parts.specs.Precedences.{names-items, rises}
 use Rattle.parts.specs.Parts.{number, measure, measures, item-fields, item, precedence, precedence-tests}
 
 pub number-laws : (default : ℕ) → OptionalLaws (number default)
-unfolding number tested passes word
+unfolding number tested passes-all word
 number-laws default = record {
   lawful = tested-lawful word-lawful _;
   out = eq-eqb default default refl;
@@ -35,7 +35,7 @@ precedence-lawful = converted-lawful (pair-lawful byte-lawful byte-lawful) _ _ (
 
 -- a number may be written from its default on
 pub number-valid : (default v : ℕ) → optional-valid (number default) v ≡ leb default v
-unfolding optional-valid number tested passes word
+unfolding optional-valid number tested passes-all word
 number-valid default v = elim (decLe default v) [
   | yes l ↦ elim (ℕ-discrete v default) [
     | yes q ↦ simp (eq-eqb v default q, le-leb default v l)
@@ -51,7 +51,7 @@ item-valid i = with-map-valid item-fields i ∙ simp (number-valid, and-true)
 -- a precedence may stand where it passes its tests
 pub precedence-valid : (n : ℕ) (last : Previous) (o : Precedence)
     → tested precedence (precedence-tests n last) .valid o ≡ (names-items n o && rises last o)
-unfolding precedence tested passes converted pair byte
+unfolding precedence tested passes-all converted pair byte
 precedence-valid n last o = simp (Bool·not-not, and-true)
 
 -- two bytes or none

@@ -14,24 +14,24 @@ use Rattle.parts.specs.declared.ItemRead.the-variants as I
 use Rattle.parts.specs.declared.PrecedenceRead.the-variants as P
 
 -- a value that took so many of the bytes handed over
-abbrev pub taken : {A : Type 0} → ℕ → List ℕ → A → ℕ → Read A
-taken at rest x used = got x (at + used) (drop used rest)
+abbrev pub value-taken : {A : Type 0} → ℕ → List ℕ → A → ℕ → Read A
+value-taken at rest x used = got x (at + used) (drop used rest)
 
 module _ (at : ℕ) (rest : List ℕ) where
   abbrev pub field-read : FieldRead → Read ℕ
-  field-read (F.Value v used) = taken at rest v used
+  field-read (F.Value v used) = value-taken at rest v used
   field-read (F.Refused e) = refused e
 
   abbrev pub size-read : SizeRead → Read Size
-  size-read (S.Value s used) = taken at rest s used
+  size-read (S.Value s used) = value-taken at rest s used
   size-read (S.Refused e) = refused e
 
   abbrev pub item-read : ItemRead → Read Item
-  item-read (I.Value i used) = taken at rest i used
+  item-read (I.Value i used) = value-taken at rest i used
   item-read (I.Refused e) = refused e
 
   abbrev pub precedence-read : PrecedenceRead → Read Precedence
-  precedence-read (P.Value o used) = taken at rest o used
+  precedence-read (P.Value o used) = value-taken at rest o used
   precedence-read (P.Refused e) = refused e
 
 -- the places of the bytes from `at` on are numbers of their type

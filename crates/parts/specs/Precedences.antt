@@ -20,6 +20,6 @@ rises Nothing o = true
 rises (Was p) o = above p o
 
 -- every precedence of a list may stand there, one after the other
-unfoldable pub all-stand : ℕ → Previous → List Precedence → Bool
-all-stand n last [] = true
-all-stand n last (o ∷ os) = (names-items n o && rises last o) && all-stand n (Was o) os
+unfoldable pub all-allowed : ℕ → Previous → List Precedence → Bool
+all-allowed n last [] = true
+all-allowed n last (o ∷ os) = (names-items n o && rises last o) && all-allowed n (Was o) os

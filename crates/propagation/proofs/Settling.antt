@@ -11,7 +11,7 @@ use Rattle.model.specs.Toward.{Goal, Toward, ClosedBut, NoPair, Closed}
 use Rattle.model.proofs.Order.{below-refl, below-trans}
 use Rattle.model.proofs.Untouched.{obeyed-fewer, filled-consistent}
 use Rattle.model.proofs.Toward.{under-mono, no-goal, closed-wider, end-is, end-under, end-exact}
-use Rattle.domains.specs.Queue.{end, Queued, Coded, Good, Long}
+use Rattle.domains.specs.Queue.{queue-end, Queued, Coded, Good, Long}
 use Rattle.domains.specs.Narrowed.{Refuted}
 use Rattle.chains.specs.Totals.{table, Tabled, Measured, SameMeasures, Fitting}
 use Rattle.chains.specs.NewLinks.{Charted, KeptIf}
@@ -24,10 +24,10 @@ use Rattle.model.specs.Propagate as M
 -- of a problem, from k on
 pub record Looping (p : Problem) (k j : Domains) (r s : List ℕ) (head : ℕ) : Type 0 where
   pub measured : Measured p s
-  pub within : head ≤ end r
+  pub within : head ≤ queue-end r
   pub pending : Pending j r head
   pub toward : Toward p k j (table s)
-  pub closed : ClosedBut (λ x. Queued r head (end r)) NoPair p j (table s)
+  pub closed : ClosedBut (λ x. Queued r head (queue-end r)) NoPair p j (table s)
 
 -- THE LOOP INVARIANT, from k, q and t on: arrays that need no problem to be good, and what they come to for each
 pub record Settling (k : Domains) (rows₀ q t : List ℕ) (j : Domains) (rows r s : List ℕ) (head : ℕ) : Type 0 where
@@ -62,7 +62,7 @@ module _ {k : Domains} {rows₀ q t : List ℕ} {j : Domains} {rows r s : List �
   abbrev pair : ℕ
   pair = getD r head 0
 
-  pub pair-coded : head < end r → Coded pair
+  pub pair-coded : head < queue-end r → Coded pair
   pair-coded more = d .good .coded head (d .first) more
 
   module _ (p : Problem) (ready : Ready p k rows₀ q t) where
@@ -72,7 +72,7 @@ module _ {k : Domains} {rows₀ q t : List ℕ} {j : Domains} {rows r s : List �
     fitting : (f : Domains) → Goal p f → f ⊑ k → Fitting p s f × (f ⊑ j)
     fitting f g b = (record { goal = g; under = loop .toward .under f g b }, loop .toward .low f g b)
 
-    charted : head < end r → Charted p j r s (head + 1) (pair / 256) (pair / 16 % 16) (pair % 16)
+    charted : head < queue-end r → Charted p j r s (head + 1) (pair / 256) (pair / 16 % 16) (pair % 16)
     charted more = record {
       measured = loop .measured;
       first = omega arith;
@@ -93,7 +93,7 @@ module _ {k : Domains} {rows₀ q t : List ℕ} {j : Domains} {rows r s : List �
     formed = ready .good .laid .well-formed
 
     -- the queue is worked off
-    pub settling-done : end r ≤ head → Propagated p k j rows s
+    pub settling-done : queue-end r ≤ head → Propagated p k j rows s
     settling-done done =
         let obeyed = pending-done j r head done (loop .pending) in
         let rest = obeyed-fewer (p .items) limited j obeyed in
@@ -117,7 +117,7 @@ module _ {k : Domains} {rows₀ q t : List ℕ} {j : Domains} {rows r s : List �
         }
 
   -- the pair at the head is worked off
-  module _ (more : head < end r) where
+  module _ (more : head < queue-end r) where
     pub settling-next : {l : Domains} {rows′ r′ s′ : List ℕ}
         → (Long l rows′ r′ × SameMeasures s s′ × KeptIf l rows′ r′ s′ true)
         × ((p : Problem) (from : ℕ) → Charted p j r s from (pair / 256) (pair / 16 % 16) (pair % 16)

@@ -5,7 +5,7 @@ use Rattle.model.specs.Problem.{Problem}
 use Rattle.model.specs.Domains.{Domains, fixed-before}
 use Rattle.model.specs.Order.{Proper, _⊑_}
 use Rattle.model.specs.Relations.{gone, converse}
-use Rattle.model.specs.Claims.{overlaps, says}
+use Rattle.model.specs.Facts.{overlaps, says}
 use Rattle.model.specs.Clauses.{Lawful}
 use Rattle.model.specs.Toward.{Direction, Linked}
 use Rattle.model.proofs.Below.{and-intro, and-both, or-case, or-left, or-right, clash}
@@ -15,8 +15,8 @@ use Rattle.model.proofs.Claims.{gone-mono, says-mono, holds-mono, forced-conver
 use Rattle.model.proofs.Untouched.{goal-lawful}
 use Rattle.model.proofs.Toward.{by-direction, closed-wider}
 use Rattle.domains.specs.Bits.{bit-at}
-use Rattle.domains.specs.Rows.{row, Mirror}
-use Rattle.domains.specs.Queue.{end, Good, Long}
+use Rattle.domains.specs.Rows.{row-at, Mirror}
+use Rattle.domains.specs.Queue.{queue-end, Good, Long}
 use Rattle.domains.specs.Narrowed.{Narrowed, Refuted, Outcome}
 use Rattle.rules.specs.Worked.{Clauses, Handled, Paths, Diagonal, Overlapping}
 use Rattle.chains.specs.Totals.{Tabled, SameMeasures, Fitting}
@@ -35,19 +35,19 @@ known k a u v = gone k 0 a u v && (gone k 1 a u v || gone k 2 a u v)
 
 -- What a test of the row of u answers on v
 module _ {k : Domains} {rows : List ℕ} {a u v : ℕ} (m : Mirror k rows) (s : Proper 10 a u v) {r b : Bool} where
-  pub row-overlap : r ≡ bit-at (row rows a u) v → r ≡ b → gone k 0 a u v ≡ b
+  pub row-overlap : r ≡ bit-at (row-at rows a u) v → r ≡ b → gone k 0 a u v ≡ b
   row-overlap e f = sym (row-first m (s .axis) (s .item-u) (s .item-v)) ∙ (sym e ∙ f)
 
-  pub row-order : (x : ℕ) → x < 3 → r ≡ bit-at (row rows a u) (x * 10 + v) → r ≡ b → gone k x a u v ≡ b
+  pub row-order : (x : ℕ) → x < 3 → r ≡ bit-at (row-at rows a u) (x * 10 + v) → r ≡ b → gone k x a u v ≡ b
   row-order x h e f = sym (m .is x a u v h (s .axis) (s .item-u) (s .item-v)) ∙ (sym e ∙ f)
 
   -- on both orders together
-  pub row-orders : r ≡ bit-at (bitOr (row rows a u) (row rows a u / 2 ^ 10)) (10 + v) → r ≡ b → (gone k 1 a u v || gone k 2 a u v) ≡ b
+  pub row-orders : r ≡ bit-at (bitOr (row-at rows a u) (row-at rows a u / 2 ^ 10)) (10 + v) → r ≡ b → (gone k 1 a u v || gone k 2 a u v) ≡ b
   row-orders e f =
       let q : 10 + (10 + v) ≡ 2 * 10 + v = omega arith in
       let first = m .is 1 a u v (omega arith) (s .axis) (s .item-u) (s .item-v) in
       let second = m .is 2 a u v (omega arith) (s .axis) (s .item-u) (s .item-v) in
-      let both : bit-at (bitOr (row rows a u) (row rows a u / 2 ^ 10)) (10 + v) ≡ (gone k 1 a u v || gone k 2 a u v) =
+      let both : bit-at (bitOr (row-at rows a u) (row-at rows a u / 2 ^ 10)) (10 + v) ≡ (gone k 1 a u v || gone k 2 a u v) =
       rw (bit-or, bit-shr, q) (ap₂ _||_ first second) in
       sym both ∙ (sym e ∙ f)
 
@@ -66,7 +66,7 @@ linked-known k a u v x b y z d (e, inr (f, g)) l =
 
 -- The pair with the earlier item first, by the row
 pub turned-fixed : {k : Domains} {rows : List ℕ} {a u v : ℕ} → Mirror k rows → Proper 10 a u v → known k a u v ≡ true → {b y z : ℕ}
-    → InOrder (bit-at (row rows a u) (20 + v)) a u v b y z → Proper 10 b y z × (fixed-before k b y z ≡ true)
+    → InOrder (bit-at (row-at rows a u) (20 + v)) a u v b y z → Proper 10 b y z × (fixed-before k b y z ≡ true)
 unfolding says
 turned-fixed {k} {rows} {a} {u} {v} m s h {b} {y} {z} o =
     let (f, g) = and-both (gone k 0 a u v) (gone k 1 a u v || gone k 2 a u v) h in
@@ -98,7 +98,7 @@ module _ {p : Problem} {k : Domains} {q t : List ℕ} {from a u v : ℕ} (c : Ch
     pub extended-refuted : Refuted Lawful k₁ → Refuted (Fitting p t) k
     extended-refuted none f h b = none f (goal-lawful p f (h .goal)) (e .narrowed .low f h b)
 
-    pub extended-then : {D : Domains → Type 0} {j : Domains} {rows r : List ℕ} → 1 ≤ end q → Narrowed Lawful D k₁ q₁ j rows r
+    pub extended-then : {D : Domains → Type 0} {j : Domains} {rows r : List ℕ} → 1 ≤ queue-end q → Narrowed Lawful D k₁ q₁ j rows r
         → Extended p k q t from j rows r s
     extended-then least n = record {
       narrowed = record {
@@ -157,7 +157,7 @@ handled-within k k₁ k₂ j before after h ps c r e = holds-mono j k₂ after c
 
 -- All rules
 module _ {k : Domains} {q t : List ℕ} {a u v : ℕ} {k₁ : Domains} {rows₁ q₁ s : List ℕ} {k₂ : Domains} {rows₂ q₂ : List ℕ}
-    (least : 1 ≤ end q) (w : Proper 10 a u v)
+    (least : 1 ≤ queue-end q) (w : Proper 10 a u v)
     (e : (Long k₁ rows₁ q₁ × SameMeasures t s × KeptIf k₁ rows₁ q₁ s true)
     × ((p : Problem) (from : ℕ) → Charted p k q t from a u v → Extended p k q t from k₁ rows₁ q₁ s))
     (f : Narrowed Lawful (Handled (Paths a u v) k₁) k₁ q₁ k₂ rows₂ q₂) where

@@ -3,7 +3,7 @@ use Rattle.prelude.specs.Names.{Bool, true, false, cond, List, _≡_, ℕ}
 use Rattle.model.specs.Problem.{Problem}
 use Rattle.model.specs.Domains.{Domains}
 use Rattle.model.specs.Relations.{gone}
-use Rattle.model.specs.Claims.{overlaps, Holds}
+use Rattle.model.specs.Facts.{overlaps, Holds}
 use Rattle.model.specs.Clauses.{of}
 use Rattle.domains.specs.Narrowed.{Refuted}
 use Rattle.chains.specs.Totals.{Fitting}

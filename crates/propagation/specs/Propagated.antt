@@ -4,22 +4,22 @@ use Rattle.model.specs.Problem.{Problem}
 use Rattle.model.specs.Domains.{Domains}
 use Rattle.model.specs.Rules.{greatest-ending}
 use Rattle.model.specs.Branching.{inconsistent}
-use Rattle.model.specs.Claims.{Claim, Holds}
+use Rattle.model.specs.Facts.{Fact, Holds}
 use Rattle.model.specs.Clauses.{Rule, AllHold, Obeyed}
 use Rattle.model.specs.Toward.{Under, ClosedBut, NoPair, Closed}
 use Rattle.domains.specs.Rows.{Laid}
-use Rattle.domains.specs.Queue.{end, Queued, Good}
+use Rattle.domains.specs.Queue.{queue-end, Queued, Good}
 use Rattle.chains.specs.Totals.{table, Tabled, Measured}
 use Rattle.model.specs.Propagate as M
 
 -- one of the claims is of a pair on the queue
-abbrev pub SomeQueued : List ℕ → ℕ → ℕ → List Claim → Type 0
+abbrev pub SomeQueued : List ℕ → ℕ → ℕ → List Fact → Type 0
 SomeQueued q from to [] = ⊥
 SomeQueued q from to (c ∷ cs) = Queued q from to (c .axis) (c .u) (c .v) ⊎ SomeQueued q from to cs
 
 -- a rule that still asks for something has a premise on the queue
 abbrev pub Pending : Domains → List ℕ → ℕ → Type 0
-Pending k q from = (ps : List Claim) (c : Claim) → Rule 10 ps c → AllHold k ps → Holds k c ⊎ SomeQueued q from (end q) ps
+Pending k q from = (ps : List Fact) (c : Fact) → Rule 10 ps c → AllHold k ps → Holds k c ⊎ SomeQueued q from (queue-end q) ps
 
 -- domains of a problem with all that is still to be done on the queue, from its start on
 pub record Ready (p : Problem) (k : Domains) (rows q t : List ℕ) : Type 0 where
@@ -28,7 +28,7 @@ pub record Ready (p : Problem) (k : Domains) (rows q t : List ℕ) : Type 0 wher
   pub measured : Measured p t
   pub pending : Pending k q 1
   pub under : Under p (table t) k
-  pub closed : ClosedBut (λ x. Queued q 1 (end q)) NoPair p k (table t)
+  pub closed : ClosedBut (λ x. Queued q 1 (queue-end q)) NoPair p k (table t)
 
 -- domains at rest, consistent, with totals that are those of their greatest chains: what a snapshot keeps
 pub record Rested (p : Problem) (k : Domains) (rows t : List ℕ) : Type 0 where

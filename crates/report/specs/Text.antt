@@ -12,30 +12,30 @@ abbrev pub max-text : ℕ
 max-text = 218
 
 -- a field after "one space"
-abbrev pub field : ℕ → List ℕ
-field n = 0x20 ∷ decimal n
+abbrev pub text-field : ℕ → List ℕ
+text-field n = 0x20 ∷ decimal n
 
 -- more fields, and the end of the line
-abbrev pub fields : List ℕ → List ℕ
-fields [] = 0x0a ∷ []
-fields (n ∷ ns) = field n ++ fields ns
+abbrev pub text-fields : List ℕ → List ℕ
+text-fields [] = 0x0a ∷ []
+text-fields (n ∷ ns) = text-field n ++ text-fields ns
 
 -- "fields separated by one space": the first one as it is, and numbers
 unfoldable pub line : List ℕ → List ℕ → List ℕ
-line first ns = first ++ fields ns
+line first ns = first ++ text-fields ns
 
 -- the words `placed`, `none`, `spent`, `refused`
-abbrev pub placed : List ℕ
-placed = 0x70 ∷ 0x6c ∷ 0x61 ∷ 0x63 ∷ 0x65 ∷ 0x64 ∷ []
+abbrev pub placed-word : List ℕ
+placed-word = 0x70 ∷ 0x6c ∷ 0x61 ∷ 0x63 ∷ 0x65 ∷ 0x64 ∷ []
 
-abbrev pub none : List ℕ
-none = 0x6e ∷ 0x6f ∷ 0x6e ∷ 0x65 ∷ []
+abbrev pub none-word : List ℕ
+none-word = 0x6e ∷ 0x6f ∷ 0x6e ∷ 0x65 ∷ []
 
-abbrev pub spent : List ℕ
-spent = 0x73 ∷ 0x70 ∷ 0x65 ∷ 0x6e ∷ 0x74 ∷ []
+abbrev pub spent-word : List ℕ
+spent-word = 0x73 ∷ 0x70 ∷ 0x65 ∷ 0x6e ∷ 0x74 ∷ []
 
-abbrev pub refused : List ℕ
-refused = 0x72 ∷ 0x65 ∷ 0x66 ∷ 0x75 ∷ 0x73 ∷ 0x65 ∷ 0x64 ∷ []
+abbrev pub refused-word : List ℕ
+refused-word = 0x72 ∷ 0x65 ∷ 0x66 ∷ 0x75 ∷ 0x73 ∷ 0x65 ∷ 0x64 ∷ []
 
 -- "one line a piece: number, x, y, t"
 unfoldable pub item-line : ℕ → Position → List ℕ
@@ -52,14 +52,14 @@ answer-line word steps = line word (steps ∷ [])
 
 -- ", then for placed one line a piece"
 abbrev pub packed-text : ℕ → Packing → ℕ → List ℕ
-packed-text steps q n = answer-line placed steps ++ item-lines q n
+packed-text steps q n = answer-line placed-word steps ++ item-lines q n
 
 abbrev pub infeasible-text : ℕ → List ℕ
-infeasible-text steps = answer-line none steps
+infeasible-text steps = answer-line none-word steps
 
 abbrev pub spent-text : ℕ → List ℕ
-spent-text steps = answer-line spent steps
+spent-text steps = answer-line spent-word steps
 
 -- "A refused sheet prints `refused`, number, place"
 abbrev pub refused-text : Refusal → List ℕ
-refused-text e = line refused (number-of e ∷ place-of e ∷ [])
+refused-text e = line refused-word (number-of e ∷ place-of e ∷ [])

@@ -5,7 +5,7 @@ ghost use Prim.Native.Nat.{_+_, _*_, _≤_, _<_};
 ghost use lib.ListN.{length, take};
 ghost use lib.Seq.{sets};
 ghost use Rattle.report.specs.Decimal.{decimal};
-ghost use Rattle.report.specs.Text.{field, fields, answer-line, item-line, item-lines};
+ghost use Rattle.report.specs.Text.{text-field, text-fields, answer-line, item-line, item-lines};
 use instance::Packing;
 use instance::Position;
 
@@ -39,9 +39,9 @@ fn put_decimal(out: &mut [u8], at: usize, n: u64) -> usize
 
 // A space and a number.
 fn put_field(out: &mut [u8], at: usize, n: u64) -> usize
-    requires { ⌜ at + length (field n) ≤ length (now out) ⌝ }
-    ensures { λ r. ⌜ r ≡ at + length (field n) ⌝ }
-    ensures { λ _. ⌜ now (out .exit) ≡ sets (now (out .entry)) at (field n) ⌝ }
+    requires { ⌜ at + length (text-field n) ≤ length (now out) ⌝ }
+    ensures { λ r. ⌜ r ≡ at + length (text-field n) ⌝ }
+    ensures { λ _. ⌜ now (out .exit) ≡ sets (now (out .entry)) at (text-field n) ⌝ }
 {
     out[at] = b' ';
     put_decimal(out, at + 1, n)
@@ -49,9 +49,9 @@ fn put_field(out: &mut [u8], at: usize, n: u64) -> usize
 
 // The first n numbers, a space before each, and the end of the line.
 pub fn put_fields(out: &mut [u8], at: usize, numbers: [u64; 3], n: usize) -> usize
-    requires { ⌜ (n ≤ 3) × (at + length (fields (take n numbers)) ≤ length (now out)) ⌝ }
-    ensures { λ r. ⌜ r ≡ at + length (fields (take n numbers)) ⌝ }
-    ensures { λ _. ⌜ now (out .exit) ≡ sets (now (out .entry)) at (fields (take n numbers)) ⌝ }
+    requires { ⌜ (n ≤ 3) × (at + length (text-fields (take n numbers)) ≤ length (now out)) ⌝ }
+    ensures { λ r. ⌜ r ≡ at + length (text-fields (take n numbers)) ⌝ }
+    ensures { λ _. ⌜ now (out .exit) ≡ sets (now (out .entry)) at (text-fields (take n numbers)) ⌝ }
 {
     let mut k = at;
     let mut i: usize = 0;

@@ -4,14 +4,14 @@ use Rattle.prelude.specs.Names.{_*_, _%_, _^_, _≤_, _<_, arith, bitAnd, bitOr
 use Rattle.model.specs.Domains.{Domains}
 use Rattle.model.specs.Order.{Proper, _⊑_}
 use Rattle.model.specs.Relations.{gone}
-use Rattle.model.specs.Claims.{overlaps, removed, Claim, says, Holds}
+use Rattle.model.specs.Facts.{overlaps, removed, Fact, says, Holds}
 use Rattle.model.specs.Clauses.{of, g1, AllHold, Lawful}
 use Rattle.model.proofs.Below.{and-intro, and-both, clash}
 use Rattle.model.proofs.Order.{below-refl}
 use Rattle.model.proofs.Claims.{gone-mono, says-mono, holds-mono, overlaps-sym}
 use Rattle.domains.specs.Bits.{bit-at, Gives, lowest-bit, TakenOut}
-use Rattle.domains.specs.Rows.{row, Mirror}
-use Rattle.domains.specs.Queue.{end, Good}
+use Rattle.domains.specs.Rows.{row-at, Mirror}
+use Rattle.domains.specs.Queue.{queue-end, Good}
 use Rattle.domains.specs.Narrowed.{All, Asked, Askable, Narrowed, Outcome}
 use Rattle.rules.specs.Worked.{Handled, Ring, OverlapAll, OverlapAsked}
 use Rattle.domains.proofs.BitLaws.{bit-and, bit-or, bit-not, bit-power, bit-shl, shl-small, and-small, gives-both, below-three}
@@ -61,7 +61,7 @@ overlap-converse k a u v h = overlaps-sym k a u v ∙ h
 
 abbrev pub BothLap : List ℕ → ℕ → ℕ → ℕ → ℕ → Type 0
 BothLap rows a q s l =
-    Gives 10 l (λ v. bit-at (bitAnd (row rows a q) (row rows a s)) (10 + v) && bit-at (bitAnd (row rows a q) (row rows a s)) (20 + v))
+    Gives 10 l (λ v. bit-at (bitAnd (row-at rows a q) (row-at rows a s)) (10 + v) && bit-at (bitAnd (row-at rows a q) (row-at rows a s)) (20 + v))
 
 crossed : (a b c d : Bool) → ((a && b) && (c && d)) ≡ ((a && c) && (b && d))
 crossed false b c d = refl
@@ -74,16 +74,16 @@ unfolding says
 both-gives {k} {rows} m {a} {q} {s} ha hq hs g = record {
   small = g .small;
   is = λ t ht.
-      let two : (x : ℕ) → x < 3 → bit-at (bitAnd (row rows a q) (row rows a s)) (x * 10 + t) ≡ (gone k x a q t && gone k x a s t) =
-      λ x hx. cc (bit-and (row rows a q) (row rows a s) (x * 10 + t), m .is x a q t hx ha hq ht, m .is x a s t hx ha hs ht) in
+      let two : (x : ℕ) → x < 3 → bit-at (bitAnd (row-at rows a q) (row-at rows a s)) (x * 10 + t) ≡ (gone k x a q t && gone k x a s t) =
+      λ x hx. cc (bit-and (row-at rows a q) (row-at rows a s) (x * 10 + t), m .is x a q t hx ha hq ht, m .is x a s t hx ha hs ht) in
       cc (g .is t ht, two 1 (omega arith), two 2 (omega arith), crossed (gone k 1 a q t) (gone k 1 a s t) (gone k 2 a q t) (gone k 2 a s t));
 }
 
 -- The premises of the ring q, r, s, t
-abbrev pub ring-of : ℕ → ℕ → ℕ → ℕ → ℕ → List Claim
+abbrev pub ring-of : ℕ → ℕ → ℕ → ℕ → ℕ → List Fact
 ring-of a q r s t = of overlaps a q r ∷ of overlaps a r s ∷ of overlaps a s t ∷ of overlaps a t q ∷ of (removed 0) a q s ∷ []
 
-pub ring-premises : {a q r s : ℕ} (k : Domains) (ps : List Claim) (c : Claim) (ring : Ring a q r s ps c) → AllHold k ps
+pub ring-premises : {a q r s : ℕ} (k : Domains) (ps : List Fact) (c : Fact) (ring : Ring a q r s ps c) → AllHold k ps
     → AllHold k (ring-of a q r s (ring .0))
 ring-premises k ps c ring h = rw (ring .4) at h
 
@@ -161,7 +161,7 @@ abbrev pub Looked : ℕ → ℕ → (ℕ → ℕ) → (ℕ → ℕ) → ℕ → 
 Looked a q r s items left k u j rows v = Narrowed Lawful (λ j. Through 10 items left (λ t. Handled (Ring a q (r t) (s t)) k j)) k u j rows v
 
 pub record Corners (a q : ℕ) (r s : ℕ → ℕ) (k : Domains) (u : List ℕ) (items : ℕ) : Type 0 where
-  pub least : 1 ≤ end u
+  pub least : 1 ≤ queue-end u
   pub small : items < 2 ^ 10
   pub corner : (t : ℕ) → bit-at items t ≡ true → Corner k a q (r t) (s t)
   pub all : (t : ℕ) → t < 10 → Holds k (of overlaps a q (r t)) → Holds k (of overlaps a (r t) (s t)) → gone k 0 a q (s t) ≡ true
@@ -204,13 +204,13 @@ module _ {a q : ℕ} {r s : ℕ → ℕ} {k : Domains} {u : List ℕ} {items lef
 
 -- with q, r as a side: s is known to overlap r, and not to overlap q
 pub side-corners : {a q r : ℕ} {k : Domains} {rows u : List ℕ} → Good k rows u → Proper 10 a q r → Holds k (of overlaps a q r)
-    → {l : ℕ} → Gives 10 l (λ v. bit-at (row rows a r) (10 + v) && bit-at (row rows a r) (20 + v))
-    → Corners a q (λ _. r) (λ s. s) k u (bitAnd l (row rows a q))
+    → {l : ℕ} → Gives 10 l (λ v. bit-at (row-at rows a r) (10 + v) && bit-at (row-at rows a r) (20 + v))
+    → Corners a q (λ _. r) (λ s. s) k u (bitAnd l (row-at rows a q))
 side-corners {a} {q} {r} {k} {rows} g p qr {l} f =
     let m = g .laid .mirror in
-    let far : Gives 10 (bitAnd l (row rows a q)) (λ s. says overlaps k a r s && gone k 0 a q s) = record {
-      small = and-small 10 l (row rows a q) (f .small);
-      is = λ s hs. cc (bit-and l (row rows a q) s, row-overlaps m (p .axis) (p .item-v) hs f, row-first m (p .axis) (p .item-u) hs);
+    let far : Gives 10 (bitAnd l (row-at rows a q)) (λ s. says overlaps k a r s && gone k 0 a q s) = record {
+      small = and-small 10 l (row-at rows a q) (f .small);
+      is = λ s hs. cc (bit-and l (row-at rows a q) s, row-overlaps m (p .axis) (p .item-v) hs f, row-first m (p .axis) (p .item-u) hs);
     } in record {
       least = g .least;
       small = far .small;

@@ -4,11 +4,11 @@ use mathlib.Core.Logic.{⊎-swap}
 use Rattle.model.specs.Domains.{Domains}
 use Rattle.model.specs.Order.{Proper}
 use Rattle.model.specs.Relations.{gone, converse}
-use Rattle.model.specs.Claims.{overlaps, removed, forced, Claim, says, Holds}
+use Rattle.model.specs.Facts.{overlaps, removed, forced, Fact, says, Holds}
 use Rattle.model.specs.Clauses.{of, Axes, Three, Order, Rule, c3, d2, d1-far, d1-near, g1, AllHold}
 use Rattle.model.proofs.Slots.{proper-sym}
 use Rattle.model.proofs.Claims.{gone-converse, forced-converse}
-use Rattle.rules.specs.Worked.{Handled, Follows, Paths, next-axis, Third, Diagonal, Overlapping}
+use Rattle.rules.specs.Worked.{Handled, PathFrom, Paths, next-axis, Third, Diagonal, Overlapping}
 use Rattle.rules.specs.Mentions.{Names, Mentions, Mentioning}
 use Rattle.domains.proofs.BitLaws.{below-three}
 use Rattle.rules.proofs.Triangles.{either-order}
@@ -74,7 +74,7 @@ module _ (k j : Domains) where
   done-converse : (a u v : ℕ) → Done a u v → Done a v u
   unfolding says
   done-converse a u v done =
-      let back : (ps : List Claim) (c : Claim) (d e : ℕ) → Third a d e v u ps c → AllHold k ps → Holds j c =
+      let back : (ps : List Fact) (c : Fact) (d e : ℕ) → Third a d e v u ps c → AllHold k ps → Holds j c =
       λ ps c d e (x, s, p, q) h. let (f, (g, _)) = rw p at h in
       let w = third a d e u v done x (proper-sym s) (overlap-converse k a v u f) (overlap-converse k d v u g) in
       rw q (gone-converse j 0 e u v (omega arith) ∙ w) in record {
@@ -108,11 +108,11 @@ mentioning-handled k j {a} {u} {v} s paths across overlapping ps c (rule, m) h =
     removed-back : (i : Domains) {x : ℕ} → Order x → (b s t : ℕ) → gone i (converse x) b t s ≡ gone i x b s t
     removed-back i {x} o b s t = gone-converse i x b s t (omega arith)
 
-    turned : {x b t w : ℕ} {ps : List Claim} {c : Claim} → Names a u v (of overlaps b t w) → Order x → Follows (converse x) b w t ps c → AllHold k ps
+    turned : {x b t w : ℕ} {ps : List Fact} {c : Fact} → Names a u v (of overlaps b t w) → Order x → PathFrom (converse x) b w t ps c → AllHold k ps
         → Holds j c
     turned {x} n o m h = at n .paths _ _ (converse x, order-converse x o, inr m) h
 
-    go : {ps : List Claim} {c : Claim} → Rule 10 ps c → Mentions a u v ps → AllHold k ps → Holds j c
+    go : {ps : List Fact} {c : Fact} → Rule 10 ps c → Mentions a u v ps → AllHold k ps → Holds j c
     go (d2 x b s t w o i) (inl n) h = at n .paths _ _ (x, o, inl (w, i, inl (refl, refl))) h
     go (d2 x b s t w o i) (inr (inl n)) (f, (g, _)) =
         sym (forced-back j o b s w)

@@ -2,11 +2,11 @@
 use Rattle.prelude.specs.Names.{Bool, true, false, _&&_, List, _≢_, _≡_, refl, sym, _∙_, ℕ, _+_, _*_, _^_, _<_, arith, eqb, eqb-true, eq-eqb, ne-eqb}
 use Rattle.model.specs.Domains.{Domains}
 use Rattle.model.specs.Order.{Proper}
-use Rattle.model.specs.Claims.{overlaps, says, Holds}
+use Rattle.model.specs.Facts.{overlaps, says, Holds}
 use Rattle.model.specs.Clauses.{of, Axes, c3, Lawful}
 use Rattle.model.proofs.Below.{clash}
 use Rattle.domains.specs.Bits.{bit-at, Gives}
-use Rattle.domains.specs.Rows.{row}
+use Rattle.domains.specs.Rows.{row-at}
 use Rattle.domains.specs.Queue.{Good}
 use Rattle.domains.specs.Narrowed.{All, Asked, Askable, Narrowed, Outcome}
 use Rattle.rules.specs.Worked.{next-axis, Handled, Third}
@@ -28,7 +28,7 @@ pub axes-swap : {a b c : ℕ} → Axes a b c → Axes a c b
 axes-swap x = omega arith
 
 module _ {a b c u v : ℕ} (x : Axes a b c) (s : Proper 10 a u v) {k : Domains} {rows q : List ℕ} (g : Good k rows q)
-    {m : ℕ} (f : Gives 10 m (λ v. bit-at (row rows b u) (10 + v) && bit-at (row rows b u) (20 + v))) where
+    {m : ℕ} (f : Gives 10 m (λ v. bit-at (row-at rows b u) (10 + v) && bit-at (row-at rows b u) (20 + v))) where
   lapping : bit-at m v ≡ says overlaps k b u v
   lapping = row-overlaps (g .laid .mirror) (x .axis-b) (s .item-u) (s .item-v) f
 

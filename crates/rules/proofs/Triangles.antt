@@ -6,16 +6,16 @@ use mathlib.Core.Bool.{or-self}
 use Rattle.model.specs.Domains.{Domains}
 use Rattle.model.specs.Order.{Proper, _⊑_}
 use Rattle.model.specs.Relations.{gone}
-use Rattle.model.specs.Claims.{says}
+use Rattle.model.specs.Facts.{says}
 use Rattle.model.specs.Clauses.{Three, Order, d2, d1-far, d1-near, Lawful}
 use Rattle.model.proofs.Below.{and-intro, and-both, and-first, or-case}
 use Rattle.model.proofs.Slots.{proper-sym}
 use Rattle.model.proofs.Claims.{gone-converse}
 use Rattle.domains.specs.Bits.{bit-at, Gives}
-use Rattle.domains.specs.Rows.{row, Laid}
+use Rattle.domains.specs.Rows.{row-at, Laid}
 use Rattle.domains.specs.Queue.{Good}
 use Rattle.domains.specs.Narrowed.{All, Asked, Askable, Narrowed, Outcome}
-use Rattle.rules.specs.Worked.{Clauses, Handled, Follows, Paths, Pathable, Reached, reached}
+use Rattle.rules.specs.Worked.{Clauses, Handled, PathFrom, Paths, Pathable, Reached, reached}
 use Rattle.domains.proofs.Narrowed.{outcome-as}
 use Rattle.rules.proofs.Works.{lawful-holds, Either, worked-then}
 use Rattle.model.proofs.Domains.{gone-distinct}
@@ -95,16 +95,16 @@ module _ {near far v : ℕ} (p : Pathable near far v) where
 
 -- rules 2 and 3 from u over v
 abbrev pub From : ℕ → ℕ → ℕ → Clauses
-From a u v ps c = (x : ℕ) × Order x × Follows x a u v ps c
+From a u v ps c = (x : ℕ) × Order x × PathFrom x a u v ps c
 
 module _ {a u v : ℕ} (s : Proper 10 a u v) {k : Domains} {rows : List ℕ} (g : Laid k rows) where
-  near : (x : ℕ) → x < 3 → bit-at (row rows a u) (x * 10 + v) ≡ gone k x a u v
+  near : (x : ℕ) → x < 3 → bit-at (row-at rows a u) (x * 10 + v) ≡ gone k x a u v
   near x hx = g .mirror .is x a u v hx (s .axis) (s .item-u) (s .item-v)
 
-  near-overlap : bit-at (row rows a u) v ≡ gone k 0 a u v
+  near-overlap : bit-at (row-at rows a u) v ≡ gone k 0 a u v
   near-overlap = row-first (g .mirror) (s .axis) (s .item-u) (s .item-v)
 
-  pub pathable : Pathable (row rows a u) (row rows a v) v
+  pub pathable : Pathable (row-at rows a u) (row-at rows a v) v
   pathable = record {
     near-small = g .mirror .small (a * 10 + u);
     far-small = g .mirror .small (a * 10 + v);
@@ -120,12 +120,12 @@ module _ {a u v : ℕ} (s : Proper 10 a u v) {k : Domains} {rows : List ℕ} (g 
       let n = or-self (gone k 0 a u v) in
       false≢true (elim (either-order o) [ inl d ↦ cc (g .filled a u v s) | inr d ↦ cc (g .filled a u v s) ])
 
-  module _ {set : ℕ} (r : Reached (row rows a u) (row rows a v) v set) where
+  module _ {set : ℕ} (r : Reached (row-at rows a u) (row-at rows a v) v set) where
     module _ (w : ℕ) (hw : w < 10) where
-      far : (x : ℕ) → x < 3 → bit-at (row rows a v) (x * 10 + w) ≡ gone k x a v w
+      far : (x : ℕ) → x < 3 → bit-at (row-at rows a v) (x * 10 + w) ≡ gone k x a v w
       far x hx = g .mirror .is x a v w hx (s .axis) (s .item-v) hw
 
-      far-overlap : bit-at (row rows a v) w ≡ gone k 0 a v w
+      far-overlap : bit-at (row-at rows a v) w ≡ gone k 0 a v w
       far-overlap = row-first (g .mirror) (s .axis) (s .item-v) hw
 
       -- overlap is removed of u and w where an order is known on both sides, an order where it is known on one
@@ -220,7 +220,7 @@ module _ {a u v : ℕ} (s : Proper 10 a u v) {k : Domains} {rows : List ℕ} (g 
         ]
 
 module _ {a u v : ℕ} (s : Proper 10 a u v) {k : Domains} {rows q : List ℕ} (g : Good k rows q) {set : ℕ}
-    (r : Reached (row rows a u) (row rows a v) v set) where
+    (r : Reached (row-at rows a u) (row-at rows a v) v set) where
   pub from-worked : (j : Domains) (rows′ p : List ℕ) (b : Bool) → Outcome (Asked a u set) (All a u set) k q j rows′ p b
       → Outcome Lawful (Handled (From a u v) k) k q j rows′ p b
   from-worked j rows′ p b =
@@ -228,8 +228,8 @@ module _ {a u v : ℕ} (s : Proper 10 a u v) {k : Domains} {rows q : List ℕ} (
       (λ h d. reached-handled s (g .laid) r j d)
 
 pub paths-worked : {a u v : ℕ} (s : Proper 10 a u v) {k : Domains} {rows q : List ℕ} (g : Good k rows q) {set : ℕ}
-    → Reached (row rows a u) (row rows a v) v set → {j : Domains} {rows′ p : List ℕ} → Narrowed (Asked a u set) (All a u set) k q j rows′ p
-    → {set′ : ℕ} → Reached (row rows′ a v) (row rows′ a u) u set′ → (l : Domains) (rows″ t : List ℕ) (b : Bool)
+    → Reached (row-at rows a u) (row-at rows a v) v set → {j : Domains} {rows′ p : List ℕ} → Narrowed (Asked a u set) (All a u set) k q j rows′ p
+    → {set′ : ℕ} → Reached (row-at rows′ a v) (row-at rows′ a u) u set′ → (l : Domains) (rows″ t : List ℕ) (b : Bool)
     → Outcome (Asked a v set′) (All a v set′) j p l rows″ t b → Outcome Lawful (Handled (Paths a u v) k) k q l rows″ t b
 paths-worked {a} {u} {v} s {k} {rows} {q} g r {j} {rows′} {p} f r′ l rows″ t b h =
     outcome-as Lawful Lawful (Handled (Either (From a u v) (From a v u)) k) (Handled (Paths a u v) k) k q l rows″ t b (λ i x y. x)

@@ -3,21 +3,21 @@ use Rattle.prelude.specs.Names.{Bool, true, false, _&&_, _||_, List, [], _∷_,
 use Rattle.model.specs.Domains.{Domains}
 use Rattle.model.specs.Order.{Proper}
 use Rattle.model.specs.Relations.{Filled}
-use Rattle.model.specs.Claims.{overlaps, removed, forced, Claim, Holds}
+use Rattle.model.specs.Facts.{overlaps, removed, forced, Fact, Holds}
 use Rattle.model.specs.Clauses.{of, Axes, Three, Order, AllHold}
 use Rattle.domains.specs.Bits.{bit-at}
 
 -- a set of clauses
 abbrev pub Clauses : Type 1
-Clauses = List Claim → Claim → Type 0
+Clauses = List Fact → Fact → Type 0
 
 -- what their premises in k ask for holds in j
 abbrev pub Handled : Clauses → Domains → Domains → Type 0
-Handled H k j = (ps : List Claim) (c : Claim) → H ps c → AllHold k ps → Holds j c
+Handled H k j = (ps : List Fact) (c : Fact) → H ps c → AllHold k ps → Holds j c
 
 -- rules 2 and 3 from the pair u, v on
-abbrev pub Follows : ℕ → ℕ → ℕ → ℕ → Clauses
-Follows x a u v ps c =
+abbrev pub PathFrom : ℕ → ℕ → ℕ → ℕ → Clauses
+PathFrom x a u v ps c =
     (w : ℕ) × Three 10 a u v w
     × (((ps ≡ of (forced x) a u v ∷ of (forced x) a v w ∷ []) × (c ≡ of (forced x) a u w))
     ⊎ (((ps ≡ of (forced x) a u v ∷ of (removed x) a v w ∷ []) × (c ≡ of (removed x) a u w))
@@ -25,7 +25,7 @@ Follows x a u v ps c =
 
 -- with u, v as the first premise or, seen from the other end, as the second
 abbrev pub Paths : ℕ → ℕ → ℕ → Clauses
-Paths a u v ps c = (x : ℕ) × Order x × (Follows x a u v ps c ⊎ Follows x a v u ps c)
+Paths a u v ps c = (x : ℕ) × Order x × (PathFrom x a u v ps c ⊎ PathFrom x a v u ps c)
 
 -- rule 1 for the axis c
 abbrev pub Third : ℕ → ℕ → ℕ → ℕ → ℕ → Clauses

@@ -2,7 +2,7 @@
 ghost use mathlib.Core.Path.{_≡_};
 ghost use Prim.Native.Nat.{_<_};
 ghost use Rattle.model.specs.Order.{Proper};
-ghost use Rattle.model.specs.Claims.{overlaps, Holds};
+ghost use Rattle.model.specs.Facts.{overlaps, Holds};
 ghost use Rattle.model.specs.Clauses.{of, Axes, Lawful};
 ghost use Rattle.domains.specs.Queue.{Good};
 ghost use Rattle.domains.specs.Narrowed.{Outcome};

@@ -4,7 +4,7 @@ ghost use mathlib.Core.Bool.{true, false};
 ghost use Prim.Native.Nat.{_<_, _^_};
 ghost use Rattle.model.specs.Order.{Proper};
 ghost use Rattle.model.specs.Relations.{gone};
-ghost use Rattle.model.specs.Claims.{overlaps, Holds};
+ghost use Rattle.model.specs.Facts.{overlaps, Holds};
 ghost use Rattle.model.specs.Clauses.{of, Lawful};
 ghost use Rattle.domains.specs.Bits.{bit-at};
 ghost use Rattle.domains.specs.Queue.{Good};

@@ -17,7 +17,7 @@ use Rattle.instance.specs.declared.Checkpoint.{Checkpoint}
 use Rattle.instance.specs.declared.Instance.{Instance}
 use Rattle.search.specs.Calls.{values}
 use Rattle.tree_paths.specs.Checkpoints.{checkpoint-of, well-formed, following, Following, branches-of, value-of}
-use Rattle.search.specs.Results.{answer-number, answer-of, packing-with, result-of, refused, result-if, search-result, SearchFault, nine, ten}
+use Rattle.search.specs.Results.{answer-number, answer-of, packing-with, result-of, result-refused, result-if, search-result, SearchFault, nine, ten}
 use Rattle.search.specs.declared.answer.SearchResult.{SearchResult}
 use Rattle.tree_paths.proofs.Checkpoints.{Short, checkpoint-back, value-well-formed}
 use Rattle.search.proofs.Packing.{packing-back, feasible-same}
@@ -67,8 +67,8 @@ answered-small p r = elim (r .answer) as (λ a. answer-number (answer-of a) < 10
 
 -- One call by the table: it is refused with 9, or with 10, or it is the search's
 pub data CallIs (i : Instance) (c : Checkpoint) (budget : ℕ) (r : SearchResult) : Type 0 where
-  invalid : valid i ≡ false → r ≡ refused InvalidInstance c → CallIs i c budget r
-  not-following : valid i ≡ true → (Following (problem-of i) c → ⊥) → r ≡ refused NotFollowing c → CallIs i c budget r
+  invalid : valid i ≡ false → r ≡ result-refused InvalidInstance c → CallIs i c budget r
+  not-following : valid i ≡ true → (Following (problem-of i) c → ⊥) → r ≡ result-refused NotFollowing c → CallIs i c budget r
   searched : valid i ≡ true → Following (problem-of i) c → r ≡ result-of (problem-of i) (search (problem-of i) budget (checkpoint-of c))
       → CallIs i c budget r
 
@@ -100,13 +100,13 @@ module _ (i : Instance) (c : Checkpoint) (budget : ℕ) where
   own-small = answered-small (problem-of i) (search (problem-of i) budget (checkpoint-of c))
 
   fault-code : {n : ℕ} → SearchFault i c n → answer-number (result .answer) ≡ 100 + n
-  unfolding search-result refused
+  unfolding search-result result-refused
   fault-code (nine v k) = rw (v, k)
   fault-code (ten v h k) = rw (v, not-so _ (following-so (problem-of i) c) h, k)
 
   -- "A call that meets no condition of the table is not refused", and any other gets its number
   pub refuses : (n : ℕ) → (answer-number (search-result i c budget .answer) ≡ 100 + n) ↔ SearchFault i c n
-  unfolding refused
+  unfolding result-refused
   refuses n = (
     (λ e. elim call-is [
       | invalid d r ↦ nine d (omega (arith, code r))
@@ -119,7 +119,7 @@ module _ (i : Instance) (c : Checkpoint) (budget : ℕ) where
   -- "a refused search hands its note back with 0 steps", and "all ten are 0": 100 and above are a refusal's numbers
   pub handed-back : 100 ≤ answer-number (search-result i c budget .answer) → let r = search-result i c budget in
       (r .checkpoint ≡ c) × (r .steps ≡ 0) × (r .packing ≡ origin-packing)
-  unfolding refused
+  unfolding result-refused
   handed-back h = elim call-is [
     | invalid d r ↦ (rw r, rw r, rw r)
     | not-following d f r ↦ (rw r, rw r, rw r)
@@ -141,7 +141,7 @@ module _ (i : Instance) (v : valid i ≡ true) (long : length (i .items) ≡ 10)
       ∙ ap (λ (μ : S.Checkpoint). result-of p (search p budget μ)) (checkpoint-back κ (short p sound κ f))
 
   reaches : (m t : ℕ) (κ μ : S.Checkpoint) → t ≡ taken (machine p) m κ
-      → search-result i (value-of κ) m ≡ result-of p (record { answer = C.answer (machine p) (plan-at p) μ; steps = t; checkpoint = μ })
+      → search-result i (value-of κ) m ≡ result-of p (record { answer = C.answer-at (machine p) (plan-at p) μ; steps = t; checkpoint = μ })
       → Reaches (machine p) (values i) m κ μ
   unfolding result-of
   reaches m t κ (S.open-at path) d e = record { code = rw e; next = rw e; steps = rw e d; plan = rw e }
@@ -158,7 +158,7 @@ module _ (i : Instance) (v : valid i ≡ true) (long : length (i .items) ≡ 10)
   -- placed comes with a packing that fits, whatever checkpoint was handed in
   pub placed-fits : (c : Checkpoint) (budget : ℕ) → answer-number (search-result i c budget .answer) ≡ 1
       → Feasible p (positions-of (search-result i c budget .packing))
-  unfolding refused result-of
+  unfolding result-refused result-of
   placed-fits c budget e = elim (call-is i c budget) [
     | invalid d r ↦ absurd (omega (arith, code i c budget r))
     | not-following d n r ↦ absurd (omega (arith, code i c budget r))
@@ -167,8 +167,8 @@ module _ (i : Instance) (v : valid i ≡ true) (long : length (i .items) ≡ 10)
         rw r (fits (steps (machine p) budget (checkpoint-of c)) f (sym (code i c budget r) ∙ e))
   ]
     where
-      fits : (μ : S.Checkpoint) → S.Follows (look p) μ → answer-number (answer-of (C.answer (machine p) (plan-at p) μ)) ≡ 1
-          → Feasible p (positions-of (packing-with p (C.answer (machine p) (plan-at p) μ)))
+      fits : (μ : S.Checkpoint) → S.Follows (look p) μ → answer-number (answer-of (C.answer-at (machine p) (plan-at p) μ)) ≡ 1
+          → Feasible p (positions-of (packing-with p (C.answer-at (machine p) (plan-at p) μ)))
       fits (S.open-at path) f e = absurd (omega arith)
       fits S.infeasible f e = absurd (omega arith)
       fits (S.packed-at path) f e =
@@ -183,7 +183,7 @@ zero-is-spent (C.packing q) e = absurd (omega arith)
 -- "spent has taken exactly the allowance", whatever checkpoint was handed in
 pub spent-exactly : (i : Instance) (c : Checkpoint) (budget : ℕ) → answer-number (search-result i c budget .answer) ≡ 0
     → search-result i c budget .steps ≡ budget
-unfolding refused result-of
+unfolding result-refused result-of
 spent-exactly i c budget e = elim (call-is i c budget) [
   | invalid d r ↦ absurd (omega (arith, code i c budget r))
   | not-following d n r ↦ absurd (omega (arith, code i c budget r))
@@ -192,5 +192,5 @@ spent-exactly i c budget e = elim (call-is i c budget) [
 
 -- "on a refused sheet every call is refused, and the note stays the opening one": 109 is 9's
 pub every-call-refused : (i : Instance) → valid i ≡ false → (budgets : List ℕ) → AllRefused (values i) 109 budgets
-unfolding search-result refused
+unfolding search-result result-refused
 every-call-refused i v = all-refused (values i) 109 (λ m c. rw v) (λ m c. rw v)

@@ -15,13 +15,13 @@ use Rattle.instance.specs.declared.Packing.{Packing}
 use Rattle.search.specs.Results.{packing-of}
 use Rattle.nodes.specs.Nodes.{Seen}
 use Rattle.nodes.specs.Starts.{start-at, Startable, Started}
-use Rattle.chains.specs.Totals.{table, size-at}
+use Rattle.chains.specs.Totals.{table, measure-at}
 use Rattle.search.proofs.Packing.{plan-is}
 use Rattle.model.specs.Search as S
 
 -- the totals of a path's domains give its packing
 module _ (p : Problem) (limited : p .items ≤ 10) (path : List Branch) {k : Domains} {rows t : List ℕ} (s : Seen p k rows t path) where
-  size-is : (a u : ℕ) → a < 3 → u < p .items → size-at t a u ≡ p .size a u
+  size-is : (a u : ℕ) → a < 3 → u < p .items → measure-at t a u ≡ p .size a u
   unfolding wide
   size-is a u ha hu = sym (s .rested .measured .size a u ha (omega arith)) ∙ wide-size p a u hu
 

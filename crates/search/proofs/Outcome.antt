@@ -14,9 +14,9 @@ use Rattle.instance.specs.declared.Instance.{Instance}
 use Rattle.instance.specs.declared.Packing.{Packing}
 use Rattle.instance.specs.declared.Status.{Status}
 use Rattle.tree_paths.specs.Checkpoints.{path-of, with-status, well-formed, following, value-of}
-use Rattle.search.specs.Results.{answer-number, answer-of, packing-of, result-of, refused, followed, infeasible-after, spent-after}
+use Rattle.search.specs.Results.{answer-number, answer-of, packing-of, result-of, result-refused, followed, infeasible-after, spent-after}
 use Rattle.search.specs.Results.{packed-after, search-result}
-use Rattle.tree_paths.specs.Standing.{Holds}
+use Rattle.tree_paths.specs.Standing.{PathIn}
 use Rattle.search.specs.declared.answer.SearchResult.{SearchResult}
 use Rattle.search.proofs.Budget.{Comes, rest-start, rest-finished}
 use Rattle.tree_paths.proofs.Checkpoints.{checkpoint-as}
@@ -25,7 +25,7 @@ use Rattle.model.specs.Search as S
 
 -- a call from κ, by whether the checkpoint c that it is of follows
 module _ (p : Problem) (budget : ℕ) (c : Checkpoint) (κ : S.Checkpoint) where
-  pub refused-result : S.follows (look p) κ ≡ false → refused NotFollowing c ≡ followed p budget c κ
+  pub refused-result : S.follows (look p) κ ≡ false → result-refused NotFollowing c ≡ followed p budget c κ
   refused-result e = rw e
 
   -- a finished checkpoint repeats its answer
@@ -34,14 +34,14 @@ module _ (p : Problem) (budget : ℕ) (c : Checkpoint) (κ : S.Checkpoint) where
 
   module _ (follows : S.follows (look p) κ ≡ true) where
     comes : {t : ℕ} {μ : S.Checkpoint} → Comes (look p) budget κ t μ
-        → result-of p (record { answer = C.answer (machine p) (plan-at p) μ; steps = t; checkpoint = μ }) ≡ followed p budget c κ
+        → result-of p (record { answer = C.answer-at (machine p) (plan-at p) μ; steps = t; checkpoint = μ }) ≡ followed p budget c κ
     comes γ = rw (follows, γ .checkpoint, γ .count)
 
     pub comes-infeasible : {t : ℕ} → Comes (look p) budget κ t S.infeasible → infeasible-after t ≡ followed p budget c κ
     unfolding infeasible-after result-of value-of
     comes-infeasible γ = comes γ
 
-    module _ {t n : ℕ} {path : List Branch} {bs : List ℕ} (h : Holds path bs n) where
+    module _ {t n : ℕ} {path : List Branch} {bs : List ℕ} (h : PathIn path bs n) where
       pub comes-spent : Comes (look p) budget κ t (S.open-at path) → spent-after t bs n ≡ followed p budget c κ
       unfolding spent-after result-of value-of
       comes-spent γ = rw (h .many, h .values) (comes γ)
@@ -72,17 +72,17 @@ module _ (p : Problem) (c : Checkpoint) {r : SearchResult}
   abbrev none-taken : SearchResult → SearchResult
   none-taken s = record { answer = s .answer; steps = 0; checkpoint = s .checkpoint; packing = s .packing }
 
-  back-not : (l : List Branch) → answer-number (answer-of (C.answer (machine p) (plan-at p) (S.backtrack l))) ≡ 1 → ⊥
+  back-not : (l : List Branch) → answer-number (answer-of (C.answer-at (machine p) (plan-at p) (S.backtrack l))) ≡ 1 → ⊥
   back-not [] e = omega arith
   back-not (first ∷ l) e = omega arith
   back-not (second ∷ l) e = back-not l e
 
-  again : ((answer-number (r .answer) ≡ 1) × Packed (none-taken r)) ⊎ ((answer-number (r .answer) ≡ 1 → ⊥) × Packed (refused NotFollowing c))
-  unfolding refused result-of
+  again : ((answer-number (r .answer) ≡ 1) × Packed (none-taken r)) ⊎ ((answer-number (r .answer) ≡ 1 → ⊥) × Packed (result-refused NotFollowing c))
+  unfolding result-refused result-of
   again = go (S.forking (look p) path) (look p path) refl refl
     where
       go : (f : Bool) (o : S.Outlook) → S.forking (look p) path ≡ f → look p path ≡ o
-          → ((answer-number (r .answer) ≡ 1) × Packed (none-taken r)) ⊎ ((answer-number (r .answer) ≡ 1 → ⊥) × Packed (refused NotFollowing c))
+          → ((answer-number (r .answer) ≡ 1) × Packed (none-taken r)) ⊎ ((answer-number (r .answer) ≡ 1 → ⊥) × Packed (result-refused NotFollowing c))
       go false o f e = inr ((λ n. let q = rw f at is in omega (arith, ap (λ (x : SearchResult). answer-number (x .answer)) q)), rw f)
       go true S.conflict f e = inr ((λ n. let q = rw (f, e) at is in back-not path (rw q at n)), rw (f, e))
       go true S.fork f e = inr ((λ n. let q = rw (f, e) at is in let m = rw q at n in omega arith), rw (f, e))
@@ -93,7 +93,7 @@ module _ (p : Problem) (c : Checkpoint) {r : SearchResult}
   pub again-packed : answer-number (r .answer) ≡ 1 → Packed (none-taken r)
   again-packed n = elim again [ inl (m, e) ↦ e | inr (h, e) ↦ absurd (h n) ]
 
-  pub again-refused : (answer-number (r .answer) ≡ 1 → ⊥) → Packed (refused NotFollowing c)
+  pub again-refused : (answer-number (r .answer) ≡ 1 → ⊥) → Packed (result-refused NotFollowing c)
   again-refused h = elim again [ inl (n, e) ↦ absurd (h n) | inr (g, e) ↦ e ]
 
 -- A call on a well-formed checkpoint, by its status

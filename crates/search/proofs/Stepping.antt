@@ -8,8 +8,8 @@ use Rattle.refusal.specs.declared.Refusal.the-variants.{NotFollowing}
 use Rattle.instance.specs.declared.Checkpoint.{Checkpoint}
 use Rattle.instance.specs.declared.Packing.{Packing}
 use Rattle.tree_paths.specs.Checkpoints.{branch-of, path-of, branches-of}
-use Rattle.search.specs.Results.{packing-of, refused, followed, infeasible-after, spent-after, packed-after}
-use Rattle.tree_paths.specs.Standing.{Holds}
+use Rattle.search.specs.Results.{packing-of, result-refused, followed, infeasible-after, spent-after, packed-after}
+use Rattle.tree_paths.specs.Standing.{PathIn}
 use Rattle.search.specs.declared.answer.SearchResult.{SearchResult}
 use Rattle.search.proofs.Budget.{Rest, rest-start, rest-next, rest-finished, rest-spent}
 use Rattle.tree_paths.proofs.Checkpoints.{path-length, path-next, branch-back, branches-past, branches-small, first-held, again-at}
@@ -78,7 +78,7 @@ module _ {p : Problem} {budget : ℕ} {given : List ℕ} {n : ℕ} where
 
     -- the last first branch becomes second
     pub way-back : n ≤ looks → looks < n + budget → look p path ≡ S.conflict → (τ : Turn p path) → {cs : List ℕ} {left : ℕ}
-        → Holds (second ∷ τ .to) cs left → Way p budget given n (looks + 1) (second ∷ τ .to) cs
+        → PathIn (second ∷ τ .to) cs left → Way p budget given n (looks + 1) (second ∷ τ .to) cs
     way-back h l e τ δ = record {
       early = λ d. absurd (omega arith);
       late = λ _. record { start-forks = ω .late h .start-forks; rest = rw (τ .back) at (steps-on h l e); held = δ .values };
@@ -94,14 +94,14 @@ module _ (c : Checkpoint) {p : Problem} {budget looks : ℕ} {path : List Branch
   κ = S.open-at (path-of (c .length) (c .branches))
 
   -- a beginning that is no branching point
-  pub not-following : looks < c .length → S.is-fork (look p path) ≡ false → Result (refused NotFollowing c)
+  pub not-following : looks < c .length → S.is-fork (look p path) ≡ false → Result (result-refused NotFollowing c)
   not-following h e = refused-result p budget c κ (forking-fails (look p) (c .branches) looks (c .length) h (rw (ω .early h .0) at e))
 
   module _ (h : c .length ≤ looks) where
     follows : S.follows (look p) κ ≡ true
     follows = forking-so (look p) (path-of (c .length) (c .branches)) .1 (ω .late h .start-forks)
 
-    held : {depth : ℕ} → depth ≡ length path → Holds path bs depth
+    held : {depth : ℕ} → depth ≡ length path → PathIn path bs depth
     held d = record { many = d; values = ω .late h .held }
 
     -- "if none is left, the note is none with an empty row"

@@ -60,8 +60,8 @@ result-of p r = record {
 }
 
 -- "a refused search hands its note back with 0 steps"
-unfoldable pub refused : Refusal → Checkpoint → SearchResult
-refused e c = record { answer = Refused e; steps = 0; checkpoint = c; packing = origin-packing }
+unfoldable pub result-refused : Refusal → Checkpoint → SearchResult
+result-refused e c = record { answer = Refused e; steps = 0; checkpoint = c; packing = origin-packing }
 
 -- the results of a call that is not refused, as the code makes them
 unfoldable pub infeasible-after : ℕ → SearchResult
@@ -78,7 +78,7 @@ packed-after m bs n q =
 -- 10: "a note that doesn't follow its sheet"; κ is what the checkpoint c holds
 abbrev pub followed-if : Bool → Problem → ℕ → Checkpoint → S.Checkpoint → SearchResult
 followed-if true p budget c κ = result-of p (R.search p budget κ)
-followed-if false p budget c κ = refused NotFollowing c
+followed-if false p budget c κ = result-refused NotFollowing c
 
 abbrev pub followed : Problem → ℕ → Checkpoint → S.Checkpoint → SearchResult
 followed p budget c κ = followed-if (S.follows (R.look p) κ) p budget c κ
@@ -86,7 +86,7 @@ followed p budget c κ = followed-if (S.follows (R.look p) κ) p budget c κ
 -- "9 is tested before .. 10"
 abbrev pub result-if : Bool → Problem → Checkpoint → ℕ → SearchResult
 result-if true p c budget = followed-if (following p c) p budget c (checkpoint-of c)
-result-if false p c budget = refused InvalidInstance c
+result-if false p c budget = result-refused InvalidInstance c
 
 unfoldable pub search-result : Instance → Checkpoint → ℕ → SearchResult
 search-result i c budget = result-if (valid i) (problem-of i) c budget

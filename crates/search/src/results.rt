@@ -11,7 +11,7 @@ use refusal::Refusal;
 
 // The checkpoint as it came, and nothing else.
 pub fn refused(e: Refusal, checkpoint: Checkpoint) -> SearchResult
-    ensures { λ r. ⌜ r ≡ R.refused e checkpoint ⌝ }
+    ensures { λ r. ⌜ r ≡ R.result-refused e checkpoint ⌝ }
 {
     let packing = Packing::origin();
     SearchResult {

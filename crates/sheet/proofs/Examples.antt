@@ -7,7 +7,7 @@ use Rattle.parts.specs.declared.Size.{Size}
 use Rattle.parts.specs.declared.Item.{Item}
 use Rattle.parts.specs.declared.Precedence.{Precedence}
 use Rattle.sheet.specs.Sheet.{Sheet, sheet}
-use Rattle.sheet.specs.Computing.{computing}
+use Rattle.sheet.specs.Computing.{sheet-computing}
 
 abbrev read : List ℕ → Read Sheet
 read s = run (whole sheet) 0 s
@@ -43,7 +43,7 @@ readings :
     (0x3F ∷ 2 ∷ 1 ∷ 3 ∷ 0 ∷ 4 ∷ 0 ∷ 2 ∷ 0x07 ∷ 5 ∷ 0 ∷ 6 ∷ 0 ∷ 7 ∷ 0 ∷ 0x07 ∷ 8 ∷ 0 ∷ 9 ∷ 0 ∷ 11 ∷ 10
     ∷ 2 ∷ 0 ∷ 1 ∷ 1 ∷ 0 ∷ 12 ∷ 13 ∷ [])
     (sheet-of (size-of 0x0102 3 4) (item-of 5 6 7 ∷ item-of 8 9 0x0A0B ∷ []) (before 0 1 ∷ before 1 0 ∷ []) 0x0D0C)
-unfolding computing
+unfolding sheet-computing
 readings = search
 
 refusals :
@@ -72,5 +72,5 @@ refusals :
     × (read (0x18 ∷ 2 ∷ 0 ∷ 0 ∷ 2 ∷ 1 ∷ 0 ∷ 0 ∷ 1 ∷ []) ≡ refused (NotRising 7))
     -- 7: a byte after the last field
     × (read (0 ∷ 0 ∷ []) ≡ refused (TrailingBytes 1))
-unfolding computing
+unfolding sheet-computing
 refusals = search

@@ -19,11 +19,11 @@ use Rattle.parts.specs.Parts.{number, measure, measures, item-fields, item, pre
 use Rattle.parts.specs.Precedences.{names-items, above, rises}
 use Rattle.parts.specs.Sizes.{no-item}
 use Rattle.sheet.specs.Sheet.{Sheet, max-items, max-precedences, list-of, item-list, precedence-list, sheet-fields, sheet}
-use Rattle.sheet.specs.Places.{two-if, measures-length, byte-at, word-at, precedence-at, has, hall-end, items-on, after-item, item-place}
+use Rattle.sheet.specs.Places.{two-if, measures-length, byte-at, word-at, precedence-at, has, container-end, items-on, after-item, item-place}
 use Rattle.sheet.specs.Places.{items-end, precedences-on, precedence-place, precedences-end, sheet-end}
 use Rattle.sheet.specs.Faults.{MeasureAt, width, depth, shifts, Misnames, Fault, FirstFault, ends-early, unknown-bit, item-unknown-bit}
-use Rattle.sheet.specs.Faults.{hall-measure, item-measure, yard-number, item-count, precedence-count, bad-item, not-rising, trailing-bytes}
-use Rattle.sheet.specs.Told.{size-at, item-at, items-at, sheet-at}
+use Rattle.sheet.specs.Faults.{container-measure, item-measure, yard-number, item-count, precedence-count, bad-item, not-rising, trailing-bytes}
+use Rattle.sheet.specs.Contents.{size-at, item-at, items-at, sheet-at}
 use Rattle.sheet.specs.Sheet as S
 
 -- the tests of a precedence, and what they test
@@ -150,12 +150,12 @@ module _ (s : List ℕ) where
       spans-as s (spans-done s [] at) (λ e. (λ w. absurd w, elim [ inl (f, _) ↦ absurd (false≢true f) | inr (k, l, w) ↦ omega arith ]))
 
   abbrev ItemsFault : Refusal → Type 0
-  ItemsFault e = ((has s 8 ≡ true) × Miscounted s max-items (hall-end s) e) ⊎ ((k : ℕ) × (k < items-on s) × ItemFault (item-place s k) e)
+  ItemsFault e = ((has s 8 ≡ true) × Miscounted s max-items (container-end s) e) ⊎ ((k : ℕ) × (k < items-on s) × ItemFault (item-place s k) e)
 
-  spans-items : Spans s (optional-reading item-list (has s 8)) (hall-end s) (items-at s) (items-end s) ItemsFault
+  spans-items : Spans s (optional-reading item-list (has s 8)) (container-end s) (items-at s) (items-end s) ItemsFault
   unfolding item-list items-on items-end item-place
   spans-items =
-      spans-list max-items (has s 8) (hall-end s) refl (record { known = λ k. refl; each = λ k. spans-untested s item (spans-item (item-place s k)) })
+      spans-list max-items (has s 8) (container-end s) refl (record { known = λ k. refl; each = λ k. spans-untested s item (spans-item (item-place s k)) })
 
   abbrev PrecedencesFault : Refusal → Type 0
   PrecedencesFault e = ((has s 16 ≡ true) × Miscounted s max-precedences (items-end s) e) ⊎ ((k : ℕ) × (k < precedences-on s) × PrecedenceFault k e)
@@ -168,7 +168,7 @@ module _ (s : List ℕ) where
 
   spans-sheet : Spans s (sheet .reading) 0 (sheet-at s) (sheet-end s)
       (λ e. Unknown s 6 0 e ⊎ (LowMeasure 0 e ⊎ (ItemsFault e ⊎ (PrecedencesFault e ⊎ (((has s 32 ≡ true) × Low 0 (precedences-end s) e) ⊎ ⊥)))))
-  unfolding sheet sheet-fields with-map keyed fields fields-reading hall-end sheet-end S.yard-number
+  unfolding sheet sheet-fields with-map keyed fields fields-reading container-end sheet-end S.yard-number
   spans-sheet =
       spans-then s (map-byte 6 .reading) _ (spans-map s 6 0)
       (spans-measures (λ (x : Sheet). x .container) _ 0
@@ -193,7 +193,7 @@ module _ (s : List ℕ) where
   told (inr (l, q)) = rw q (trailing-bytes l)
   told (inl (inr (l, q))) = rw q (ends-early l)
   told (inl (inl (inl (l, c, q)))) = rw q (unknown-bit (omega arith) c)
-  told (inl (inl (inr (inl (p, m, (l, c, q)))))) = rw q (hall-measure p m l c)
+  told (inl (inl (inr (inl (p, m, (l, c, q)))))) = rw q (container-measure p m l c)
   told (inl (inl (inr (inr (inl (inl (t, (l, c, q)))))))) = rw q (item-count t (omega arith) c)
   told (inl (inl (inr (inr (inl (inr (k, l, w))))))) = item-told k l w
   told (inl (inl (inr (inr (inr (inl (inl (t, (l, c, q))))))))) = rw q (precedence-count t (omega arith) c)
@@ -206,7 +206,7 @@ module _ (s : List ℕ) where
   met (ends-early l) = inl (inr (l, refl))
   met (unknown-bit l c) = inl (inl (inl (omega arith, c, refl)))
   met (item-unknown-bit k l a c) = inl (inl (inr (inr (inl (inr (k, l, inl (omega arith, c, refl)))))))
-  met (hall-measure p m l c) = inl (inl (inr (inl (p, m, (l, c, refl)))))
+  met (container-measure p m l c) = inl (inl (inr (inl (p, m, (l, c, refl)))))
   met (item-measure k l p m a c) = inl (inl (inr (inr (inl (inr (k, l, inr (inl (p, m, (a, c, refl)))))))))
   met (yard-number t l q) = inl (inl (inr (inr (inr (inr (inl (t, (l, omega arith, refl))))))))
   met (item-count t l c) = inl (inl (inr (inr (inl (inl (t, (omega arith, c, refl)))))))
@@ -249,8 +249,8 @@ module _ (s : List ℕ) where
   item-inside : (k : ℕ) → k < items-on s → item-place s (suc k) ≤ items-end s
   unfolding items-on items-end
   item-inside k =
-      let n = byte-at s (hall-end s) in
-      elim (has s 8) as (λ bit. k < cond bit n 0 → item-place s (suc k) ≤ cond bit (item-place s (cond bit n 0)) (hall-end s))
+      let n = byte-at s (container-end s) in
+      elim (has s 8) as (λ bit. k < cond bit n 0 → item-place s (suc k) ≤ cond bit (item-place s (cond bit n 0)) (container-end s))
       [ true ↦ item-before n k | false ↦ λ l. absurd (omega arith) ]
 
   module _ {x : Sheet} {at : ℕ} {rest : List ℕ} (h : run (whole sheet) 0 s ≡ got x at rest) where

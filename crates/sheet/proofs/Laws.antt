@@ -1,7 +1,7 @@
 -- The sheet has its laws: what that says of reading and writing.
 use Rattle.prelude.specs.Names.{_≡_, refl, Bool, true, false, not, _&&_, _||_, false≢true, List, [], _∷_, ℕ, arith, eqb, length, eqb-true}
 use Rattle.formats.specs.Reading.{Bytes, got, run}
-use Rattle.formats.specs.Formats.{Format, Test, byte, tested, passes, keyed, count, counted, whole}
+use Rattle.formats.specs.Formats.{Format, Test, byte, tested, passes-all, keyed, count, counted, whole}
 use Rattle.formats.proofs.Laws.{Lawful, both-true, counted-lawful, whole-written-read, whole-read-written}
 use Rattle.formats.proofs.Maps.{OptionalLaws, FieldsLaws, with-map-lawful}
 use Rattle.parts.specs.Parts.{measure, measures}
@@ -19,7 +19,7 @@ module _ {P A : Type 0} (part : Format A) (tests : P → A → List Test) (next 
   some false b h = refl
 
   pub list-laws : (p : P) (limit : ℕ) → OptionalLaws (list-of part tests next p limit)
-  unfolding list-of counted count keyed tested passes byte
+  unfolding list-of counted count keyed tested passes-all byte
   list-laws p limit = record {
     lawful = counted-lawful part tests next φ p limit;
     out = refl;

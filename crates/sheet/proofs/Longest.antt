@@ -12,7 +12,7 @@ use Rattle.parts.proofs.Laws.{number-most, item-most}
 use Rattle.sheet.specs.Sheet.{Sheet, max-items, max-precedences, longest-sheet, list-of, item-list, precedence-list, yard-number, sheet-fields}
 use Rattle.sheet.specs.Sheet.{sheet}
 use Rattle.sheet.proofs.Valid.{sheet-valid}
-use Rattle.sheet.specs.Computing.{computing}
+use Rattle.sheet.specs.Computing.{sheet-computing}
 
 -- parts of at most k bytes each
 module _ {A : Type 0} (part : Format A) (k : ℕ) (most : (x : A) → length (part .bytes x) ≤ k) where
@@ -68,9 +68,9 @@ longest = record {
 }
 
 pub longest-valid : sheet .valid longest ≡ true
-unfolding computing longest
+unfolding sheet-computing longest
 longest-valid = refl
 
 pub longest-length : length (sheet .bytes longest) ≡ longest-sheet
-unfolding computing longest
+unfolding sheet-computing longest
 longest-length = refl

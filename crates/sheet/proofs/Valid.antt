@@ -2,7 +2,7 @@
 use Rattle.prelude.specs.Names.{_≡_, refl, sym, _∙_, Bool, true, false, not, _&&_, and-true, and-false, and-assoc, List, [], _∷_, ℕ, decLe, arith}
 use Rattle.prelude.specs.Names.{leb, ltb, eqb·suc-zero, length, le-leb, lt-leb, lt-ltb, le-ltb}
 use lib.Dec.{leb·zero}
-use Rattle.formats.specs.Formats.{Format, Test, byte, tested, passes, keyed, row-valid, row, count, counted}
+use Rattle.formats.specs.Formats.{Format, Test, byte, tested, passes-all, keyed, row-valid, row, count, counted}
 use Rattle.formats.specs.Fields.{optional-valid, fields-valid}
 use Rattle.formats.proofs.Maps.{with-map-valid}
 use Rattle.parts.specs.declared.Item.{Item}
@@ -10,7 +10,7 @@ use Rattle.parts.specs.declared.Precedence.{Precedence}
 use Rattle.parts.specs.declared.Previous.{Previous}
 use Rattle.parts.specs.declared.Previous.the-variants.{Nothing, Was}
 use Rattle.parts.specs.Sizes.{positive, all-have-size}
-use Rattle.parts.specs.Precedences.{all-stand}
+use Rattle.parts.specs.Precedences.{all-allowed}
 use Rattle.parts.specs.Parts.{measure, measures, item, precedence, precedence-tests}
 use Rattle.parts.proofs.Laws.{number-valid, item-valid, precedence-valid}
 use Rattle.sheet.specs.Sheet.{Sheet, max-items, max-precedences, list-of, item-list, precedence-list, yard-number, sheet-fields, sheet}
@@ -23,18 +23,18 @@ not-above a b = elim (decLe b a)
 -- a list has at most so many parts, each as its row asks
 pub list-valid : {P A : Type 0} (part : Format A) (tests : P → A → List Test) (next : P → A → P) (p : P) (limit : ℕ) (xs : List A)
     → optional-valid (list-of part tests next p limit) xs ≡ (leb (length xs) limit && row-valid part tests next p (length xs) xs)
-unfolding optional-valid list-of counted count keyed tested passes byte row row-valid
+unfolding optional-valid list-of counted count keyed tested passes-all byte row row-valid
 list-valid part tests next p limit [] = rw leb·zero
 list-valid part tests next p limit (x ∷ xs) = simp (eqb·suc-zero, not-above, and-true)
 
 items-valid : (is : List Item) → row-valid item (λ (_ : Unit {0}) _. []) (λ p _. p) tt (length is) is ≡ all-have-size is
-unfolding row-valid all-have-size tested passes
+unfolding row-valid all-have-size tested passes-all
 items-valid [] = refl
 items-valid (i ∷ is) = rw (item-valid i, items-valid is, and-true)
 
 precedences-valid : (n : ℕ) (os : List Precedence) (last : Previous)
-    → row-valid precedence (precedence-tests n) (λ _ o. Was o) last (length os) os ≡ all-stand n last os
-unfolding row-valid all-stand
+    → row-valid precedence (precedence-tests n) (λ _ o. Was o) last (length os) os ≡ all-allowed n last os
+unfolding row-valid all-allowed
 precedences-valid n [] last = refl
 precedences-valid n (o ∷ os) last = rw (precedence-valid n last o, precedences-valid n os (Was o))
 
@@ -45,7 +45,7 @@ and-left-comm false b c = sym (and-false b)
 -- not "over 10 pieces, over 90 orders, a measure 0, or an order that would get 5 or 6"
 pub sheet-valid : (x : Sheet) → sheet .valid x
     ≡ (leb (length (x .items)) max-items && (leb (length (x .precedences)) max-precedences
-    && (positive (x .container) && (all-have-size (x .items) && all-stand (length (x .items)) Nothing (x .precedences)))))
+    && (positive (x .container) && (all-have-size (x .items) && all-allowed (length (x .items)) Nothing (x .precedences)))))
 unfolding sheet sheet-fields measures measure item-list precedence-list yard-number fields-valid positive
 sheet-valid x =
     with-map-valid sheet-fields x

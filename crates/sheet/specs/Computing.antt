@@ -1,16 +1,16 @@
--- To compute with a sheet and its bytes: `unfolding computing` opens all that reading and writing go through.
+-- To compute with a sheet and its bytes: `unfolding sheet-computing` opens all that reading and writing go through.
 use Rattle.formats.specs.Reading.{run, _>>=_}
-use Rattle.formats.specs.Formats.{byte, word, pair, converted, testing, passes, tested, keyed, row-reading, row-bytes, row-valid, row, count, counted}
+use Rattle.formats.specs.Formats.{byte, word, pair, converted, testing, passes-all, tested, keyed, row-reading, row-bytes, row-valid, row, count, counted}
 use Rattle.formats.specs.Formats.{whole}
 use Rattle.formats.specs.Fields.{optional-bytes, optional-valid, flag, flags, fields-reading, fields-bytes, fields-valid, fields, map-byte, with-map}
 use Rattle.parts.specs.Precedences.{names-items, above}
 use Rattle.parts.specs.Parts.{number, measure, measures, item-fields, item, precedence}
 use Rattle.sheet.specs.Sheet.{list-of, item-list, precedence-list, yard-number, sheet-fields, sheet}
 
-unfoldable pub computing : Unit {0}
-unfolding run _>>=_ byte word pair converted testing passes tested keyed
+unfoldable pub sheet-computing : Unit {0}
+unfolding run _>>=_ byte word pair converted testing passes-all tested keyed
     row-reading row-bytes row-valid row count counted whole
     optional-bytes optional-valid flag flags fields-reading fields-bytes fields-valid fields map-byte with-map
     names-items above number measure measures item-fields item precedence
     list-of item-list precedence-list yard-number sheet-fields sheet
-computing = tt
+sheet-computing = tt

@@ -6,7 +6,7 @@ use Rattle.refusal.specs.declared.Refusal.the-variants.{EndsEarly, UnknownBit, 
 use Rattle.formats.specs.Reading.{Before}
 use Rattle.formats.specs.Fields.{is-set}
 use Rattle.sheet.specs.Sheet.{max-items, max-precedences}
-use Rattle.sheet.specs.Places.{two-if, byte-at, word-at, has, hall-end, items-on, item-place, items-end, precedences-on, precedence-place}
+use Rattle.sheet.specs.Places.{two-if, byte-at, word-at, has, container-end, items-on, item-place, items-end, precedences-on, precedence-place}
 use Rattle.sheet.specs.Places.{precedences-end, sheet-end}
 
 module _ (s : List ℕ) where
@@ -36,13 +36,13 @@ module _ (s : List ℕ) where
     item-unknown-bit : (k : ℕ) → k < items-on s → item-place s k < length s → 8 ≤ byte-at s (item-place s k)
         → Fault (UnknownBit (item-place s k))
     -- 3: "a written measure of 0 or 1, or yard number 0"; place: "of the field"
-    hall-measure : (p : ℕ) → MeasureAt 0 p → p + 2 ≤ length s → word-at s p ≤ 1 → Fault (WrittenDefault p)
+    container-measure : (p : ℕ) → MeasureAt 0 p → p + 2 ≤ length s → word-at s p ≤ 1 → Fault (WrittenDefault p)
     item-measure : (k : ℕ) → k < items-on s → (p : ℕ) → MeasureAt (item-place s k) p → p + 2 ≤ length s → word-at s p ≤ 1
         → Fault (WrittenDefault p)
     yard-number : has s 32 ≡ true → precedences-end s + 2 ≤ length s → word-at s (precedences-end s) ≡ 0
         → Fault (WrittenDefault (precedences-end s))
     -- 4: "count 0, over 10 pieces, over 90 orders"; place: "of the count"
-    item-count : has s 8 ≡ true → hall-end s < length s → Miscounts max-items (hall-end s) → Fault (BadCount (hall-end s))
+    item-count : has s 8 ≡ true → container-end s < length s → Miscounts max-items (container-end s) → Fault (BadCount (container-end s))
     precedence-count : has s 16 ≡ true → items-end s < length s → Miscounts max-precedences (items-end s)
         → Fault (BadCount (items-end s))
     -- 5: "a piece not on the sheet, or u = v in an order"; place: "of the order"

@@ -1,5 +1,5 @@
 pub mod Sheet
 pub mod Computing
 pub mod Places
-pub mod Told
+pub mod Contents
 pub mod Faults

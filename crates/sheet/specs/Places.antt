@@ -28,12 +28,12 @@ module _ (s : List ℕ) where
   has weight = is-set (byte-at 0) weight
 
   -- the place after the hall's measures: of the count of pieces, where they stand
-  unfoldable pub hall-end : ℕ
-  hall-end = 1 + measures-length (byte-at 0)
+  unfoldable pub container-end : ℕ
+  container-end = 1 + measures-length (byte-at 0)
 
   -- how many pieces are on the sheet
   unfoldable pub items-on : ℕ
-  items-on = cond (has 8) (byte-at hall-end) 0
+  items-on = cond (has 8) (byte-at container-end) 0
 
   -- the place after the piece at p: "a map byte and its standing fields"
   unfoldable pub after-item : ℕ → ℕ
@@ -41,12 +41,12 @@ module _ (s : List ℕ) where
 
   -- the place of piece k: "after the piece before"
   unfoldable pub item-place : ℕ → ℕ
-  item-place zero = hall-end + 1
+  item-place zero = container-end + 1
   item-place (suc k) = after-item (item-place k)
 
   -- the place after the pieces: of the count of orders, where they stand
   unfoldable pub items-end : ℕ
-  items-end = cond (has 8) (item-place items-on) hall-end
+  items-end = cond (has 8) (item-place items-on) container-end
 
   -- how many orders are on the sheet
   unfoldable pub precedences-on : ℕ

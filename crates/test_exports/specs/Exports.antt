@@ -46,5 +46,5 @@ abbrev pub cleared-values : List ℕ → List ℕ → ℕ → ℕ → ℕ → �
 cleared-values value plan u v a = clearance-values (clearance-answer (instance-in value) (packing-at plan 0) u v a)
 
 -- byte i, 256 past the end
-unfoldable pub byte-at : List ℕ → ℕ → ℕ
-byte-at s i = cond (ltb i (length s)) (getD s i 0) 256
+unfoldable pub record-byte : List ℕ → ℕ → ℕ
+record-byte s i = cond (ltb i (length s)) (getD s i 0) 256

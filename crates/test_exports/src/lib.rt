@@ -7,7 +7,7 @@ ghost use Rattle.packing.specs.Clearance.{clearance-answer};
 ghost use Rattle.writer.specs.Answers.{written-room};
 ghost use Rattle.item_record.specs.Record.{item-record, item-record-code};
 ghost use Rattle.test_values.specs.Values.{instance-in, packing-at};
-ghost use Rattle.test_exports.specs.Exports.{number-in, place-in, length-in, clearance-in, sheet-values, rewrite-length, rewrite-room, written-values, cleared-values, byte-at};
+ghost use Rattle.test_exports.specs.Exports.{number-in, place-in, length-in, clearance-in, sheet-values, rewrite-length, rewrite-room, written-values, cleared-values, record-byte};
 use instance::Instance;
 use instance::ReadAnswer;
 use packing::ClearanceAnswer;
@@ -92,7 +92,7 @@ pub extern "C" fn exports_record_place(sheet: &[u8], k: usize) -> usize
 // Byte i of item k's record; 256 past its end.
 #[no_mangle]
 pub extern "C" fn exports_record_byte(sheet: &[u8], k: usize, i: usize) -> u32
-    ensures { λ r. ⌜ r ≡ byte-at (item-record (now (sheet .entry)) k) i ⌝ }
+    ensures { λ r. ⌜ r ≡ record-byte (item-record (now (sheet .entry)) k) i ⌝ }
 {
     let record = item_record::item_record(sheet, k);
     if record.len() <= i {

@@ -4,7 +4,8 @@ ghost use mathlib.Core.Path.{_≡_};
 ghost use Prim.Native.Nat.{_+_, _*_, _<_};
 ghost use lib.ListN.{getD};
 ghost use Rattle.sheet.specs.Sheet.{max-items, max-precedences};
-ghost use Rattle.test_values.specs.Values.{table, word-at, four-at, number-at, size-at, item-at, precedence-at, position-at, instance-in, packing-at};
+ghost use Rattle.sheet.specs.Places.{word-at, precedence-at};
+ghost use Rattle.test_values.specs.Values.{tabulate, four-at, number-at, size-in, item-in, position-in, instance-in, packing-at};
 use instance::Instance;
 use instance::Packing;
 use instance::Position;
@@ -63,7 +64,7 @@ pub fn number_at(s: &[u8], at: usize) -> usize
 
 fn size_at(s: &[u8], at: usize) -> Size
     requires { ⌜ at < 1000 ⌝ }
-    ensures { λ r. ⌜ r ≡ size-at (now (s .entry)) at ⌝ }
+    ensures { λ r. ⌜ r ≡ size-in (now (s .entry)) at ⌝ }
 {
     let width = word_at(s, at);
     let depth = word_at(s, at + 2);
@@ -77,7 +78,7 @@ fn size_at(s: &[u8], at: usize) -> Size
 
 fn position_at(s: &[u8], at: usize) -> Position
     requires { ⌜ at < 1000 ⌝ }
-    ensures { λ r. ⌜ r ≡ position-at (now (s .entry)) at ⌝ }
+    ensures { λ r. ⌜ r ≡ position-in (now (s .entry)) at ⌝ }
 {
     let x = word_at(s, at);
     let y = word_at(s, at + 2);
@@ -98,7 +99,7 @@ fn precedence_at(s: &[u8], at: usize) -> Precedence
 }
 
 fn items_in(s: &[u8]) -> [Item; Instance::MAX_ITEMS]
-    ensures { λ r. ⌜ r ≡ table max-items (λ i. item-at (now (s .entry)) (14 + 6 * i)) ⌝ }
+    ensures { λ r. ⌜ r ≡ tabulate max-items (λ i. item-in (now (s .entry)) (14 + 6 * i)) ⌝ }
 {
     let size = Size {
         width: 0,
@@ -116,7 +117,7 @@ fn items_in(s: &[u8]) -> [Item; Instance::MAX_ITEMS]
 }
 
 fn precedences_in(s: &[u8]) -> [Precedence; Instance::MAX_PRECEDENCES]
-    ensures { λ r. ⌜ r ≡ table max-precedences (λ i. precedence-at (now (s .entry)) (82 + 2 * i)) ⌝ }
+    ensures { λ r. ⌜ r ≡ tabulate max-precedences (λ i. precedence-at (now (s .entry)) (82 + 2 * i)) ⌝ }
 {
     let none = Precedence {
         predecessor: 0,

@@ -11,7 +11,7 @@ use Rattle.instance.specs.declared.Status.{Status}
 use Rattle.instance.specs.declared.Status.the-variants.{Open, Infeasible, Packed}
 use Rattle.tree_paths.specs.Checkpoints.{branch-of, branch-number, path-of, with-status, checkpoint-of, length-allowed, all-branches, well-formed}
 use Rattle.tree_paths.specs.Checkpoints.{Bits, branches-of, value-of}
-use Rattle.tree_paths.specs.Standing.{Holds, Backed, some-left, none-left}
+use Rattle.tree_paths.specs.Standing.{PathIn, Backed, some-left, none-left}
 use Rattle.model.specs.Search as S
 
 -- a branch and its number
@@ -162,10 +162,10 @@ module _ (n : ℕ) (bs : List ℕ) (long : length bs ≡ 270) (β : Bits n bs) (
 
 -- The array of a path within a call
 
-pub holds-root : Holds [] (branches-of []) 0
+pub holds-root : PathIn [] (branches-of []) 0
 holds-root = record { many = refl; values = refl }
 
-pub holds-next : {path : List Branch} {bs : List ℕ} {n : ℕ} (b : Branch) → Holds path bs n → Holds (b ∷ path) (set bs n (branch-number b)) (n + 1)
+pub holds-next : {path : List Branch} {bs : List ℕ} {n : ℕ} (b : Branch) → PathIn path bs n → PathIn (b ∷ path) (set bs n (branch-number b)) (n + 1)
 unfolding branches-of
 holds-next b h = record { many = omega (arith, h .many); values = rw (h .many, h .values) }
 
@@ -175,19 +175,19 @@ path-next n bs = rw add-one
 
 -- the last branch of a path: a first one is turned, a second one dropped
 module _ {path : List Branch} {bs : List ℕ} {n : ℕ} where
-  last-number : {b : Branch} → Holds (b ∷ path) bs n → n ≤ 270 → getD bs (n - 1) 0 ≡ branch-number b
+  last-number : {b : Branch} → PathIn (b ∷ path) bs n → n ≤ 270 → getD bs (n - 1) 0 ≡ branch-number b
   unfolding branches-of
   last-number {b} h l =
       let e : n - 1 ≡ length path = omega (arith, h .many) in
       rw (e, h .values) (getD-set-same (branches-of path) (length path) (branch-number b) 0 (omega (arith, h .many, branches-length path)))
 
-  turned : Holds (first ∷ path) bs n → Holds (second ∷ path) (set bs (n - 1) 1) n
+  turned : PathIn (first ∷ path) bs n → PathIn (second ∷ path) (set bs (n - 1) 1) n
   unfolding branches-of
   turned h =
       let e : n - 1 ≡ length path = omega (arith, h .many) in
       record { many = h .many; values = rw (e, h .values, set-set) }
 
-  dropped : Holds (second ∷ path) bs n → Holds path (set bs (n - 1) 0) (n - 1)
+  dropped : PathIn (second ∷ path) bs n → PathIn path (set bs (n - 1) 0) (n - 1)
   unfolding branches-of
   dropped h =
       let e : n - 1 ≡ length path = omega (arith, h .many) in
@@ -195,18 +195,18 @@ module _ {path : List Branch} {bs : List ℕ} {n : ℕ} where
 
 module _ {bs : List ℕ} {n : ℕ} where
   -- a last branch 0 is turned; any other is dropped; none is left to turn
-  pub back-turned : (path : List Branch) → Holds path bs n → 0 < n → n ≤ 270 → getD bs (n - 1) 0 ≡ 0 → Backed (S.backtrack path) (set bs (n - 1) 1) n
+  pub back-turned : (path : List Branch) → PathIn path bs n → 0 < n → n ≤ 270 → getD bs (n - 1) 0 ≡ 0 → Backed (S.backtrack path) (set bs (n - 1) 1) n
   back-turned [] h g l e = absurd (omega (arith, h .many))
   back-turned (first ∷ path) h g l e = some-left (turned h)
   back-turned (second ∷ path) h g l e = absurd (omega (arith, last-number h l))
 
-  pub back-dropped : (path : List Branch) → Holds path bs n → 0 < n → n ≤ 270 → (getD bs (n - 1) 0 ≡ 0 → ⊥)
-      → (rest : List Branch) × Holds rest (set bs (n - 1) 0) (n - 1) × (S.backtrack path ≡ S.backtrack rest)
+  pub back-dropped : (path : List Branch) → PathIn path bs n → 0 < n → n ≤ 270 → (getD bs (n - 1) 0 ≡ 0 → ⊥)
+      → (rest : List Branch) × PathIn rest (set bs (n - 1) 0) (n - 1) × (S.backtrack path ≡ S.backtrack rest)
   back-dropped [] h g l f = absurd (omega (arith, h .many))
   back-dropped (first ∷ path) h g l f = absurd (f (last-number h l))
   back-dropped (second ∷ path) h g l f = (path, dropped h, refl)
 
-  pub back-none : (path : List Branch) → Holds path bs n → n ≡ 0 → Backed (S.backtrack path) bs 0
+  pub back-none : (path : List Branch) → PathIn path bs n → n ≡ 0 → Backed (S.backtrack path) bs 0
   back-none [] h e = none-left
   back-none (b ∷ path) h e = absurd (omega (arith, h .many))
 

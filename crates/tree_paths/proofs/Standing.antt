@@ -18,9 +18,9 @@ use Rattle.model.specs.Turns.{saved, Passed, choice-number}
 use Rattle.tree_paths.specs.Checkpoints.{branch-of}
 use Rattle.nodes.specs.Choice.{branch-by, Branchable, Branched}
 use Rattle.nodes.specs.Levels.{Stored, Loaded}
-use Rattle.domains.specs.Queue.{max-queue, code}
+use Rattle.domains.specs.Queue.{max-queue, pair-code}
 use Rattle.nodes.specs.Nodes.{slot-of, slot-coded, At, Seen}
-use Rattle.tree_paths.specs.Standing.{Kept, Stacked, Holds, Backed, some-left, none-left}
+use Rattle.tree_paths.specs.Standing.{Kept, Stacked, PathIn, Backed, some-left, none-left}
 use Rattle.chains.specs.Totals.{SameMeasures}
 use Rattle.domains.specs.declared.Place.{Place}
 use Rattle.nodes.proofs.Branches.{branchable, branch-at-path}
@@ -66,9 +66,9 @@ whole-is : (n : ℕ) (l : List ℕ) {a : List ℕ} → length l ≡ n → take n
 whole-is n l h e = sym (take-all n l (omega arith)) ∙ e
 
 -- a place comes back from its number
-pub coded-back : {n : ℕ} (c : Place) → n ≤ 10 → Rising n (c .axis) (c .u) (c .v) → slot-of c ≡ slot-coded (code (c .axis) (c .u) (c .v))
+pub coded-back : {n : ℕ} (c : Place) → n ≤ 10 → Rising n (c .axis) (c .u) (c .v) → slot-of c ≡ slot-coded (pair-code (c .axis) (c .u) (c .v))
 coded-back c limited r =
-    let x = code (c .axis) (c .u) (c .v) in
+    let x = pair-code (c .axis) (c .u) (c .v) in
     let a : c .axis ≡ x / 256 = omega arith in
     let u : c .u ≡ x / 16 % 16 = omega arith in
     let v : c .v ≡ x % 16 = omega arith in
@@ -116,7 +116,7 @@ module _ {p : Problem} (sound : Sound p) {k₀ : Domains} {rows₀ q₀ t₀ kd 
             stacked-below l (omega arith) (s .1),
           )
 
-      module _ (κ : Seen p k rows t path) (e : choice (path-domains p path) ≡ slot-of c) (coded : x ≡ code (c .axis) (c .u) (c .v)) where
+      module _ (κ : Seen p k rows t path) (e : choice (path-domains p path) ≡ slot-of c) (coded : x ≡ pair-code (c .axis) (c .u) (c .v)) where
         kept-here : Kept p kd′ kr′ kt′ (set places kept x) (drop 60 t) kept path
         kept-here =
             let whole = take-all 135 k (omega (arith, κ .rested .laid .well-formed .long)) in
@@ -169,10 +169,10 @@ turn p (second ∷ path) f = elim (turn p path (f .1)) [
 
 -- by how many branches are left of the path
 module _ (p : Problem) (path : List Branch) (forks : S.Forking (look p) path) {cs : List ℕ} {left : ℕ} (δ : Backed (S.backtrack path) cs left) where
-  pub turn-held : (τ : Turn p path) → Holds (second ∷ τ .to) cs left
+  pub turn-held : (τ : Turn p path) → PathIn (second ∷ τ .to) cs left
   turn-held τ = held (rw (τ .back) at δ)
     where
-      held : {l : List Branch} → Backed (S.open-at l) cs left → Holds l cs left
+      held : {l : List Branch} → Backed (S.open-at l) cs left → PathIn l cs left
       held (some-left h) = h
 
   pub turn-none : left ≡ 0 → S.backtrack path ≡ S.infeasible

@@ -36,11 +36,11 @@ Stacked p domains rows totals places m (path ∷ l) =
     Kept p domains rows totals places m (length l) path × Stacked p domains rows totals places m l
 
 -- the branches of a path in an array, and how many they are
-pub record Holds (path : List Branch) (bs : List ℕ) (n : ℕ) : Type 0 where
+pub record PathIn (path : List Branch) (bs : List ℕ) (n : ℕ) : Type 0 where
   pub many : n ≡ length path
   pub values : bs ≡ branches-of path
 
 -- what the step back comes to: branches in the array, or none left
 pub data Backed : S.Checkpoint → List ℕ → ℕ → Type 0 where
-  some-left : {path : List Branch} {bs : List ℕ} {n : ℕ} → Holds path bs n → Backed (S.open-at path) bs n
+  some-left : {path : List Branch} {bs : List ℕ} {n : ℕ} → PathIn path bs n → Backed (S.open-at path) bs n
   none-left : {bs : List ℕ} → Backed S.infeasible bs 0

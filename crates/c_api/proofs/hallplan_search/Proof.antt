@@ -4,7 +4,7 @@ use Rattle.formats.specs.Reading.{Bytes}
 use Rattle.instance.specs.Sheets.{decode}
 use Rattle.instance.proofs.RoundTrips.{read-valid}
 use Rattle.instance.proofs.Readings.{was-read, was-refused}
-use Rattle.search.specs.Results.{refused}
+use Rattle.search.specs.Results.{result-refused}
 use Rattle.c_api.specs.Calls.{search-call}
 use Rattle.c_api.proofs.hallplan_search.Tie as tie
 
@@ -19,7 +19,7 @@ search-instance-requires c κs =
     read-valid s (w .was) (λ k. omega (arith, c .before .before .before .before .before .before .before .before .before .before .shared-slice-known .given k))
 
 returns : tie.Need-returns
-unfolding search-call refused
+unfolding search-call result-refused
 returns c =
     let s = c .before .before .before .before .before .before .before .before .before .before .args .sheet .now in
     rw (was-refused (decode s) (c .before .before .before .before .before .read .result) (c .before .before .before .before .before .read .ensures) (c .before .before .answer .given .1)) (c .refusal-code .ensures, (refl, (refl, (refl, are-bytes (c .before .before .before .before .before .before .before .before)))))

@@ -2,7 +2,7 @@
 use Rattle.prelude.specs.Names.{_≡_, refl, sym, ap, _∙_, length, not-true, not-false, true, needs}
 use Rattle.instance.proofs.Sheets.{valid-says}
 use Rattle.instance.proofs.Arrays.{length-mapped}
-use Rattle.search.specs.Results.{refused, search-result}
+use Rattle.search.specs.Results.{result-refused, search-result}
 use Rattle.instance.specs.declared.Checkpoint.{Checkpoint}
 use Rattle.c_api.specs.Notes.{Lengths}
 use Rattle.c_api.proofs.Outcomes.{lengths-so, wrong-lengths, no-checkpoint, as-searched, path-fits}
@@ -24,14 +24,14 @@ right c =
     lengths-so (a .instance) (a .note .now) (a .steps .now) (a .plan .now) .0 (fit c)
 
 returns : tie.Need-returns
-unfolding refused
+unfolding result-refused
 returns c =
     let a = c .before .before .before .before .before .before .args in
     let l = sym (c .before .before .lengths-fit .ensures) ∙ not-true _ (c .before .if1 .taken) in
     rw (wrong-lengths (a .instance) (a .note .now) (a .allowance) _ _ l) (c .refusal-code .ensures, (refl, (refl, refl)))
 
 returns-2 : tie.Need-returns-2
-unfolding refused
+unfolding result-refused
 returns-2 c =
     let a = c .before .before .before .before .before .before .before .before .before .args in
     let k = sym (c .before .before .is-checkpoint .ensures) ∙ not-true _ (c .before .if2 .taken) in

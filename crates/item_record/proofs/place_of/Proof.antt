@@ -1,6 +1,6 @@
 -- `item_record::place_of` meets its contract.
 use Rattle.prelude.specs.Names.{needs, add-one, arith, _≡_, _≤_, _-_}
-use Rattle.sheet.specs.Places.{hall-end, item-place}
+use Rattle.sheet.specs.Places.{container-end, item-place}
 use Rattle.sheet.proofs.Faults.{item-before}
 use Rattle.item_record.proofs.Records.{place-positive}
 use Rattle.item_record.proofs.place_of.Tie as tie
@@ -12,7 +12,7 @@ abbrev μ-loop : tie.MeasureT-loop
 μ-loop bytes k place₀ i₀ place i = k - i
 
 pub place-of-spec : {M : Type 1} → Rattle.item_record.proofs.place_of.Statement.statement M
-unfolding hall-end item-place
+unfolding container-end item-place
 place-of-spec = tie.close (tie.spec Inv-loop μ-loop (λ c. let a = c .before .before .args in omega (arith, place-positive (a .bytes .now) (a .k)))
     (λ c κs. search needs) (λ c. search needs) (λ c. omega arith)
     (λ c κs. let l = c .before .loop in let a = c .before .before .before .before .before .args in

@@ -3,17 +3,17 @@ use Rattle.prelude.specs.Names.{needs, not-true, not-false, arith, _-_, _≤_, 
 use Rattle.formats.proofs.Entries.{part-next, part-done}
 use Rattle.parts.specs.declared.Previous.the-variants.{Nothing}
 use Rattle.parts.specs.Sizes.{no-precedence}
-use Rattle.parts.specs.Precedences.{all-stand}
+use Rattle.parts.specs.Precedences.{all-allowed}
 use Rattle.lists.proofs.all_in_order.Tie as tie
 
 abbrev Inv-loop : tie.InvT-loop
-Inv-loop m n precedences last₀ i₀ last i = (i ≤ m) × (all-stand n Nothing (take m precedences) ≡ all-stand n last (drop i (take m precedences)))
+Inv-loop m n precedences last₀ i₀ last i = (i ≤ m) × (all-allowed n Nothing (take m precedences) ≡ all-allowed n last (drop i (take m precedences)))
 
 abbrev μ-loop : tie.MeasureT-loop
 μ-loop m n precedences last₀ i₀ last i = m - i
 
 pub all-in-order-spec : {M : Type 1} → Rattle.lists.proofs.all_in_order.Statement.statement M
-unfolding all-stand
+unfolding all-allowed
 all-in-order-spec = tie.close (tie.spec Inv-loop μ-loop (λ c. (omega arith, refl)) (λ c. search needs) (λ c. search needs) (λ c κs. search needs)
     (λ c. let d = c .before .before .before .before in let a = d .before .args in let h : length (a .t1) ≡ 90 = search needs in
     rw (

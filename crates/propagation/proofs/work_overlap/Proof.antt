@@ -1,6 +1,6 @@
 -- `propagation::work_overlap` meets its contract.
 use Rattle.prelude.specs.Names.{inl, inr, arith, needs, not-true, not-false}
-use Rattle.model.specs.Claims.{says}
+use Rattle.model.specs.Facts.{says}
 use Rattle.model.proofs.Below.{and-intro}
 use Rattle.propagation.proofs.Working.{row-overlap, row-order, across-all, along-all, overlap-none}
 use Rattle.propagation.proofs.work_overlap.Tie as tie

@@ -2,7 +2,7 @@
 use Rattle.prelude.specs.Names.{needs, arith, _∙_, [], _∷_}
 use Rattle.report.proofs.Puts.{fields-short, line-length, line-run}
 use Rattle.formats.proofs.Stores.{sets-front}
-use Rattle.report.specs.Text.{refused, line}
+use Rattle.report.specs.Text.{refused-word, line}
 use Rattle.report.proofs.refused.Tie as tie
 
 put-fields-requires : tie.Need-put-fields-requires
@@ -20,11 +20,11 @@ returns c =
     let m = c .before .before .before .place in
     let f = c .before .before .put-fields .ensures in
     let s = fields-short 19 (n .result ∷ m .result ∷ []) (omega (arith, c .before .before .before .before), (omega (arith, c .before .before .before), tt)) in
-    let l = line-length refused (n .result ∷ m .result ∷ []) in
+    let l = line-length refused-word (n .result ∷ m .result ∷ []) in
     rw (← (n .ensures), ← (m .ensures)) (
       (omega (arith, w .0, f .0), omega (arith, w .0, f .0)),
-      rw (f .1, w .1) (line-run (a .out .now) refused (n .result ∷ m .result ∷ []) 0 _ (w .0)
-          ∙ sets-front (line refused (n .result ∷ m .result ∷ [])) (a .out .now) (omega (arith, start .pre))),
+      rw (f .1, w .1) (line-run (a .out .now) refused-word (n .result ∷ m .result ∷ []) 0 _ (w .0)
+          ∙ sets-front (line refused-word (n .result ∷ m .result ∷ [])) (a .out .now) (omega (arith, start .pre))),
     )
 
 pub refused-spec : {M : Type 1} → Rattle.report.proofs.refused.Statement.statement M

@@ -1,12 +1,12 @@
 -- `test_values::items_in` meets its contract.
 use Rattle.prelude.specs.Names.{refl, ap, _+_, _*_, _-_, arith, needs}
 use Rattle.parts.specs.declared.Size.{Size}
-use Rattle.test_values.specs.Values.{item-at}
+use Rattle.test_values.specs.Values.{item-in}
 use Rattle.test_values.proofs.Tables.{Filled, fill-none, fill-next, fill-all}
 use Rattle.test_values.proofs.items_in.Tie as tie
 
 abbrev Inv-loop : tie.InvT-loop
-Inv-loop s items₀ i₀ items i = Filled 10 (λ k. item-at s (14 + 6 * k)) items i
+Inv-loop s items₀ i₀ items i = Filled 10 (λ k. item-in s (14 + 6 * k)) items i
 
 abbrev μ-loop : tie.MeasureT-loop
 μ-loop s items₀ i₀ items i = 10 - i

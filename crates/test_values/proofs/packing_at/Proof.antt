@@ -1,11 +1,11 @@
 -- `test_values::packing_at` meets its contract.
 use Rattle.prelude.specs.Names.{refl, _+_, _*_, _-_, arith, needs}
-use Rattle.test_values.specs.Values.{position-at, packing-at}
+use Rattle.test_values.specs.Values.{position-in, packing-at}
 use Rattle.test_values.proofs.Tables.{Filled, fill-none, fill-next, fill-all}
 use Rattle.test_values.proofs.packing_at.Tie as tie
 
 abbrev Inv-loop : tie.InvT-loop
-Inv-loop s at positions₀ u₀ positions u = Filled 10 (λ k. position-at s (at + 6 * k)) positions u
+Inv-loop s at positions₀ u₀ positions u = Filled 10 (λ k. position-in s (at + 6 * k)) positions u
 
 abbrev μ-loop : tie.MeasureT-loop
 μ-loop s at positions₀ u₀ positions u = 10 - u

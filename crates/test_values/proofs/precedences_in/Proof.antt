@@ -1,6 +1,6 @@
 -- `test_values::precedences_in` meets its contract.
 use Rattle.prelude.specs.Names.{refl, _+_, _*_, _-_, arith, needs}
-use Rattle.test_values.specs.Values.{precedence-at}
+use Rattle.sheet.specs.Places.{precedence-at}
 use Rattle.test_values.proofs.Tables.{Filled, fill-none, fill-next, fill-all}
 use Rattle.test_values.proofs.precedences_in.Tie as tie
 

@@ -3,7 +3,7 @@ use Rattle.prelude.specs.Names.{needs, arith, _-_, _≤_, _<_}
 use mir.Syntax.{w16}
 use mir.Val.{Fits}
 use Rattle.opening.specs.Layout.{LaidOut}
-use Rattle.instance.specs.Meaning.{measure}
+use Rattle.instance.specs.Meaning.{measure-on}
 use Rattle.nodes.proofs.Loops.{by-axis}
 use Rattle.opening.proofs.Layouts.{first-items, held, laid-none, laid-next, laid-all}
 use Rattle.opening.proofs.layout.totals_of.Tie as tie
@@ -20,7 +20,7 @@ loop-holds c =
     let x : Fits w16 (i .container .width) = search needs in
     let y : Fits w16 (i .container .depth) = search needs in
     let z : Fits w16 (i .container .shifts) = search needs in
-    (omega arith, laid-none (i .container) (i .items) (by-axis (λ a. measure a (i .container) < 65536) (x .fits) (y .fits) (z .fits)))
+    (omega arith, laid-none (i .container) (i .items) (by-axis (λ a. measure-on a (i .container) < 65536) (x .fits) (y .fits) (z .fits)))
 
 loop-again : tie.Need-loop-again Inv-loop μ-loop
 loop-again c =

@@ -1,12 +1,12 @@
 -- `packing::feasible::all_are_kept` meets its contract.
 use Rattle.prelude.specs.Names.{needs, not-true, not-false, arith, _≡_, _-_, _≤_, length, getD}
 use Rattle.parts.specs.Sizes.{no-precedence}
-use Rattle.packing.specs.Parts.{kept}
+use Rattle.packing.specs.Parts.{precedence-kept}
 use Rattle.packing.proofs.Loops.{Passed, all-more, all-fails, all-done, kept-is, kept-loop}
 use Rattle.packing.proofs.feasible.all_are_kept.Tie as tie
 
 abbrev Inv-loop : tie.InvT-loop
-Inv-loop items positions m precedences i₀ i = Passed (λ k. kept items positions (getD precedences k no-precedence)) m i
+Inv-loop items positions m precedences i₀ i = Passed (λ k. precedence-kept items positions (getD precedences k no-precedence)) m i
 
 abbrev μ-loop : tie.MeasureT-loop
 μ-loop items positions m precedences i₀ i = m - i

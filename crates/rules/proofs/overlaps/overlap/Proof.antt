@@ -1,6 +1,6 @@
 -- `rules::overlaps::overlap` meets its contract.
 use Rattle.prelude.specs.Names.{needs, not-true, not-false}
-use Rattle.model.specs.Claims.{overlaps}
+use Rattle.model.specs.Facts.{overlaps}
 use Rattle.model.proofs.Claims.{says-mono}
 use Rattle.model.proofs.Slots.{proper-sym}
 use Rattle.domains.proofs.Narrowed.{refuted-later}

@@ -1,10 +1,10 @@
 -- `search::results::refused` meets its contract.
 use Rattle.prelude.specs.Names.{needs}
-use Rattle.search.specs.Results.{refused}
+use Rattle.search.specs.Results.{result-refused}
 use Rattle.search.proofs.results.refused.Tie as tie
 
 returns : tie.Need-returns
-unfolding refused
+unfolding result-refused
 returns c = rw (c .origin .ensures)
 
 pub refused-spec : {M : Type 1} → Rattle.search.proofs.results.refused.Statement.statement M

@@ -1,7 +1,7 @@
 -- `tree_paths::path::back` meets its contract. Whatever path the array held, it holds the path with some trailing second branches dropped.
 use Rattle.prelude.specs.Names.{List, _≡_, refl, _∙_, _≤_, arith, length-set}
 use Rattle.model.specs.Branching.{Branch}
-use Rattle.tree_paths.specs.Standing.{Holds}
+use Rattle.tree_paths.specs.Standing.{PathIn}
 use Rattle.tree_paths.proofs.Checkpoints.{back-turned, back-dropped, back-none}
 use lib.ListN as L
 use Rattle.model.specs.Search as S
@@ -11,8 +11,8 @@ abbrev Inv-loop : tie.InvT-loop
 Inv-loop branches₀ length left₀ branches left =
     (left ≤ length)
     × (L.length branches ≡ 270)
-    × ((start : List Branch) → Holds start branches₀ length
-    → (path : List Branch) × Holds path branches left × (S.backtrack start ≡ S.backtrack path))
+    × ((start : List Branch) → PathIn start branches₀ length
+    → (path : List Branch) × PathIn path branches left × (S.backtrack start ≡ S.backtrack path))
 
 abbrev μ-loop : tie.MeasureT-loop
 μ-loop branches₀ length left₀ branches left = left

@@ -1,12 +1,12 @@
 -- `tree_paths::path::path_branches` meets its contract. The first i branches are written: the array holds the path that they are.
 use Rattle.prelude.specs.Names.{_≡_, _-_, _≤_, arith, getD}
 use Rattle.tree_paths.specs.Checkpoints.{branch-of, path-of, branches-of}
-use Rattle.tree_paths.specs.Standing.{Holds}
+use Rattle.tree_paths.specs.Standing.{PathIn}
 use Rattle.tree_paths.proofs.Checkpoints.{holds-root, holds-next, bits-next, path-next}
 use Rattle.tree_paths.proofs.path.path_branches.Tie as tie
 
 abbrev Inv-loop : tie.InvT-loop
-Inv-loop length given branches₀ i₀ branches i = (i ≤ length) × Holds (path-of i given) branches i
+Inv-loop length given branches₀ i₀ branches i = (i ≤ length) × PathIn (path-of i given) branches i
 
 abbrev μ-loop : tie.MeasureT-loop
 μ-loop length given branches₀ i₀ branches i = length - i

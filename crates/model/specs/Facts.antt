@@ -9,7 +9,7 @@ pub data Saying : Type 0 where
   removed forced : ℕ → Saying
 
 -- the same of two items on an axis
-pub record Claim : Type 0 where
+pub record Fact : Type 0 where
   pub saying : Saying
   pub axis : ℕ
   pub u : ℕ
@@ -21,5 +21,5 @@ says nothing k a u v = gone k 0 a u v && (gone k 1 a u v && gone k 2 a u v)
 says (removed x) k a u v = gone k x a u v
 says (forced x) k a u v = gone k 0 a u v && gone k x a u v
 
-abbrev pub Holds : Domains → Claim → Type 0
+abbrev pub Holds : Domains → Fact → Type 0
 Holds k c = says (c .saying) k (c .axis) (c .u) (c .v) ≡ true
