@@ -41,18 +41,18 @@ static int save_note(const char *name, const uint8_t *note)
 
 int main(int argc, char **argv)
 {
-    uint8_t sheet[MOST_SHEET_BYTES + 1];
+    uint8_t sheet[HALLPLAN_MAX_SHEET_BYTES + 1];
     uint8_t note[HALLPLAN_NOTE_BYTES + 1] = {0};
     uint8_t steps[HALLPLAN_STEP_BYTES] = {0};
-    uint8_t plan[HALLPLAN_PIECE_BYTES * MOST_PIECES] = {0};
+    uint8_t plan[HALLPLAN_MAX_PLAN_BYTES] = {0};
     long len = argc < 3 ? -1 : read_file(argv[1], sheet, sizeof sheet);
     if (len < 0) {
         fprintf(stderr, "later SHEET NOTE [ALLOWANCE]\n");
         return FAILED;
     }
     uint32_t allowance = argc > 3 ? (uint32_t)strtoul(argv[3], NULL, 10) : 1000;
-    int pieces = count_pieces(sheet, (size_t)len);
-    size_t plan_len = pieces < 0 ? 0 : HALLPLAN_PIECE_BYTES * (size_t)pieces;
+    uint32_t pieces = hallplan_pieces(sheet, (size_t)len);
+    size_t plan_len = pieces < HALLPLAN_REFUSED ? HALLPLAN_PIECE_BYTES * (size_t)pieces : 0;
     uint32_t code = hallplan_search(sheet, (size_t)len, note, load_note(argv[2], note), allowance, steps, sizeof steps, plan, plan_len);
     if (code >= HALLPLAN_REFUSED) {
         printf("refused %u\n", (unsigned)(code - HALLPLAN_REFUSED));

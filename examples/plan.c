@@ -6,19 +6,19 @@
 
 int main(int argc, char **argv)
 {
-    uint8_t sheet[MOST_SHEET_BYTES + 1];
+    uint8_t sheet[HALLPLAN_MAX_SHEET_BYTES + 1];
     uint8_t note[HALLPLAN_NOTE_BYTES] = {0};
     uint8_t steps[HALLPLAN_STEP_BYTES] = {0};
-    uint8_t plan[HALLPLAN_PIECE_BYTES * MOST_PIECES] = {0};
+    uint8_t plan[HALLPLAN_MAX_PLAN_BYTES] = {0};
     long len = argc < 2 ? -1 : read_file(argv[1], sheet, sizeof sheet);
     if (len < 0) {
         fprintf(stderr, "plan SHEET [ALLOWANCE]\n");
         return 2;
     }
     uint32_t allowance = argc > 2 ? (uint32_t)strtoul(argv[2], NULL, 10) : 1;
-    int pieces = count_pieces(sheet, (size_t)len);
-    if (pieces < 0) {
-        printf("refused %d\n", -pieces);
+    uint32_t pieces = hallplan_pieces(sheet, (size_t)len);
+    if (pieces >= HALLPLAN_REFUSED) {
+        printf("refused %u\n", (unsigned)(pieces - HALLPLAN_REFUSED));
         return 0;
     }
 

@@ -1,12 +1,14 @@
-/* Check and search of the casting hall planner, on bytes.
+/* The casting hall planner, called on bytes: how many pieces a sheet has, whether a plan fits it, and the search for a plan.
  *
- * A sheet is the bytes of document 01, "Sheet bytes". A plan is x, y, t for each piece of the sheet, 2 bytes each, low
- * byte first: 6 bytes for each piece. A note is HALLPLAN_NOTE_BYTES bytes; a search opens with all of them 0, and each
- * later call gets the note that the last one left. Steps are HALLPLAN_STEP_BYTES bytes, low byte first.
+ * A sheet is the bytes of document 01, "Sheet bytes" (README.md has one byte by byte). A plan is x, y, t for each piece of the
+ * sheet, 2 bytes each, low byte first: HALLPLAN_PIECE_BYTES for each piece. A note is HALLPLAN_NOTE_BYTES bytes: a search opens
+ * with all of them 0, and each later call gets the note that the last one left. Steps are HALLPLAN_STEP_BYTES bytes, low byte first.
  *
- * A refusal is HALLPLAN_REFUSED plus its number (1 to 8, or 10) and writes nothing. No pointer is null, also where its
- * length is 0. No buffer lent to be written shares a byte with another buffer of the same call. A search needs less than 64 kB
- * of stack: 49,768 bytes were used at most in a thread of that much, the C library's own part included (tests/stack). */
+ * What the caller sees to: no pointer is null, also where its length is 0; no buffer lent to be written shares a byte with
+ * another buffer of the same call; nobody else writes the note between calls. Whatever the bytes and lengths are, the functions
+ * stay inside the buffers, end and answer: that is proved. They keep nothing between calls, so threads may call them at once.
+ *
+ * Link with libhallplan.a (./clib writes it beside this header). */
 #ifndef HALLPLAN_H
 #define HALLPLAN_H
 
@@ -17,27 +19,49 @@
 extern "C" {
 #endif
 
+/* Lengths of notes, of steps, and of a plan for each piece. */
 #define HALLPLAN_NOTE_BYTES 273
 #define HALLPLAN_STEP_BYTES 4
 #define HALLPLAN_PIECE_BYTES 6
+
+/* No sheet has more pieces or bytes, and no plan more bytes. */
+#define HALLPLAN_MAX_PIECES 10
+#define HALLPLAN_MAX_SHEET_BYTES 261
+#define HALLPLAN_MAX_PLAN_BYTES (HALLPLAN_MAX_PIECES * HALLPLAN_PIECE_BYTES)
+
+/* A thread with this much stack can call any of the functions. It is measured (tests/stack), not proved. */
+#define HALLPLAN_STACK_BYTES 65536
 
 /* What check returns. */
 #define HALLPLAN_NO 0
 #define HALLPLAN_YES 1
 
-/* What search returns. */
+/* What search returns: not decided within the allowance; a plan was found; there is none. */
 #define HALLPLAN_SPENT 0
 #define HALLPLAN_PLACED 1
 #define HALLPLAN_NONE 2
 
-/* What both return for a refusal: this, plus its number. */
+/* A refusal is returned as HALLPLAN_REFUSED plus its number in document 01's table. It writes nothing. The sheet's own refusals,
+ * 1 to 7, come first; where a sheet has several faults, it is the first one's. */
 #define HALLPLAN_REFUSED 100
+#define HALLPLAN_SHEET_ENDS_EARLY 1     /* it ends before a byte that is due */
+#define HALLPLAN_SHEET_UNKNOWN_BIT 2    /* a map byte has a bit without a meaning */
+#define HALLPLAN_SHEET_WRITTEN_DEFAULT 3 /* a measure of 0 or 1, or the yard number 0, is written */
+#define HALLPLAN_SHEET_BAD_COUNT 4      /* count 0, over 10 pieces, over 90 orders */
+#define HALLPLAN_SHEET_BAD_ORDER 5      /* an order names a piece not on the sheet, or one piece twice */
+#define HALLPLAN_SHEET_ORDERS_UNSORTED 6 /* an order is not above the one before it */
+#define HALLPLAN_SHEET_BYTES_AFTER 7    /* bytes after the last field */
+#define HALLPLAN_BAD_LENGTH 8           /* plan_len is not 6 for each piece, note_len not 273, or steps_len not 4 */
+#define HALLPLAN_BAD_NOTE 10            /* the note is not one that this sheet's search can have */
 
-/* Whether the plan fits the sheet. */
+/* How many pieces the sheet has, 0 to HALLPLAN_MAX_PIECES; or a refusal. */
+uint32_t hallplan_pieces(const uint8_t *sheet, size_t sheet_len);
+
+/* Whether the plan fits the sheet: HALLPLAN_NO or HALLPLAN_YES; or a refusal. */
 uint32_t hallplan_check(const uint8_t *sheet, size_t sheet_len, const uint8_t *plan, size_t plan_len);
 
-/* One call of the search, which takes at most `allowance` steps. Unless it is refused, it rewrites the note and the
- * steps, and the plan when it returns HALLPLAN_PLACED. */
+/* One call of the search, which takes at most `allowance` steps: HALLPLAN_SPENT, HALLPLAN_PLACED or HALLPLAN_NONE; or a refusal.
+ * Unless it is refused, it rewrites the note and the steps taken, and the plan when it returns HALLPLAN_PLACED. */
 uint32_t hallplan_search(const uint8_t *sheet, size_t sheet_len, uint8_t *note, size_t note_len, uint32_t allowance, uint8_t *steps, size_t steps_len, uint8_t *plan, size_t plan_len);
 
 #ifdef __cplusplus
