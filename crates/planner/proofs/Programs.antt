@@ -10,13 +10,11 @@ use Rattle.instance.proofs.Sheets.{valid-says}
 use Rattle.instance.proofs.RoundTrips.{read-valid}
 use Rattle.instance.proofs.Readings.{was-read, was-refused}
 use Rattle.search.specs.Results.{search-result}
-use Rattle.search.specs.declared.answer.SearchResult.{SearchResult}
-use Rattle.report.specs.Text.{packed-text, infeasible-text, spent-text, refused-text}
+use Rattle.report.specs.Text.{refused-text}
 use Rattle.planner.specs.Program.{result-text, program-text}
 use Rattle.instance.specs.declared.ReadAnswer.the-variants as A
-use Rattle.search.specs.declared.answer.Answer.the-variants as S
 
-module _ (s : List ℕ) (r : ReadResult) (e : r ≡ read-result (decode s)) where
+module _ (s : List ℕ) {r : ReadResult} (e : r ≡ read-result (decode s)) where
   pub text-read : r .answer ≡ A.Read
       → program-text s ≡ result-text (r .instance .«item_count») (search-result (r .instance) opening-checkpoint 1_000_000)
   unfolding program-text
@@ -31,21 +29,3 @@ module _ (s : List ℕ) (r : ReadResult) (e : r ≡ read-result (decode s)) wher
   few-items b h =
       let w = was-read (decode s) r e h in
       valid-says (r .instance) (read-valid s (w .was) b) .items-few
-
--- the text of a result, by its answer
-module _ (n : ℕ) (r : SearchResult) where
-  pub text-packed : r .answer ≡ S.Packed → result-text n r ≡ packed-text (r .steps) (r .packing) n
-  unfolding result-text
-  text-packed h = rw h
-
-  pub text-infeasible : r .answer ≡ S.Infeasible → result-text n r ≡ infeasible-text (r .steps)
-  unfolding result-text
-  text-infeasible h = rw h
-
-  pub text-spent : r .answer ≡ S.BudgetSpent → result-text n r ≡ spent-text (r .steps)
-  unfolding result-text
-  text-spent h = rw h
-
-  pub text-refused-call : {f : Refusal} → r .answer ≡ S.Refused f → result-text n r ≡ refused-text f
-  unfolding result-text
-  text-refused-call h = rw h

@@ -1,10 +1,9 @@
 // The program's work between reading its input and writing its output: from a sheet to the text.
 ghost use Rattle.sheet.specs.Sheet.{max-items};
-ghost use Rattle.report.specs.Text.{max-text};
+ghost use Rattle.report.specs.Text.{max-text, with-front};
 ghost use mathlib.Core.Path.{_≡_};
-ghost use mathlib.Core.List.{_++_};
 ghost use Prim.Native.Nat.{_≤_};
-ghost use lib.ListN.{length, drop};
+ghost use lib.ListN.{length};
 ghost use Rattle.planner.specs.Program.{result-text, program-text};
 use instance::Instance;
 use instance::ReadAnswer;
@@ -18,7 +17,7 @@ pub const BUDGET: u32 = 1_000_000;
 pub fn result_text(out: &mut [u8], n: usize, result: SearchResult) -> usize
     requires { ⌜ (n ≤ max-items) × (max-text ≤ length (now out)) ⌝ }
     ensures { λ r. ⌜ (r ≡ length (result-text n result)) × (r ≤ max-text) ⌝ }
-    ensures { λ _. ⌜ now (out .exit) ≡ result-text n result ++ drop (length (result-text n result)) (now (out .entry)) ⌝ }
+    ensures { λ _. ⌜ now (out .exit) ≡ with-front (result-text n result) (now (out .entry)) ⌝ }
 {
     let steps = result.steps;
     let packing = result.packing;
@@ -35,7 +34,7 @@ pub fn result_text(out: &mut [u8], n: usize, result: SearchResult) -> usize
 pub fn sheet_text(out: &mut [u8], sheet: &[u8]) -> usize
     requires { ⌜ max-text ≤ length (now out) ⌝ }
     ensures { λ r. ⌜ (r ≡ length (program-text (now (sheet .entry)))) × (r ≤ max-text) ⌝ }
-    ensures { λ _. ⌜ now (out .exit) ≡ program-text (now (sheet .entry)) ++ drop (length (program-text (now (sheet .entry)))) (now (out .entry)) ⌝ }
+    ensures { λ _. ⌜ now (out .exit) ≡ with-front (program-text (now (sheet .entry))) (now (out .entry)) ⌝ }
 {
     let reading = Instance::read(sheet);
     let answer = reading.answer;

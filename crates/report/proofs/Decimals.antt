@@ -20,8 +20,8 @@ one-or-more n = dec (decLt n 10)
     dec (yes l) = inl l
     dec (no l) = inr (omega arith)
 
-less : (n : ℕ) → 10 ≤ n → n / 10 < n
-less n l = div-lt-self (omega arith) (omega arith)
+tenth-less : (n : ℕ) → 10 ≤ n → n / 10 < n
+tenth-less n l = div-lt-self (omega arith) (omega arith)
 
 -- more places than enough change nothing
 digits-enough : (f g n : ℕ) → n ≤ f → n ≤ g → digits (suc f) n ≡ digits (suc g) n
@@ -30,7 +30,7 @@ digits-enough (suc f) zero n hf hg = digits-one (suc f) n (omega arith) ∙ sym 
 digits-enough (suc f) (suc g) n hf hg =
     ⊎-elim (λ l. digits-one (suc f) n l ∙ sym (digits-one (suc g) n l))
     (λ l.
-    let s = less n l in
+    let s = tenth-less n l in
     let e : digits (suc f) (n / 10) ≡ digits (suc g) (n / 10) = digits-enough f g (n / 10) (omega arith) (omega arith) in
     digits-more (suc f) n l ∙ rw e (sym (digits-more (suc g) n l)))
     (one-or-more n)
@@ -43,7 +43,7 @@ pub decimal-more : (n : ℕ) → 10 ≤ n → decimal n ≡ decimal (n / 10) ++ 
 unfolding decimal
 decimal-more zero l = absurd (omega arith)
 decimal-more (suc n) l =
-    let s = less (suc n) l in
+    let s = tenth-less (suc n) l in
     digits-more (suc n) (suc n) l ∙ rw (digits-enough n (suc n / 10) (suc n / 10) (omega arith) (omega arith))
 
 -- a number below ten to the k has at most k digits

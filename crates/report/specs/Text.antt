@@ -1,5 +1,5 @@
 -- What the program prints, in ASCII (document 01, "The program").
-use Rattle.prelude.specs.Names.{List, [], _∷_, _++_, ℕ, zero, suc, getD}
+use Rattle.prelude.specs.Names.{List, [], _∷_, _++_, ℕ, zero, suc, length, drop, getD}
 use Rattle.refusal.specs.declared.Refusal.{Refusal}
 use Rattle.refusal.specs.Numbers.{number-of, place-of}
 use Rattle.instance.specs.declared.Packing.{Packing}
@@ -10,6 +10,10 @@ use Rattle.report.specs.Decimal.{decimal}
 -- no text is longer: an answer with its steps and ten lines of at most 20 characters
 abbrev pub max-text : ℕ
 max-text = 218
+
+-- a buffer with a text at its front, and the rest as it was
+abbrev pub with-front : List ℕ → List ℕ → List ℕ
+with-front text out = text ++ drop (length text) out
 
 -- a field after "one space"
 abbrev pub text-field : ℕ → List ℕ

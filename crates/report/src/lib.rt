@@ -2,10 +2,9 @@
 ghost use Rattle.sheet.specs.Sheet.{max-items};
 ghost use Rattle.report.specs.Text.{max-text};
 ghost use mathlib.Core.Path.{_≡_};
-ghost use mathlib.Core.List.{_++_};
 ghost use Prim.Native.Nat.{_≤_};
-ghost use lib.ListN.{length, drop};
-ghost use Rattle.report.specs.Text.{packed-text, infeasible-text, spent-text, refused-text};
+ghost use lib.ListN.{length};
+ghost use Rattle.report.specs.Text.{with-front, packed-text, infeasible-text, spent-text, refused-text};
 use instance::Packing;
 use refusal::Refusal;
 
@@ -18,7 +17,7 @@ pub const MAX_TEXT: usize = 218;
 pub fn packed(out: &mut [u8], steps: u32, packing: Packing, n: usize) -> usize
     requires { ⌜ (n ≤ max-items) × (max-text ≤ length (now out)) ⌝ }
     ensures { λ r. ⌜ (r ≡ length (packed-text steps packing n)) × (r ≤ max-text) ⌝ }
-    ensures { λ _. ⌜ now (out .exit) ≡ packed-text steps packing n ++ drop (length (packed-text steps packing n)) (now (out .entry)) ⌝ }
+    ensures { λ _. ⌜ now (out .exit) ≡ with-front (packed-text steps packing n) (now (out .entry)) ⌝ }
 {
     let a = put::put_answer(out, b"placed", steps);
     put::put_items(out, a, packing, n)
@@ -28,7 +27,7 @@ pub fn packed(out: &mut [u8], steps: u32, packing: Packing, n: usize) -> usize
 pub fn infeasible(out: &mut [u8], steps: u32) -> usize
     requires { ⌜ max-text ≤ length (now out) ⌝ }
     ensures { λ r. ⌜ (r ≡ length (infeasible-text steps)) × (r ≤ max-text) ⌝ }
-    ensures { λ _. ⌜ now (out .exit) ≡ infeasible-text steps ++ drop (length (infeasible-text steps)) (now (out .entry)) ⌝ }
+    ensures { λ _. ⌜ now (out .exit) ≡ with-front (infeasible-text steps) (now (out .entry)) ⌝ }
 {
     put::put_answer(out, b"none", steps)
 }
@@ -37,7 +36,7 @@ pub fn infeasible(out: &mut [u8], steps: u32) -> usize
 pub fn spent(out: &mut [u8], steps: u32) -> usize
     requires { ⌜ max-text ≤ length (now out) ⌝ }
     ensures { λ r. ⌜ (r ≡ length (spent-text steps)) × (r ≤ max-text) ⌝ }
-    ensures { λ _. ⌜ now (out .exit) ≡ spent-text steps ++ drop (length (spent-text steps)) (now (out .entry)) ⌝ }
+    ensures { λ _. ⌜ now (out .exit) ≡ with-front (spent-text steps) (now (out .entry)) ⌝ }
 {
     put::put_answer(out, b"spent", steps)
 }
@@ -46,7 +45,7 @@ pub fn spent(out: &mut [u8], steps: u32) -> usize
 pub fn refused(out: &mut [u8], e: Refusal) -> usize
     requires { ⌜ max-text ≤ length (now out) ⌝ }
     ensures { λ r. ⌜ (r ≡ length (refused-text e)) × (r ≤ max-text) ⌝ }
-    ensures { λ _. ⌜ now (out .exit) ≡ refused-text e ++ drop (length (refused-text e)) (now (out .entry)) ⌝ }
+    ensures { λ _. ⌜ now (out .exit) ≡ with-front (refused-text e) (now (out .entry)) ⌝ }
 {
     let a = put::put_bytes(out, 0, b"refused");
     put::put_fields(out, a, [e.number() as u64, e.place() as u64, 0], 2)

@@ -5,7 +5,7 @@ ghost use Prim.Native.Nat.{_+_, _*_, _≤_, _<_};
 ghost use lib.ListN.{length, take};
 ghost use lib.Seq.{sets};
 ghost use Rattle.report.specs.Decimal.{decimal};
-ghost use Rattle.report.specs.Text.{text-field, text-fields, answer-line, item-line, item-lines};
+ghost use Rattle.report.specs.Text.{with-front, text-field, text-fields, answer-line, item-line, item-lines};
 use instance::Packing;
 use instance::Position;
 
@@ -67,7 +67,7 @@ pub fn put_fields(out: &mut [u8], at: usize, numbers: [u64; 3], n: usize) -> usi
 pub fn put_answer(out: &mut [u8], word: &[u8], steps: u32) -> usize
     requires { ⌜ (length (now word) ≤ 6) × (18 ≤ length (now out)) ⌝ }
     ensures { λ r. ⌜ (r ≡ length (answer-line (now (word .entry)) steps)) × (r ≤ 18) ⌝ }
-    ensures { λ _. ⌜ now (out .exit) ≡ sets (now (out .entry)) 0 (answer-line (now (word .entry)) steps) ⌝ }
+    ensures { λ _. ⌜ now (out .exit) ≡ with-front (answer-line (now (word .entry)) steps) (now (out .entry)) ⌝ }
 {
     let a = put_bytes(out, 0, word);
     put_fields(out, a, [steps as u64, 0, 0], 1)

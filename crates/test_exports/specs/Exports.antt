@@ -1,4 +1,4 @@
--- The answers as single numbers, 0 in place of what an answer does not hold.
+-- The answers in numbers, 0 in place of what an answer does not hold.
 use Rattle.prelude.specs.Names.{cond, List, _⊎_, inl, inr, ℕ, ltb, length, getD, ℤ, pos}
 use Rattle.instance.specs.declared.Instance.{Instance}
 use Rattle.instance.specs.Answers.{read-result, read-values}

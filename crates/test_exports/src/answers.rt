@@ -1,7 +1,7 @@
-// The answers as single numbers, 0 in place of what an answer does not hold.
+// The answers in numbers, 0 in place of what an answer does not hold.
 ghost use mathlib.Core.Path.{_≡_};
 ghost use Prim.Native.Nat.{_<_};
-ghost use Rattle.refusal.specs.Numbers.{number-of};
+ghost use Rattle.refusal.specs.Numbers.{number-of, place-of};
 ghost use Rattle.packing.specs.Check.{check-number};
 ghost use Rattle.packing.specs.Clearance.{clearance-values};
 ghost use Rattle.writer.specs.Answers.{write-values};
@@ -9,6 +9,7 @@ ghost use Rattle.test_exports.specs.Exports.{number-in, place-in, length
 ghost use Rattle.instance.specs.Answers.{read-values};
 use instance::ReadAnswer;
 use instance::ReadResult;
+use item_record::RefusalCode;
 use packing::CheckAnswer;
 use packing::ClearanceAnswer;
 use refusal::Refusal;
@@ -20,29 +21,49 @@ pub fn wide(x: u8) -> u32
     x as u32
 }
 
-pub fn number_of(e: Refusal) -> u32
-    ensures { λ r. ⌜ (r ≡ number-of e) × (r < 256) ⌝ }
+fn not_refused() -> RefusalCode
+    ensures { λ r. ⌜ (r .number ≡ 0) × (r .place ≡ 0) ⌝ }
 {
-    wide(e.number())
-}
-
-pub fn read_number(result: ReadResult) -> u32
-    ensures { λ r. ⌜ r ≡ number-in (read-values result) ⌝ }
-{
-    let answer = result.answer;
-    match answer {
-        ReadAnswer::Read => 0,
-        ReadAnswer::Refused(e) => number_of(e),
+    RefusalCode {
+        number: 0,
+        place: 0,
     }
 }
 
-pub fn read_place(result: ReadResult) -> usize
-    ensures { λ r. ⌜ r ≡ place-in (read-values result) ⌝ }
+fn code_of(e: Refusal) -> RefusalCode
+    ensures { λ r. ⌜ (r .number ≡ number-of e) × (r .place ≡ place-of e) ⌝ }
+{
+    RefusalCode {
+        number: e.number(),
+        place: e.place(),
+    }
+}
+
+pub fn read_code(result: ReadResult) -> RefusalCode
+    ensures { λ r. ⌜ (r .number ≡ number-in (read-values result)) × (r .place ≡ place-in (read-values result)) ⌝ }
 {
     let answer = result.answer;
     match answer {
-        ReadAnswer::Read => 0,
-        ReadAnswer::Refused(e) => e.place(),
+        ReadAnswer::Read => not_refused(),
+        ReadAnswer::Refused(e) => code_of(e),
+    }
+}
+
+pub fn write_code(answer: WriteAnswer) -> RefusalCode
+    ensures { λ r. ⌜ (r .number ≡ number-in (write-values answer)) × (r .place ≡ place-in (write-values answer)) ⌝ }
+{
+    match answer {
+        WriteAnswer::Written(_) => not_refused(),
+        WriteAnswer::Refused(e) => code_of(e),
+    }
+}
+
+pub fn clearance_code(answer: ClearanceAnswer) -> RefusalCode
+    ensures { λ r. ⌜ (r .number ≡ number-in (clearance-values answer)) × (r .place ≡ place-in (clearance-values answer)) ⌝ }
+{
+    match answer {
+        ClearanceAnswer::Clearance(_) => not_refused(),
+        ClearanceAnswer::Refused(e) => code_of(e),
     }
 }
 
@@ -55,34 +76,6 @@ pub fn write_length(answer: WriteAnswer) -> usize
     }
 }
 
-pub fn write_number(answer: WriteAnswer) -> u32
-    ensures { λ r. ⌜ r ≡ number-in (write-values answer) ⌝ }
-{
-    match answer {
-        WriteAnswer::Written(_) => 0,
-        WriteAnswer::Refused(e) => number_of(e),
-    }
-}
-
-pub fn write_place(answer: WriteAnswer) -> usize
-    ensures { λ r. ⌜ r ≡ place-in (write-values answer) ⌝ }
-{
-    match answer {
-        WriteAnswer::Written(_) => 0,
-        WriteAnswer::Refused(e) => e.place(),
-    }
-}
-
-pub fn check_code(answer: CheckAnswer) -> u32
-    ensures { λ r. ⌜ r ≡ check-number answer ⌝ }
-{
-    match answer {
-        CheckAnswer::NotFeasible => 0,
-        CheckAnswer::Feasible => 1,
-        CheckAnswer::Refused(e) => 100 + number_of(e),
-    }
-}
-
 pub fn clearance_integer(answer: ClearanceAnswer) -> i32
     ensures { λ r. ⌜ r ≡ clearance-in (clearance-values answer) ⌝ }
 {
@@ -92,20 +85,12 @@ pub fn clearance_integer(answer: ClearanceAnswer) -> i32
     }
 }
 
-pub fn clearance_number(answer: ClearanceAnswer) -> u32
-    ensures { λ r. ⌜ r ≡ number-in (clearance-values answer) ⌝ }
+pub fn check_code(answer: CheckAnswer) -> u32
+    ensures { λ r. ⌜ r ≡ check-number answer ⌝ }
 {
     match answer {
-        ClearanceAnswer::Clearance(_) => 0,
-        ClearanceAnswer::Refused(e) => number_of(e),
-    }
-}
-
-pub fn clearance_place(answer: ClearanceAnswer) -> usize
-    ensures { λ r. ⌜ r ≡ place-in (clearance-values answer) ⌝ }
-{
-    match answer {
-        ClearanceAnswer::Clearance(_) => 0,
-        ClearanceAnswer::Refused(e) => e.place(),
+        CheckAnswer::NotFeasible => 0,
+        CheckAnswer::Feasible => 1,
+        CheckAnswer::Refused(e) => 100 + wide(e.number()),
     }
 }

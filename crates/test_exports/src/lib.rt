@@ -7,7 +7,8 @@ ghost use Rattle.packing.specs.Clearance.{clearance-answer};
 ghost use Rattle.writer.specs.Answers.{written-room};
 ghost use Rattle.item_record.specs.Record.{item-record, item-record-code};
 ghost use Rattle.test_values.specs.Values.{instance-in, packing-at};
-ghost use Rattle.test_exports.specs.Exports.{number-in, place-in, length-in, clearance-in, sheet-values, rewrite-length, rewrite-room, written-values, cleared-values, record-byte};
+ghost use Rattle.test_exports.specs.Exports.{number-in, place-in, length-in, clearance-in, sheet-values, written-values, cleared-values};
+ghost use Rattle.test_exports.specs.Exports.{rewrite-length, rewrite-room, record-byte};
 use instance::Instance;
 use instance::ReadAnswer;
 use packing::ClearanceAnswer;
@@ -19,7 +20,8 @@ mod answers;
 pub extern "C" fn exports_read_number(sheet: &[u8]) -> u32
     ensures { λ r. ⌜ r ≡ number-in (sheet-values (now (sheet .entry))) ⌝ }
 {
-    answers::read_number(Instance::read(sheet))
+    let code = answers::read_code(Instance::read(sheet));
+    answers::wide(code.number)
 }
 
 // Its place; 0 where it reads.
@@ -27,7 +29,8 @@ pub extern "C" fn exports_read_number(sheet: &[u8]) -> u32
 pub extern "C" fn exports_read_place(sheet: &[u8]) -> usize
     ensures { λ r. ⌜ r ≡ place-in (sheet-values (now (sheet .entry))) ⌝ }
 {
-    answers::read_place(Instance::read(sheet))
+    let code = answers::read_code(Instance::read(sheet));
+    code.place
 }
 
 // Reads a sheet and writes it again: how many bytes, 0 where one of the two is refused.
@@ -60,7 +63,8 @@ pub extern "C" fn exports_write_number(value: &[u8], room: &mut [u8]) -> u32
     ensures { λ r. ⌜ r ≡ number-in (written-values (now (value .entry)) (length (now (room .entry)))) ⌝ }
     ensures { λ _. ⌜ now (room .exit) ≡ written-room (instance-in (now (value .entry))) (now (room .entry)) ⌝ }
 {
-    answers::write_number(writer::write(test_values::instance_in(value), room))
+    let code = answers::write_code(writer::write(test_values::instance_in(value), room));
+    answers::wide(code.number)
 }
 
 // Its place; 0 where it is written.
@@ -69,7 +73,8 @@ pub extern "C" fn exports_write_place(value: &[u8], room: &mut [u8]) -> usize
     ensures { λ r. ⌜ r ≡ place-in (written-values (now (value .entry)) (length (now (room .entry)))) ⌝ }
     ensures { λ _. ⌜ now (room .exit) ≡ written-room (instance-in (now (value .entry))) (now (room .entry)) ⌝ }
 {
-    answers::write_place(writer::write(test_values::instance_in(value), room))
+    let code = answers::write_code(writer::write(test_values::instance_in(value), room));
+    code.place
 }
 
 // Number and place of the refusal of item k's record; 0 and 0 where it is not refused.
@@ -138,7 +143,8 @@ pub extern "C" fn exports_clearance_number(
 ) -> u32
     ensures { λ r. ⌜ r ≡ number-in (cleared-values (now (value .entry)) (now (plan .entry)) u v axis) ⌝ }
 {
-    answers::clearance_number(clearance_of(value, plan, u, v, axis))
+    let code = answers::clearance_code(clearance_of(value, plan, u, v, axis));
+    answers::wide(code.number)
 }
 
 // Its place; 0 where it is not refused.
@@ -152,5 +158,6 @@ pub extern "C" fn exports_clearance_place(
 ) -> usize
     ensures { λ r. ⌜ r ≡ place-in (cleared-values (now (value .entry)) (now (plan .entry)) u v axis) ⌝ }
 {
-    answers::clearance_place(clearance_of(value, plan, u, v, axis))
+    let code = answers::clearance_code(clearance_of(value, plan, u, v, axis));
+    code.place
 }

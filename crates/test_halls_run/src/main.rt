@@ -1,25 +1,36 @@
 // Runs every row of document 01's table "Small halls" and prints what the program prints for it.
+ghost use mathlib.Core.Path.{_≡_};
 ghost use Prim.Native.Nat.{_≤_};
+ghost use lib.ListN.{length};
 ghost use Rattle.sheet.specs.Sheet.{max-items};
+ghost use Rattle.search.specs.Results.{search-result};
 use instance::Checkpoint;
 use instance::Instance;
 use instance::ReadAnswer;
+
+// The first n bytes.
+fn print(text: &[u8], n: usize)
+    requires { ⌜ n ≤ length (now text) ⌝ }
+{
+    io::write_all(1, &text[..n]);
+}
 
 // One call with the program's budget.
 fn run(sheet: &[u8]) {
     let mut text = [0u8; report::MAX_TEXT];
     let m = planner::sheet_text(&mut text, sheet);
-    io::write_all(1, &text[..m]);
+    print(&text, m);
 }
 
 // One call with a budget; returns the checkpoint that it leads to.
 fn resume(instance: Instance, checkpoint: Checkpoint, budget: u32) -> Checkpoint
     requires { ⌜ instance .«item_count» ≤ max-items ⌝ }
+    ensures { λ r. ⌜ r ≡ search-result instance checkpoint budget .checkpoint ⌝ }
 {
     let result = search::search(instance, checkpoint, budget);
     let mut text = [0u8; report::MAX_TEXT];
     let m = planner::result_text(&mut text, instance.item_count, result);
-    io::write_all(1, &text[..m]);
+    print(&text, m);
     result.checkpoint
 }
 
@@ -74,15 +85,14 @@ fn starred() {
     run(b"\x01\x02");
 }
 
-// 100×1×231 and 100×1×230; boxes 7, 8, 11, 16, 17 of 000's table 6.4 with okp17-4's orders:
+// 100×1×shifts; boxes 7, 8, 11, 16, 17 of 000's table 6.4 with okp17-4's orders:
 // 8 before 16 and 17, 11 before 7, 8 and 16, 16 before 7, 17 before 16
-fn boxes() {
-    run(
-        b"\x1d\x64\x00\xe7\x00\x05\x05\x3a\x00\x14\x00\x05\x63\x00\x03\x00\x05\x07\x00\x35\x00\x05\x0b\x00\x5a\x00\x05\x1a\x00\x41\x00\x07\x01\x03\x01\x04\x02\x00\x02\x01\x02\x03\x03\x00\x04\x03",
-    );
-    run(
-        b"\x1d\x64\x00\xe6\x00\x05\x05\x3a\x00\x14\x00\x05\x63\x00\x03\x00\x05\x07\x00\x35\x00\x05\x0b\x00\x5a\x00\x05\x1a\x00\x41\x00\x07\x01\x03\x01\x04\x02\x00\x02\x01\x02\x03\x03\x00\x04\x03",
-    );
+fn boxes(shifts: u8) {
+    let mut sheet =
+        *b"\x1d\x64\x00\x00\x00\x05\x05\x3a\x00\x14\x00\x05\x63\x00\x03\x00\x05\x07\x00\x35\x00\x05\x0b\
+          \x00\x5a\x00\x05\x1a\x00\x41\x00\x07\x01\x03\x01\x04\x02\x00\x02\x01\x02\x03\x03\x00\x04\x03";
+    sheet[3] = shifts;
+    run(&sheet);
 }
 
 fn main() {
@@ -91,5 +101,7 @@ fn main() {
     run(b"\x40");
     run(b"\x00\x00");
     run(b"\x08\x00");
-    boxes();
+    // 100×1×231 and 100×1×230
+    boxes(231);
+    boxes(230);
 }

@@ -1,4 +1,9 @@
-// Printing: words, numbers and bytes, each after a space.
+// Printing: words, numbers and bytes, each after a space. What is printed goes to the C library, of which no contract speaks:
+// a function that only prints has none, and the gate compares its output.
+ghost use mathlib.Core.Path.{_≡_};
+ghost use lib.ListN.{drop};
+ghost use Rattle.model.specs.Below.{all-in};
+ghost use Rattle.test_lines.specs.Rest.{size-zero, item-zero, precedence-zero, rest-zero};
 use instance::Instance;
 use parts::Item;
 use parts::Precedence;
@@ -29,7 +34,9 @@ pub fn signed(n: i32) {
     io::print_decimal(1, n as u64);
 }
 
-fn wide(x: u8) -> u64 {
+fn wide(x: u8) -> u64
+    ensures { λ r. ⌜ r ≡ x ⌝ }
+{
     x as u64
 }
 
@@ -84,7 +91,9 @@ fn precedences_below(precedences: [Precedence; Instance::MAX_PRECEDENCES], m: us
     }
 }
 
-fn is_zero(size: Size) -> bool {
+fn is_size_zero(size: Size) -> bool
+    ensures { λ r. ⌜ r ≡ size-zero size ⌝ }
+{
     if size.width != 0 {
         return false;
     }
@@ -94,11 +103,22 @@ fn is_zero(size: Size) -> bool {
     size.shifts == 0
 }
 
-fn items_zero_from(items: [Item; Instance::MAX_ITEMS], n: usize) -> bool {
+fn is_precedence_zero(precedence: Precedence) -> bool
+    ensures { λ r. ⌜ r ≡ precedence-zero precedence ⌝ }
+{
+    if precedence.predecessor != 0 {
+        return false;
+    }
+    precedence.successor == 0
+}
+
+fn items_zero_from(items: [Item; Instance::MAX_ITEMS], n: usize) -> bool
+    ensures { λ r. ⌜ r ≡ all-in item-zero (drop n items) ⌝ }
+{
     let mut i = n;
     while i < Instance::MAX_ITEMS {
         let item = items[i];
-        if !is_zero(item.size) {
+        if !is_size_zero(item.size) {
             return false;
         }
         i += 1;
@@ -106,14 +126,12 @@ fn items_zero_from(items: [Item; Instance::MAX_ITEMS], n: usize) -> bool {
     true
 }
 
-fn precedences_zero_from(precedences: [Precedence; Instance::MAX_PRECEDENCES], m: usize) -> bool {
+fn precedences_zero_from(precedences: [Precedence; Instance::MAX_PRECEDENCES], m: usize) -> bool
+    ensures { λ r. ⌜ r ≡ all-in precedence-zero (drop m precedences) ⌝ }
+{
     let mut i = m;
     while i < Instance::MAX_PRECEDENCES {
-        let precedence = precedences[i];
-        if precedence.predecessor != 0 {
-            return false;
-        }
-        if precedence.successor != 0 {
+        if !is_precedence_zero(precedences[i]) {
             return false;
         }
         i += 1;
@@ -122,7 +140,9 @@ fn precedences_zero_from(precedences: [Precedence; Instance::MAX_PRECEDENCES], m
 }
 
 // Whether the entries past the counts are 0.
-fn is_rest_zero(instance: Instance) -> bool {
+fn is_rest_zero(instance: Instance) -> bool
+    ensures { λ r. ⌜ r ≡ rest-zero instance ⌝ }
+{
     let items = instance.items;
     if !items_zero_from(items, instance.item_count) {
         return false;
@@ -131,7 +151,7 @@ fn is_rest_zero(instance: Instance) -> bool {
     precedences_zero_from(precedences, instance.precedence_count)
 }
 
-// An instance, with a word on what stands past its counts.
+// An instance, with a word on the entries past its counts.
 pub fn read_instance(instance: Instance) {
     word(b"read");
     let container = instance.container;

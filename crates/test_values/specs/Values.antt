@@ -1,8 +1,7 @@
 -- Instances and packings from bytes at fixed places. The low byte is first; a byte past the end counts as 0.
-use Rattle.prelude.specs.Names.{List, [], _∷_, _++_, ℕ, zero, suc, _+_, _*_, getD}
+use Rattle.prelude.specs.Names.{List, [], _∷_, _++_, ℕ, zero, suc, _+_, _*_}
 use Rattle.parts.specs.declared.Size.{Size}
 use Rattle.parts.specs.declared.Item.{Item}
-use Rattle.parts.specs.declared.Precedence.{Precedence}
 use Rattle.sheet.specs.Places.{word-at, precedence-at}
 use Rattle.sheet.specs.Sheet.{max-items, max-precedences}
 use Rattle.instance.specs.declared.Instance.{Instance}

@@ -101,12 +101,7 @@ fn precedence_at(s: &[u8], at: usize) -> Precedence
 fn items_in(s: &[u8]) -> [Item; Instance::MAX_ITEMS]
     ensures { λ r. ⌜ r ≡ tabulate max-items (λ i. item-in (now (s .entry)) (14 + 6 * i)) ⌝ }
 {
-    let size = Size {
-        width: 0,
-        depth: 0,
-        shifts: 0,
-    };
-    let mut items = [Item { size }; Instance::MAX_ITEMS];
+    let mut items = lists::no_items();
     let mut i: usize = 0;
     while i < Instance::MAX_ITEMS {
         let size = size_at(s, 14 + 6 * i);
@@ -119,11 +114,7 @@ fn items_in(s: &[u8]) -> [Item; Instance::MAX_ITEMS]
 fn precedences_in(s: &[u8]) -> [Precedence; Instance::MAX_PRECEDENCES]
     ensures { λ r. ⌜ r ≡ tabulate max-precedences (λ i. precedence-at (now (s .entry)) (82 + 2 * i)) ⌝ }
 {
-    let none = Precedence {
-        predecessor: 0,
-        successor: 0,
-    };
-    let mut precedences = [none; Instance::MAX_PRECEDENCES];
+    let mut precedences = lists::no_precedences();
     let mut i: usize = 0;
     while i < Instance::MAX_PRECEDENCES {
         precedences[i] = precedence_at(s, 82 + 2 * i);

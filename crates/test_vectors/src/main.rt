@@ -2,6 +2,7 @@
 ghost use mathlib.Core.Path.{_≡_};
 ghost use Prim.Native.Nat.{_≤_};
 ghost use lib.ListN.{length};
+ghost use Rattle.writer.specs.Answers.{write-answer};
 use instance::Instance;
 use instance::ReadAnswer;
 use packing::CheckAnswer;
@@ -35,6 +36,7 @@ fn print_written(answer: WriteAnswer) {
 // Writes into the first `room` bytes.
 fn write_part(instance: Instance, space: &mut [u8], room: usize) -> WriteAnswer
     requires { ⌜ room ≤ length (now space) ⌝ }
+    ensures { λ r. ⌜ r ≡ write-answer instance room ⌝ }
 {
     writer::write(instance, &mut space[..room])
 }

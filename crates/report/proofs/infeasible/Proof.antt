@@ -1,11 +1,7 @@
 -- `report::infeasible` meets its contract.
-use Rattle.prelude.specs.Names.{needs, arith, _∙_}
-use Rattle.report.specs.Text.{infeasible-text}
-use Rattle.formats.proofs.Stores.{sets-front}
+use Rattle.prelude.specs.Names.{needs, arith}
 use Rattle.report.proofs.infeasible.Tie as tie
 
-returns : tie.Need-returns
-returns c = let a = c .before .before .before .before .before .before .args in let w = c .before .before .put-answer .ensures in ((w .0 .0, omega arith), w .1 ∙ sets-front (infeasible-text (a .steps)) (a .out .now) (omega (arith, w .0)))
-
 pub infeasible-spec : {M : Type 1} → Rattle.report.proofs.infeasible.Statement.statement M
-infeasible-spec = tie.close (tie.spec (λ c. search needs) (λ c κs. (omega arith, omega arith)) (λ c. search needs) returns)
+infeasible-spec = tie.close (tie.spec (λ c. search needs) (λ c κs. (omega arith, omega arith)) (λ c. search needs)
+    (λ c. let w = c .before .before .put-answer .ensures in ((w .0 .0, omega arith), w .1)))

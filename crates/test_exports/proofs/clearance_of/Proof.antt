@@ -1,4 +1,4 @@
--- `packing::clearance` of the value.
+-- `test_exports::clearance_of` meets its contract, by that of `packing::clearance`.
 use Rattle.prelude.specs.Names.{needs}
 use Rattle.test_exports.proofs.clearance_of.Tie as tie
 

@@ -1,4 +1,4 @@
--- `packing::check` of the value.
+-- `test_exports::exports_check` meets its contract, by that of `packing::check`.
 use Rattle.prelude.specs.Names.{needs}
 use Rattle.test_exports.proofs.exports_check.Tie as tie
 

@@ -1,4 +1,4 @@
--- Within the record its byte, past its end 256.
+-- `test_exports::exports_record_byte` meets its contract: within the record its byte, past its end 256.
 use Rattle.prelude.specs.Names.{_≡_, sym, ap, _∙_, Bool, cond, List, ℕ, _<_, _≤_, length, getD, lt-ltb, le-ltb, needs}
 use Rattle.test_exports.specs.Exports.{record-byte}
 use Rattle.test_exports.proofs.exports_record_byte.Tie as tie

@@ -1,4 +1,4 @@
--- The code's number.
+-- `test_exports::exports_record_number` meets its contract, by that of `item_record_refusal`.
 use Rattle.prelude.specs.Names.{ap, _∙_, needs}
 use Rattle.test_exports.proofs.exports_record_number.Tie as tie
 

@@ -1,4 +1,4 @@
--- The code's place.
+-- `test_exports::exports_record_place` meets its contract, by that of `item_record_refusal`.
 use Rattle.prelude.specs.Names.{ap, needs}
 use Rattle.test_exports.proofs.exports_record_place.Tie as tie
 

@@ -1,4 +1,4 @@
--- `writer::write` of the value.
+-- `test_exports::exports_write` meets its contract, by that of `writer::write`.
 use Rattle.prelude.specs.Names.{needs}
 use Rattle.test_exports.proofs.exports_write.Tie as tie
 

@@ -1,4 +1,4 @@
--- Ends at n, or earlier at the end of the bytes.
+-- `test_lines::bytes` meets its contract. Invariant: none. Measure: the bytes left, of n.
 use Rattle.prelude.specs.Names.{needs, _-_}
 use Rattle.test_lines.proofs.bytes.Tie as tie
 

@@ -1,4 +1,4 @@
--- Ends at n, or earlier at the end of the array.
+-- `test_lines::items_below` meets its contract. Invariant: none. Measure: the items left, of n.
 use Rattle.prelude.specs.Names.{needs, _-_}
 use Rattle.test_lines.proofs.items_below.Tie as tie
 

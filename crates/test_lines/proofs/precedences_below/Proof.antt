@@ -1,4 +1,4 @@
--- Ends at m, or earlier at the end of the array.
+-- `test_lines::precedences_below` meets its contract. Invariant: none. Measure: the precedences left, of m.
 use Rattle.prelude.specs.Names.{needs, _-_}
 use Rattle.test_lines.proofs.precedences_below.Tie as tie
 

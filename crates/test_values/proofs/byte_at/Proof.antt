@@ -1,4 +1,4 @@
--- The byte there, or 0 past the end.
+-- `test_values::byte_at` meets its contract: the byte there, or 0 past the end.
 use Rattle.prelude.specs.Names.{sym, List·getD-eq-default, needs}
 use Rattle.test_values.proofs.byte_at.Tie as tie
 

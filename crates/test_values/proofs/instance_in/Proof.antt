@@ -6,7 +6,17 @@ use Rattle.test_values.proofs.instance_in.Tie as tie
 returns : tie.Need-returns
 unfolding instance-in
 returns c =
-    rw (c .word-at .ensures, c .before .precedences-in .ensures, c .before .before .number-at2 .ensures, c .before .before .before .items-in .ensures, c .before .before .before .before .number-at .ensures, c .before .before .before .before .before .size-at .ensures)
+    let ps = c .before in
+    let items = ps .before .before in
+    let n = items .before in
+    rw (
+      c .word-at .ensures,
+      ps .precedences-in .ensures,
+      ps .before .number-at2 .ensures,
+      items .items-in .ensures,
+      n .number-at .ensures,
+      n .before .size-at .ensures,
+    )
 
 pub instance-in-spec : {M : Type 1} → Rattle.test_values.proofs.instance_in.Statement.statement M
 instance-in-spec = tie.close (tie.spec (λ c κs. search needs) (λ c κs. search needs) (λ c κs. search needs) (λ c κs. search needs)

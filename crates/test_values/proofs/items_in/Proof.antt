@@ -1,5 +1,5 @@
--- `test_values::items_in` meets its contract.
-use Rattle.prelude.specs.Names.{refl, ap, _+_, _*_, _-_, arith, needs}
+-- `test_values::items_in` meets its contract. Invariant: the first i items are filled. Measure: the items left.
+use Rattle.prelude.specs.Names.{ap, _+_, _*_, _-_, arith, needs}
 use Rattle.parts.specs.declared.Size.{Size}
 use Rattle.test_values.specs.Values.{item-in}
 use Rattle.test_values.proofs.Tables.{Filled, fill-none, fill-next, fill-all}
@@ -18,5 +18,5 @@ returns : tie.Need-returns Inv-loop μ-loop
 returns c = fill-all (c .before .loop .inv) (omega arith)
 
 pub items-in-spec : {M : Type 1} → Rattle.test_values.proofs.items_in.Statement.statement M
-items-in-spec = tie.close (tie.spec Inv-loop μ-loop (λ c. fill-none refl) (λ c. omega arith) (λ c. omega arith) (λ c κs. omega arith)
-    (λ c. omega arith) (λ c. search needs) (λ c. omega arith) (λ c. omega arith) loop-again returns)
+items-in-spec = tie.close (tie.spec Inv-loop μ-loop (λ c κs. search needs) (λ c. fill-none (search needs)) (λ c. omega arith)
+    (λ c. omega arith) (λ c κs. omega arith) (λ c. omega arith) (λ c. search needs) (λ c. omega arith) (λ c. omega arith) loop-again returns)

@@ -1,4 +1,4 @@
--- `test_values::packing_at` meets its contract.
+-- `test_values::packing_at` meets its contract. Invariant: the first u positions are filled. Measure: the positions left.
 use Rattle.prelude.specs.Names.{refl, _+_, _*_, _-_, arith, needs}
 use Rattle.test_values.specs.Values.{position-in, packing-at}
 use Rattle.test_values.proofs.Tables.{Filled, fill-none, fill-next, fill-all}

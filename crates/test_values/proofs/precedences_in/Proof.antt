@@ -1,5 +1,5 @@
--- `test_values::precedences_in` meets its contract.
-use Rattle.prelude.specs.Names.{refl, _+_, _*_, _-_, arith, needs}
+-- `test_values::precedences_in` meets its contract. Invariant: the first i precedences are filled. Measure: the precedences left.
+use Rattle.prelude.specs.Names.{_+_, _*_, _-_, arith, needs}
 use Rattle.sheet.specs.Places.{precedence-at}
 use Rattle.test_values.proofs.Tables.{Filled, fill-none, fill-next, fill-all}
 use Rattle.test_values.proofs.precedences_in.Tie as tie
@@ -17,5 +17,5 @@ returns : tie.Need-returns Inv-loop μ-loop
 returns c = fill-all (c .before .loop .inv) (omega arith)
 
 pub precedences-in-spec : {M : Type 1} → Rattle.test_values.proofs.precedences_in.Statement.statement M
-precedences-in-spec = tie.close (tie.spec Inv-loop μ-loop (λ c. fill-none refl) (λ c. omega arith) (λ c. omega arith) (λ c κs. omega arith)
-    (λ c. omega arith) (λ c. search needs) (λ c. omega arith) (λ c. omega arith) loop-again returns)
+precedences-in-spec = tie.close (tie.spec Inv-loop μ-loop (λ c κs. search needs) (λ c. fill-none (search needs)) (λ c. omega arith)
+    (λ c. omega arith) (λ c κs. omega arith) (λ c. omega arith) (λ c. search needs) (λ c. omega arith) (λ c. omega arith) loop-again returns)

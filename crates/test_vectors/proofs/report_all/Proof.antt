@@ -1,4 +1,4 @@
--- Each case lies within what was read, and the next starts after it.
+-- `test_vectors::report_all` meets its contract. Invariant: the next case starts within the bytes. Measure: the bytes left.
 use Rattle.prelude.specs.Names.{_-_, _≤_, arith, length, needs}
 use Rattle.test_vectors.proofs.report_all.Tie as tie
 

@@ -1,4 +1,4 @@
--- The array has as many bytes as its type says, with none of them written out.
+-- `test_vectors::space` meets its contract: the array has as many bytes as its type says, with none of them written out.
 use Rattle.prelude.specs.Names.{sym, ℕ, length-replicate}
 use Rattle.test_vectors.proofs.space.Tie as tie
 

@@ -1,4 +1,4 @@
--- `report::put::put_decimal` meets its contract. The measure of the recursion is the number.
+-- `report::put::put_decimal` meets its contract. Measure of the recursion: the number.
 use Rattle.prelude.specs.Names.{needs, arith, div-lt-self, _≡_, [], _∷_, ℕ, _+_, _/_, _%_, _<_, _≤_, length, length-set, length-append}
 use Rattle.formats.proofs.Stores.{sets-append}
 use Rattle.report.specs.Decimal.{decimal}

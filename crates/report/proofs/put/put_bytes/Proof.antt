@@ -1,4 +1,4 @@
--- `report::put::put_bytes` meets its contract.
+-- `report::put::put_bytes` meets its contract. Invariant: the first i bytes are put, and nothing else. Measure: the bytes left.
 use Rattle.prelude.specs.Names.{needs, arith, _≡_, refl, _∙_, _-_, _≤_, length, take, length-set, sets}
 use lib.Seq.{take-length}
 use Rattle.formats.proofs.Stores.{sets-next}
@@ -26,5 +26,5 @@ returns c =
     (rw e, l .inv .1 ∙ rw (e, take-length))
 
 pub put-bytes-spec : {M : Type 1} → Rattle.report.proofs.put.put_bytes.Statement.statement M
-put-bytes-spec = tie.close (tie.spec Inv-loop μ-loop loop-holds (λ c. search needs) (λ c. omega arith) (λ c. omega (arith)) (λ c. search needs)
+put-bytes-spec = tie.close (tie.spec Inv-loop μ-loop loop-holds (λ c. search needs) (λ c. omega arith) (λ c. omega arith) (λ c. search needs)
     (λ c. search needs) loop-again (λ c. omega arith) (λ c. c .before .loop .inv .2) returns)

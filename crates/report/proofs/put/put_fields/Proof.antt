@@ -1,4 +1,4 @@
--- `report::put::put_fields` meets its contract. From the i-th on the fields are still to be put; they become fewer.
+-- `report::put::put_fields` meets its contract. Invariant: the fields from the i-th on, put at k, complete the text. Measure: the fields left.
 use Rattle.prelude.specs.Names.{needs, arith, _-_, length-set}
 use Rattle.report.proofs.Puts.{Putting, putting-none, putting-room, putting-next, putting-done}
 use Rattle.report.proofs.put.put_fields.Tie as tie

@@ -1,4 +1,4 @@
--- `report::put::put_items` meets its contract.
+-- `report::put::put_items` meets its contract. Invariant: the lines of the first u items are put, and the next goes to k. Measure: the items left.
 use Rattle.prelude.specs.Names.{needs, arith, add-zero, _≡_, refl, sym, _+_, _-_, _*_, _≤_, length, length-append, sets}
 use Rattle.formats.proofs.Stores.{sets-append}
 use Rattle.report.specs.Text.{item-lines}
@@ -22,10 +22,16 @@ loop-holds c = (omega arith, rw items-none (sym (add-zero _)), rw items-none ref
 
 loop-again : tie.Need-loop-again Inv-loop μ-loop
 loop-again c =
-    let l = c .before .before .before .before .before .before .loop in
+    let round = c .before .before .before .before .before .before in
+    let l = round .loop in
     let w = c .before .before .put-item in
-    let next = items-next (c .before .before .before .before .before .before .before .before .before .args .packing) (l .u) in
-    (search needs, rw (next, length-append) (omega (arith, w .ensures .0 .0)), rw (next, w .ensures .1, l .inv .1, l .inv .2, sets-append), omega (arith, w .kept .0), omega (arith, w .ensures .0 .1))
+    let next = items-next (round .before .before .before .args .packing) (l .u) in (
+      search needs,
+      rw (next, length-append) (omega (arith, w .ensures .0 .0)),
+      rw (next, w .ensures .1, l .inv .1, l .inv .2, sets-append),
+      omega (arith, w .kept .0),
+      omega (arith, w .ensures .0 .1),
+    )
 
 returns : tie.Need-returns Inv-loop μ-loop
 returns c =

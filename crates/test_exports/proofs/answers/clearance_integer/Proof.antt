@@ -1,4 +1,4 @@
--- The number that the answer holds, or 0.
+-- `test_exports::answers::clearance_integer` meets its contract: the number that the answer holds, or 0.
 use Rattle.prelude.specs.Names.{ap, sym, _∙_, needs}
 use mir.Syntax.{w32}
 use mir.ValLaws.{toZ-ofZ}
