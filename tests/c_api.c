@@ -1,5 +1,5 @@
-/* Check and search as a C client calls them: every row of document 01's "Small halls", alone and as lists of calls with refused
- * calls among them; wrong lengths; damaged notes. The buffers are compared whole, with a guard byte on each side. */
+/* Check, pieces and search as a C client calls them: every row of document 01's "Small halls", alone and as lists of calls with
+ * refused calls among them; wrong lengths; damaged notes. The buffers are compared whole, with a guard byte on each side. */
 #include "hallplan.h"
 
 #include <stdio.h>
@@ -190,6 +190,34 @@ static void checks(void)
     }
 }
 
+/* Pieces: the number of pieces in each row of the table, or the row's refusal; sheets for 5 and 6, which no row has; 10 pieces, the
+ * most, and 11; 1 wherever the printed example is cut. */
+static void pieces(void)
+{
+    static const struct {
+        const char *name, *sheet;
+        size_t len;
+        uint32_t want;
+    } sheets[] = {
+        {"u = v in an order", BYTES("\x18\x02\x00\x00\x01\x01\x01"), HALLPLAN_REFUSED + 5},
+        {"a piece not on the sheet", BYTES("\x18\x02\x00\x00\x01\x00\x02"), HALLPLAN_REFUSED + 5},
+        {"an order twice", BYTES("\x18\x02\x00\x00\x02\x00\x01\x00\x01"), HALLPLAN_REFUSED + 6},
+        {"an order below the one before", BYTES("\x18\x02\x00\x00\x02\x01\x00\x00\x01"), HALLPLAN_REFUSED + 6},
+        {"ten pieces", BYTES("\x08\x0A\x00\x00\x00\x00\x00\x00\x00\x00\x00\x00"), 10},
+        {"eleven pieces", BYTES("\x08\x0B\x00\x00\x00\x00\x00\x00\x00\x00\x00\x00\x00"), HALLPLAN_REFUSED + 4},
+    };
+    for (size_t r = 0; r < sizeof rows / sizeof rows[0]; r++) {
+        uint32_t want = rows[r].answer < HALLPLAN_REFUSED ? (uint32_t)rows[r].pieces : rows[r].answer;
+        EXPECT(rows[r].name, hallplan_pieces(sheet_of(&rows[r]), rows[r].len), want);
+    }
+    for (size_t k = 0; k < sizeof sheets / sizeof sheets[0]; k++) {
+        EXPECT(sheets[k].name, hallplan_pieces((const uint8_t *)sheets[k].sheet, sheets[k].len), sheets[k].want);
+    }
+    for (size_t len = 0; len < rows[1].len; len++) {
+        EXPECT("cut", hallplan_pieces(sheet_of(&rows[1]), len), HALLPLAN_REFUSED + 1);
+    }
+}
+
 /* Notes that get 10 on the printed example, which places at once: a state, a length, a turn that are none; bytes past the length;
  * a row where there is no branching point; a none note with a row. */
 static void notes(void)
@@ -210,6 +238,7 @@ int main(void)
     small_halls();
     small_hall_in_parts();
     checks();
+    pieces();
     notes();
     return failed;
 }

@@ -1,4 +1,4 @@
-/* Random and damaged sheets, plans, notes, lengths and allowances, put to check and search: fuzz SECONDS SEED
+/* Random and damaged sheets, plans, notes, lengths and allowances, put to check, pieces and search: fuzz SECONDS SEED
  *
  * Every call is made twice on copies of the same bytes: on heap blocks of exactly their length, so that memcheck sees each access
  * outside, and on blocks with guard bytes around them. Both must return and leave the same, and what document 01 allows. */
@@ -27,7 +27,7 @@ struct block {
 };
 
 static uint64_t state;
-static unsigned long long cases, checks[2 + NUMBERS], searches[3 + NUMBERS];
+static unsigned long long cases, checks[2 + NUMBERS], piece_calls[1 + NUMBERS], searches[3 + NUMBERS];
 
 static uint64_t next_random(void)
 {
@@ -213,6 +213,29 @@ static uint32_t check(const struct bytes *sheet, const struct bytes *plan)
     return answer;
 }
 
+static uint32_t pieces_on(const struct bytes *sheet, size_t guards)
+{
+    struct block s = lend(sheet, guards);
+    uint32_t answer = hallplan_pieces(s.at, s.len);
+    struct bytes left = take_back(s);
+    must(same(&left, sheet), "pieces wrote");
+    return answer;
+}
+
+/* The number of pieces, or the sheet's refusal; what check answered on the sheet and a plan goes with it. */
+static void count_pieces(const struct bytes *sheet, const struct bytes *plan, uint32_t checked)
+{
+    uint32_t answer = pieces_on(sheet, 0);
+    must(answer == pieces_on(sheet, GUARD_BYTES), "pieces answers twice");
+    if (answer > HALLPLAN_REFUSED) {
+        must(answer <= HALLPLAN_REFUSED + 7 && checked == answer, "a refusal of pieces");
+    } else {
+        must(answer <= 10, "an answer of pieces");
+        must((checked == HALLPLAN_REFUSED + 8) == (plan->len != HALLPLAN_PIECE_BYTES * (size_t)answer), "the number of pieces");
+    }
+    piece_calls[answer <= 10 ? 0 : 1 + answer - HALLPLAN_REFUSED]++;
+}
+
 /* The three buffers that a search writes. */
 struct lent {
     struct bytes note, steps, plan;
@@ -274,7 +297,7 @@ static void one_case(void)
     default: break;
     }
     make_plan(&lent.plan, pieces);
-    check(&sheet, &lent.plan);
+    count_pieces(&sheet, &lent.plan, check(&sheet, &lent.plan));
     make_note(&lent.note);
     make_random(&lent.steps, 8);
     lent.steps.len = below(20) ? HALLPLAN_STEP_BYTES : lent.steps.len;
@@ -300,7 +323,7 @@ static void print_counts(const char *what, const unsigned long long *counts, uns
 
 int main(int argc, char **argv)
 {
-    static const char *const yes_no[] = {"no", "yes"}, *const words[] = {"spent", "placed", "none"};
+    static const char *const yes_no[] = {"no", "yes"}, *const counted[] = {"counted"}, *const words[] = {"spent", "placed", "none"};
     double seconds = argc > 1 ? atof(argv[1]) : 60;
     uint64_t seed = argc > 2 ? strtoull(argv[2], NULL, 10) : 1;
     time_t began = time(NULL);
@@ -310,6 +333,7 @@ int main(int argc, char **argv)
         cases++;
     }
     print_counts("check", checks, 2, yes_no);
+    print_counts("pieces", piece_calls, 1, counted);
     print_counts("search", searches, 3, words);
     printf("fuzz: %llu cases in %.0f s, seed %llu: nothing outside, nothing unexpected\n", cases, seconds, (unsigned long long)seed);
     return 0;

@@ -23,7 +23,7 @@ use Rattle.c_api.specs.Calls.{lengths-fit, note-follows, instance-search
 use Rattle.c_api.specs.Lists.{Lent, Call, own, other, on-bytes}
 use Rattle.c_api.specs.Notes.{note-bytes}
 use Rattle.c_api.proofs.Faults.{untouched}
-use Rattle.c_api.proofs.Notes.{opening-zeros, note-length, note-holds, note-back}
+use Rattle.c_api.proofs.Notes.{opening-zeros, note-bytes-length, note-holds, note-back}
 use Rattle.c_api.proofs.Plans.{reads-sound}
 use Rattle.model.specs.Calls as C
 use Rattle.model.specs.Search as S
@@ -45,19 +45,21 @@ module _ (sheet : List ℕ) (bytes : Bytes sheet) (r : Reads sheet) where
     abbrev call : SearchResult
     call = search-call sheet (note-bytes κ) (c .allowance) (c .steps) (c .plan)
 
-    -- where the buffers have the right lengths it is the model's
-    right-lengths : S.Follows (look p) κ → lengths-fit i 273 (length (c .steps)) (length (c .plan)) ≡ true
-        → call ≡ R.result-of p (search p (c .allowance) κ)
+    -- whether the buffers have the right lengths
+    abbrev fit : Bool
+    fit = lengths-fit i 273 (length (c .steps)) (length (c .plan))
+
+    -- where they have, it is the model's
+    right-lengths : S.Follows (look p) κ → fit ≡ true → call ≡ R.result-of p (search p (c .allowance) κ)
     unfolding search-call instance-searched note-follows
     right-lengths f h =
         let g = following-so p (value-of κ) .1 (held-follows p sound κ f) in
-        rw (r .reads, note-length κ, h, note-holds κ, note-back κ, g, checkpoint-back κ (short p sound κ f))
+        rw (r .reads, note-bytes-length κ, h, note-holds κ, note-back κ, g, checkpoint-back κ (short p sound κ f))
 
     -- and where one has a wrong length it is refused
-    wrong-length : lengths-fit i 273 (length (c .steps)) (length (c .plan)) ≡ false
-        → 100 ≤ search-code sheet (note-bytes κ) (c .allowance) (c .steps) (c .plan)
+    wrong-length : fit ≡ false → 100 ≤ R.answer-number (call .answer)
     unfolding search-call instance-searched R.result-refused
-    wrong-length h = rw (r .reads, note-length κ, h) (omega arith)
+    wrong-length h = rw (r .reads, note-bytes-length κ, h) (omega arith)
 
     -- the note that a result leaves
     abbrev left : SearchResult → List ℕ
@@ -71,8 +73,7 @@ module _ (sheet : List ℕ) (bytes : Bytes sheet) (r : Reads sheet) where
     reaches t S.infeasible d e = record { code = rw e; next = ap left e; steps = rw (e, steps-back t) d; plan = rw e }
     reaches t (S.packed-at path) d e = record { code = rw e; next = ap left e; steps = rw (e, steps-back t) d; plan = rw (r .reads, e) }
 
-    by-lengths : S.Follows (look p) κ → (b : Bool) → lengths-fit i 273 (length (c .steps)) (length (c .plan)) ≡ b
-        → Served (machine p) (on-bytes sheet i) (own c) κ
+    by-lengths : S.Follows (look p) κ → (b : Bool) → fit ≡ b → Served (machine p) (on-bytes sheet i) (own c) κ
     by-lengths f true h = call-served h (reaches _ (steps (machine p) (c .allowance) κ) refl (right-lengths f h))
     by-lengths f false h =
         call-refused h (wrong-length h) (untouched sheet (note-bytes κ) (c .steps) (c .plan) (c .allowance) (wrong-length h) .0)
@@ -82,7 +83,7 @@ module _ (sheet : List ℕ) (bytes : Bytes sheet) (r : Reads sheet) where
   bytes-serve = record { opens = sym opening-zeros; calls = calls }
     where
       calls : (c : Call sheet) (κ : S.Checkpoint) → S.Follows (look p) κ → Served (machine p) (on-bytes sheet i) c κ
-      calls (own c) κ f = by-lengths c κ f (lengths-fit i 273 (length (c .steps)) (length (c .plan))) refl
+      calls (own c) κ f = by-lengths c κ f _ refl
       calls (other note c h) κ f = call-refused refl h refl
 
 -- a call that is lent a note of another length is refused
@@ -91,7 +92,7 @@ pub another-length : (sheet note : List ℕ) (c : Lent) → (length note ≡ 273
 unfolding search-call instance-searched R.result-refused
 another-length sheet note c l = go (decode sheet)
   where
-    go : (d : Reading.Read Instance) → 100 ≤ R.answer-number (searched d note (c .allowance) (length (c .steps)) (length (c .plan)) .answer)
+    go : (d : Reading.Read Instance) → 100 ≤ R.answer-number (searched d note (c .allowance) (c .steps) (c .plan) .answer)
     go (Reading.refused e) = omega arith
     go (Reading.got i at rest) = rw (ne-eqb (length note) 273 l) (omega arith)
 

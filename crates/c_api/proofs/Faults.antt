@@ -1,13 +1,11 @@
 -- What search refuses of the bytes that it is lent: exactly what the table does, and then it leaves the buffers.
-use Rattle.prelude.specs.Names.{Bool, true, false, List, _↔_, _⊎_, inl, inr, _≡_, refl, sym, ap, _∙_, ℕ, _+_, _≤_, _<_, arith, length}
+use Rattle.prelude.specs.Names.{Bool, true, false, List, _↔_, _⊎_, inl, inr, ⊎-elim, _≡_, refl, sym, ap, _∙_, ℕ, _+_, _≤_, _<_, arith}
 use Rattle.model.proofs.Below.{and-both, clash, not-so}
 use Rattle.model.specs.Problem.{Problem, Positions}
 use Rattle.model.specs.Run.{look, machine, plan-at, search}
 use Rattle.refusal.specs.Numbers.{number-of}
-use Rattle.refusal.specs.declared.Refusal.{Refusal}
-use Rattle.formats.specs.Reading.{Bytes, refused}
-use Rattle.instance.proofs.Readings.{read-or-refused, decode-refuses}
-use Rattle.instance.specs.Sheets.{decode}
+use Rattle.formats.specs.Reading.{Bytes}
+use Rattle.instance.proofs.Readings.{decode-refuses}
 use Rattle.instance.specs.Meaning.{problem-of}
 use Rattle.instance.specs.Reads.{Reads}
 use Rattle.search.proofs.Claim.{following-so, answered-small, zero-is-spent}
@@ -18,14 +16,14 @@ use Rattle.search.specs.declared.answer.SearchResult.{SearchResult}
 use Rattle.buffers.proofs.Bytes.{steps-back}
 use Rattle.buffers.specs.Bytes.{packing-bytes, steps-in}
 use Rattle.buffers.specs.Checkpoints.{checkpoint-in, is-checkpoint}
-use Rattle.c_api.specs.Calls.{check-code, lengths-fit, note-follows, searched-if, instance-searched, rewritten, when-packed, search-call}
+use Rattle.c_api.specs.Calls.{check-code, buffers-fit, note-follows, searched-if, instance-searched, rewritten, when-packed, search-call}
 use Rattle.c_api.specs.Calls.{search-code, note-after, steps-after, plan-after}
 use Rattle.c_api.specs.Faults.{SearchBytesFault}
 use Rattle.c_api.specs.Notes.{Lengths, NoteFollows}
 use Rattle.c_api.proofs.Tables.{refuses-by-table, served-by-table}
-use Rattle.c_api.proofs.Notes.{note-so}
-use Rattle.c_api.proofs.Outcomes.{lengths-so}
-use Rattle.c_api.proofs.Plans.{reads-sound, placed-checks}
+use Rattle.c_api.proofs.Notes.{note-follows-exactly}
+use Rattle.c_api.proofs.Outcomes.{lengths-exactly}
+use Rattle.c_api.proofs.Plans.{fault-or-reads, reads-sound, placed-checks}
 use Rattle.model.proofs.Theorems as T
 use Rattle.model.specs.Calls as C
 use Rattle.model.specs.Machine as Machine
@@ -67,7 +65,7 @@ module _ (sheet note steps plan : List ℕ) (allowance : ℕ) where
 
   -- the tests of 8 and 10
   abbrev fit : Reads sheet → Bool
-  fit r = lengths-fit (r .instance) (length note) (length steps) (length plan)
+  fit r = buffers-fit (r .instance) note steps plan
 
   abbrev follow : Reads sheet → Bool
   follow r = note-follows (problem-of (r .instance)) note
@@ -76,44 +74,29 @@ module _ (sheet note steps plan : List ℕ) (allowance : ℕ) where
   unfolding search-call instance-searched
   read-is r d e = rw (r .reads, d, e)
 
-  unread-code : (e : Refusal) → decode sheet ≡ refused e → code ≡ 100 + number-of e
-  unfolding search-call R.result-refused
-  unread-code e d = rw d
-
-  eight-code : (r : Reads sheet) → fit r ≡ false → code ≡ 108
-  unfolding R.result-refused
-  eight-code r d = ap number (read-is r d refl)
-
-  ten-code : (r : Reads sheet) → fit r ≡ true → follow r ≡ false → code ≡ 110
-  unfolding R.result-refused
-  ten-code r d e = ap number (read-is r d e)
-
   module _ (bytes : Bytes sheet) (note-is : Bytes note) where
-    fit-so : (r : Reads sheet) → (fit r ≡ true) ↔ Lengths (r .instance) note steps plan
-    fit-so r = lengths-so (r .instance) note steps plan
+    fit-exactly : (r : Reads sheet) → (fit r ≡ true) ↔ Lengths (r .instance) note steps plan
+    fit-exactly r = lengths-exactly (r .instance) note steps plan
 
-    follow-so : (r : Reads sheet) → Lengths (r .instance) note steps plan → (follow r ≡ true) ↔ NoteFollows (problem r) note
-    follow-so r h = note-so (problem r) (reads-sound sheet bytes r) note note-is (h .note-is)
+    follow-exactly : (r : Reads sheet) → Lengths (r .instance) note steps plan → (follow r ≡ true) ↔ NoteFollows (problem r) note
+    follow-exactly r h = note-follows-exactly (problem r) (reads-sound sheet bytes r) note note-is (h .note-is)
 
     fault-code : {n : ℕ} → Fault n → code ≡ 100 + n
-    fault-code (SearchBytesFault.unread e d k) = rw k (unread-code e (decode-refuses sheet e .1 d))
-    fault-code (SearchBytesFault.eight r h k) = rw k (eight-code r (not-so _ (fit-so r) h))
-    fault-code (SearchBytesFault.ten r l h k) = rw k (ten-code r (fit-so r .1 l) (not-so _ (follow-so r l) h))
+    unfolding search-call R.result-refused
+    fault-code (SearchBytesFault.unread e f k) = rw (decode-refuses sheet e .1 f, k)
+    fault-code (SearchBytesFault.eight r h k) = rw k (ap number (read-is r (not-so _ (fit-exactly r) h) refl))
+    fault-code (SearchBytesFault.ten r l h k) = rw k (ap number (read-is r (fit-exactly r .1 l) (not-so _ (follow-exactly r l) h)))
 
     -- there is a fault, or nothing is refused
     by-table : ((n : ℕ) × Fault n) ⊎ Searched sheet allowance call
-    by-table = go (read-or-refused sheet)
+    by-table = ⊎-elim (λ (e, f). inl (number-of e, SearchBytesFault.unread e f refl)) (λ r. read r _ _ refl refl) (fault-or-reads sheet)
       where
         read : (r : Reads sheet) (l f : Bool) → fit r ≡ l → follow r ≡ f → ((n : ℕ) × Fault n) ⊎ Searched sheet allowance call
-        read r false f d e = inl (8, SearchBytesFault.eight r (λ h. clash (fit-so r .1 h) d) refl)
+        read r false f d e = inl (8, SearchBytesFault.eight r (λ h. clash (fit-exactly r .1 h) d) refl)
         read r true false d e =
-            let h = fit-so r .0 d in inl (10, SearchBytesFault.ten r h (λ ν. clash (follow-so r h .1 ν) e) refl)
+            let h = fit-exactly r .0 d in inl (10, SearchBytesFault.ten r h (λ ν. clash (follow-exactly r h .1 ν) e) refl)
         read r true true d e =
             inr (record { reads = r; start = checkpoint-of (checkpoint-in note); follows = in-follows _ note e; is = read-is r d e })
-
-        go : Reads sheet ⊎ ((e : Refusal) × (decode sheet ≡ refused e)) → ((n : ℕ) × Fault n) ⊎ Searched sheet allowance call
-        go (inl r) = read r _ _ refl refl
-        go (inr (e, d)) = inl (number-of e, SearchBytesFault.unread e (decode-refuses sheet e .0 d) refl)
 
     small : Searched sheet allowance call → code < 100
     small σ = let p = problem (σ .reads) in omega (arith, ap number (σ .is), answered-small p (search p allowance (σ .start)))

@@ -22,11 +22,11 @@ opening-zeros = refl
 
 -- The note bytes of a checkpoint hold it
 
-pub note-length : (κ : S.Checkpoint) → length (note-bytes κ) ≡ 273
+pub note-bytes-length : (κ : S.Checkpoint) → length (note-bytes κ) ≡ 273
 unfolding note-bytes value-of
-note-length (S.open-at path) = B.checkpoint-length (value-of (S.open-at path)) (branches-length path)
-note-length S.infeasible = B.checkpoint-length (value-of S.infeasible) (branches-length [])
-note-length (S.packed-at path) = B.checkpoint-length (value-of (S.packed-at path)) (branches-length path)
+note-bytes-length (S.open-at path) = B.checkpoint-length (value-of (S.open-at path)) (branches-length path)
+note-bytes-length S.infeasible = B.checkpoint-length (value-of S.infeasible) (branches-length [])
+note-bytes-length (S.packed-at path) = B.checkpoint-length (value-of (S.packed-at path)) (branches-length path)
 
 pub note-holds : (κ : S.Checkpoint) → is-checkpoint (note-bytes κ) ≡ true
 unfolding note-bytes value-of
@@ -57,9 +57,9 @@ note-again note β l h w =
         getD-drop 3 note k 0 ∙ rw e at (sym at ∙ B.zero-at _ z (k - word-at note 1))
 
 -- 10 is for any other note than the bytes of a checkpoint that follows
-pub note-so : (p : Problem) → Sound p → (note : List ℕ) → Bytes note → length note ≡ 273 → (note-follows p note ≡ true) ↔ NoteFollows p note
+pub note-follows-exactly : (p : Problem) → Sound p → (note : List ℕ) → Bytes note → length note ≡ 273 → (note-follows p note ≡ true) ↔ NoteFollows p note
 unfolding note-follows
-note-so p σ note β l = (
+note-follows-exactly p σ note β l = (
   (λ h.
       let (k, f) = and-both (is-checkpoint note) (following p (checkpoint-in note)) h in
       let φ = following-so p (checkpoint-in note) .0 f in

@@ -1,7 +1,6 @@
 -- What a call comes to, case by case, and that a path that is to be written has room in a note.
 use Rattle.prelude.specs.Names.{true, false, List, _↔_, _≡_, sym, subst, ℕ, _*_, _≤_, eqb, length, eqb-true, eq-eqb}
 use Rattle.model.proofs.Below.{and-both}
-use Rattle.model.specs.Branching.{plan}
 use Rattle.model.specs.Problem.{Positions}
 use Rattle.model.specs.Machine.{steps}
 use Rattle.model.specs.Run.{machine, plan-at}
@@ -20,17 +19,15 @@ use Rattle.tree_paths.specs.Checkpoints.{checkpoint-of, value-of}
 use Rattle.search.specs.declared.answer.SearchResult.{SearchResult}
 use Rattle.buffers.specs.Bytes.{packing-in}
 use Rattle.buffers.specs.Checkpoints.{checkpoint-in, is-checkpoint}
-use Rattle.c_api.specs.Calls.{plan-fits, lengths-fit, checked-if, note-follows, instance-searched, PathFits}
+use Rattle.c_api.specs.Calls.{plan-fits, buffers-fit, instance-checked, note-follows, instance-searched, PathFits}
 use Rattle.c_api.specs.Notes.{Lengths}
 use Rattle.model.proofs.Theorems as T
 use Rattle.model.specs.Calls as C
-use Rattle.model.specs.Search as S
 use Rattle.search.specs.Results as R
 
 -- buffers of the right lengths: the test and the record agree
-pub lengths-so : (i : Instance) (note steps plan : List ℕ)
-    → (lengths-fit i (length note) (length steps) (length plan) ≡ true) ↔ Lengths i note steps plan
-lengths-so i note steps plan = (
+pub lengths-exactly : (i : Instance) (note steps plan : List ℕ) → (buffers-fit i note steps plan ≡ true) ↔ Lengths i note steps plan
+lengths-exactly i note steps plan = (
   (λ h.
       let (a, b) = and-both (eqb (length note) 273) _ h in
       let (d, e) = and-both (eqb (length steps) 4) (plan-fits i (length plan)) b in
@@ -38,19 +35,19 @@ lengths-so i note steps plan = (
   (λ l. rw (eq-eqb _ _ (l .note-is), eq-eqb _ _ (l .steps-are), eq-eqb _ _ (l .plan-is))),
 )
 
-module _ (i : Instance) (note : List ℕ) (budget steps plan : ℕ) where
-  pub wrong-lengths : lengths-fit i (length note) steps plan ≡ false
-      → instance-searched i note budget steps plan ≡ R.result-refused BadArgument (checkpoint-in note)
+module _ (i : Instance) (note : List ℕ) (allowance : ℕ) (steps plan : List ℕ) where
+  pub wrong-lengths : buffers-fit i note steps plan ≡ false
+      → instance-searched i note allowance steps plan ≡ R.result-refused BadArgument (checkpoint-in note)
   unfolding instance-searched
   wrong-lengths h = rw h
 
-  pub no-checkpoint : lengths-fit i (length note) steps plan ≡ true → is-checkpoint note ≡ false
-      → instance-searched i note budget steps plan ≡ R.result-refused NotFollowing (checkpoint-in note)
+  pub no-checkpoint : buffers-fit i note steps plan ≡ true → is-checkpoint note ≡ false
+      → instance-searched i note allowance steps plan ≡ R.result-refused NotFollowing (checkpoint-in note)
   unfolding instance-searched note-follows
   no-checkpoint h k = rw (h, k)
 
-  pub as-searched : valid i ≡ true → lengths-fit i (length note) steps plan ≡ true → is-checkpoint note ≡ true
-      → instance-searched i note budget steps plan ≡ R.search-result i (checkpoint-in note) budget
+  pub as-searched : valid i ≡ true → buffers-fit i note steps plan ≡ true → is-checkpoint note ≡ true
+      → instance-searched i note allowance steps plan ≡ R.search-result i (checkpoint-in note) allowance
   unfolding instance-searched note-follows R.search-result
   as-searched v h k = rw (v, h, k)
 
@@ -80,6 +77,6 @@ module _ (i : Instance) (v : valid i ≡ true) (long : length (i .items) ≡ 10)
           subst Fit (sym r) (fits (C.answer-at (machine p) (plan-at p) μ) (value-of μ .length) s)
 
 -- the check of a plan of the right length
-pub checked-is : (i : Instance) (plan : List ℕ) (q : Packing) (r : CheckAnswer) → length plan ≡ 6 * i .«item_count» → q ≡ packing-in plan → r ≡ check-answer i q
-    → check-number r ≡ check-number (checked-if (plan-fits i (length plan)) i plan)
+pub checked-is : (i : Instance) (plan : List ℕ) (q : Packing) (r : CheckAnswer) → length plan ≡ 6 * i .«item_count»
+    → q ≡ packing-in plan → r ≡ check-answer i q → check-number r ≡ check-number (instance-checked i plan)
 checked-is i plan q r h e k = rw (eq-eqb _ _ h, ← e, k)

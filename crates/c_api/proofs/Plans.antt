@@ -7,10 +7,10 @@ use Rattle.model.specs.Problem.{Positions, Feasible, feasible}
 use Rattle.model.specs.Run.{plan-at}
 use Rattle.refusal.specs.Numbers.{number-of}
 use Rattle.refusal.specs.declared.Refusal.{Refusal}
-use Rattle.formats.specs.Reading.{Bytes, refused}
+use Rattle.formats.specs.Reading.{Bytes}
+use Rattle.sheet.specs.Faults.{FirstFault}
 use Rattle.instance.proofs.RoundTrips.{read-valid, read-full}
 use Rattle.instance.proofs.Readings.{read-or-refused, decode-refuses}
-use Rattle.instance.specs.Sheets.{decode}
 use Rattle.instance.specs.Meaning.{start, problem-of, positions-of}
 use Rattle.instance.specs.Reads.{Reads}
 use Rattle.instance.specs.Valid.{valid}
@@ -28,7 +28,10 @@ use Rattle.model.proofs.Theorems as T
 use Rattle.model.specs.Search as S
 use Rattle.search.proofs.Packing as Value
 
--- A sheet reads as one instance, which is valid
+-- A sheet has a first fault, or it reads as one instance, which is valid
+
+pub fault-or-reads : (sheet : List ℕ) → ((e : Refusal) × FirstFault sheet e) ⊎ Reads sheet
+fault-or-reads sheet = ⊎-elim inr (λ (e, d). inl (e, decode-refuses sheet e .0 d)) (read-or-refused sheet)
 
 pub reads-one : (sheet : List ℕ) (r s : Reads sheet) → r .instance ≡ s .instance
 reads-one sheet r s = cc (r .reads, s .reads)
@@ -56,15 +59,11 @@ module _ (sheet plan : List ℕ) where
 
   -- there is a fault, or nothing is refused
   by-table : ((n : ℕ) × Fault n) ⊎ Checkable sheet plan
-  by-table = go (read-or-refused sheet)
+  by-table = ⊎-elim (λ (e, f). inl (number-of e, CheckBytesFault.unread e f refl)) (λ r. read r _ refl) (fault-or-reads sheet)
     where
       read : (r : Reads sheet) (b : Bool) → plan-fits (r .instance) (length plan) ≡ b → ((n : ℕ) × Fault n) ⊎ Checkable sheet plan
       read r true h = inr (record { sheet-reads = r; plan-is = eqb-true _ _ h })
       read r false h = inl (8, CheckBytesFault.eight r (λ l. clash (eq-eqb _ _ l) h) refl)
-
-      go : Reads sheet ⊎ ((e : Refusal) × (decode sheet ≡ refused e)) → ((n : ℕ) × Fault n) ⊎ Checkable sheet plan
-      go (inl r) = read r (plan-fits (r .instance) (length plan)) refl
-      go (inr (e, d)) = inl (number-of e, CheckBytesFault.unread e (decode-refuses sheet e .0 d) refl)
 
   module _ (bytes : Bytes sheet) where
     -- where nothing is refused, the test of the plan decides
@@ -89,19 +88,19 @@ module _ (sheet plan : List ℕ) where
     pub check-refuses : (n : ℕ) → (code ≡ 100 + n) ↔ Fault n
     check-refuses = refuses-by-table code Fault by-table (λ n φ. fault-code φ) small
 
-    abbrev said : {A : Type 0} → code < 100 → (Checkable sheet plan → A) → A
-    said = served-by-table code Fault by-table (λ n φ. fault-code φ) small
+    abbrev served : {A : Type 0} → code < 100 → (Checkable sheet plan → A) → A
+    served = served-by-table code Fault by-table (λ n φ. fault-code φ) small
 
     -- "Check returns 0 no, 1 yes": yes exactly when the plan fits
     pub yes-exactly : (code ≡ 1) ↔ ((c : Checkable sheet plan) × Fits c)
     yes-exactly = (
-      (λ e. said (omega arith) (λ c. ⊎-elim (λ (f, k). (c, f)) (λ (f, k). absurd (omega arith)) (decided c))),
+      (λ e. served (omega arith) (λ c. ⊎-elim (λ (f, k). (c, f)) (λ (f, k). absurd (omega arith)) (decided c))),
       (λ (c, f). ⊎-elim (λ (g, k). k) (λ (g, k). absurd (g f)) (decided c)),
     )
 
     pub no-exactly : (code ≡ 0) ↔ ((c : Checkable sheet plan) × (Fits c → ⊥))
     no-exactly = (
-      (λ e. said (omega arith) (λ c. ⊎-elim (λ (f, k). absurd (omega arith)) (λ (f, k). (c, f)) (decided c))),
+      (λ e. served (omega arith) (λ c. ⊎-elim (λ (f, k). absurd (omega arith)) (λ (f, k). (c, f)) (decided c))),
       (λ (c, f). ⊎-elim (λ (g, k). absurd (f g)) (λ (g, k). k) (decided c)),
     )
 
@@ -118,9 +117,9 @@ module _ (sheet : List ℕ) (bytes : Bytes sheet) (r : Reads sheet) (κ : S.Chec
   few = reads-sound sheet bytes r .limited
 
   -- the positions come back from the plan bytes
-  same : (a u : ℕ) → a < 3 → u < problem-of (r .instance) .items → positions-of (packing-in (plan-bytes (r .instance) κ)) a u ≡ q a u
+  positions-back : (a u : ℕ) → a < 3 → u < problem-of (r .instance) .items → positions-of (packing-in (plan-bytes (r .instance) κ)) a u ≡ q a u
   unfolding positions-of packing-of problem-of
-  same a u la lu =
+  positions-back a u la lu =
       ap (start a) (packing-back n u (packing-of (problem-of (r .instance)) q) few few lu)
       ∙ Value.packing-back (problem-of (r .instance)) few q a u la lu
 
@@ -128,5 +127,5 @@ module _ (sheet : List ℕ) (bytes : Bytes sheet) (r : Reads sheet) (κ : S.Chec
   unfolding packing-of
   placed-checks f = yes-exactly sheet (plan-bytes (r .instance) κ) bytes .1 (
     record { sheet-reads = r; plan-is = packing-length n (packing-of (problem-of (r .instance)) q) few },
-    Value.feasible-same (problem-of (r .instance)) (reads-sound sheet bytes r) q _ same f,
+    Value.feasible-same (problem-of (r .instance)) (reads-sound sheet bytes r) q _ positions-back f,
   )

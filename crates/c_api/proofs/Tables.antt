@@ -1,4 +1,5 @@
--- A call by the table of refusals: there is a fault, and the call's number is 100 more than the fault's, or nothing is refused, and its number is less.
+-- A call by the table of refusals: there is a fault, and the call's number is 100 more than the fault's, or nothing is refused, and its
+-- number is less.
 use Rattle.prelude.specs.Names.{_≡_, subst, _⊎_, inl, inr, _↔_, ℕ, _+_, _<_, arith}
 
 module _

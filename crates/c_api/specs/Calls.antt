@@ -1,6 +1,7 @@
--- What check and search return and leave in the lent buffers (document 01, "Refusals": "The planning screen, written in C, ..").
-use Rattle.prelude.specs.Names.{Bool, true, false, _&&_, List, ℕ, _*_, _≤_, eqb, length}
+-- What check, pieces and search return and leave in the lent buffers (document 01, "Refusals": "The planning screen, written in C, ..").
+use Rattle.prelude.specs.Names.{Bool, true, false, _&&_, List, ℕ, _+_, _*_, _≤_, eqb, length}
 use Rattle.model.specs.Problem.{Problem}
+use Rattle.refusal.specs.Numbers.{number-of}
 use Rattle.refusal.specs.declared.Refusal.the-variants.{BadArgument}
 use Rattle.formats.specs.Reading.{Read, got, refused}
 use Rattle.instance.specs.Sheets.{decode}
@@ -27,20 +28,39 @@ plan-fits i plan = eqb plan (position-length * i .«item_count»)
 abbrev pub lengths-fit : Instance → ℕ → ℕ → ℕ → Bool
 lengths-fit i note steps plan = eqb note note-length && (eqb steps steps-length && plan-fits i plan)
 
+-- the same of the bytes lent
+abbrev pub buffers-fit : Instance → List ℕ → List ℕ → List ℕ → Bool
+buffers-fit i note steps plan = lengths-fit i (length note) (length steps) (length plan)
+
 -- Check
 
 abbrev pub checked-if : Bool → Instance → List ℕ → CheckAnswer
 checked-if true i plan = check-answer i (packing-in plan)
 checked-if false i plan = K.Refused BadArgument
 
+-- the check on a sheet that reads as i
+abbrev pub instance-checked : Instance → List ℕ → CheckAnswer
+instance-checked i plan = checked-if (plan-fits i (length plan)) i plan
+
 -- "the sheet's refusals come first"
 abbrev pub checked : Read Instance → List ℕ → CheckAnswer
 checked (refused e) plan = K.Refused e
-checked (got i at rest) plan = checked-if (plan-fits i (length plan)) i plan
+checked (got i at rest) plan = instance-checked i plan
 
 -- "Check returns 0 no, 1 yes, 100 plus the number for a refusal"
 unfoldable pub check-code : List ℕ → List ℕ → ℕ
 check-code sheet plan = check-number (checked (decode sheet) plan)
+
+-- Pieces: ours, beside the two functions of document 01. A screen learns from it how many plan bytes a sheet needs, 6 for each piece,
+-- and need not try one length after the other.
+
+-- the number of pieces, or 100 plus the number of a refusal, as check and search return it
+abbrev pub pieces-number : Read Instance → ℕ
+pieces-number (refused e) = 100 + number-of e
+pieces-number (got i at rest) = i .«item_count»
+
+unfoldable pub pieces-code : List ℕ → ℕ
+pieces-code sheet = pieces-number (decode sheet)
 
 -- Search
 
@@ -50,18 +70,8 @@ note-follows p note = is-checkpoint note && following p (checkpoint-in note)
 
 -- "8 before 10"
 abbrev pub searched-if : Bool → Bool → Instance → List ℕ → ℕ → SearchResult
-searched-if false f i note budget = R.result-refused BadArgument (checkpoint-in note)
-searched-if true f i note budget = R.followed-if f (problem-of i) budget (checkpoint-in note) (checkpoint-of (checkpoint-in note))
-
--- the call on a sheet that reads as i, with so many step bytes and plan bytes
-unfoldable pub instance-searched : Instance → List ℕ → ℕ → ℕ → ℕ → SearchResult
-instance-searched i note budget steps plan =
-    searched-if (lengths-fit i (length note) steps plan) (note-follows (problem-of i) note) i note budget
-
--- "or a refusal as check does": the sheet's first
-abbrev pub searched : Read Instance → List ℕ → ℕ → ℕ → ℕ → SearchResult
-searched (refused e) note budget steps plan = R.result-refused e (checkpoint-in note)
-searched (got i at rest) note budget steps plan = instance-searched i note budget steps plan
+searched-if false f i note allowance = R.result-refused BadArgument (checkpoint-in note)
+searched-if true f i note allowance = R.followed-if f (problem-of i) allowance (checkpoint-in note) (checkpoint-of (checkpoint-in note))
 
 -- "Every refusal leaves lent buffers untouched"
 abbrev pub rewritten : Answer → List ℕ → List ℕ → List ℕ
@@ -95,14 +105,36 @@ PathFits (Refused e) n = Unit {0}
 abbrev pub plan-left : ℕ → SearchResult → List ℕ → List ℕ
 plan-left n r plan = when-packed (r .answer) plan (packing-bytes n (r .packing))
 
+-- the call with these bytes lent, on a sheet that reads as i: its result, its number, and what it leaves in the buffers
+module _ (i : Instance) (note : List ℕ) (allowance : ℕ) (steps plan : List ℕ) where
+  unfoldable pub instance-searched : SearchResult
+  instance-searched = searched-if (buffers-fit i note steps plan) (note-follows (problem-of i) note) i note allowance
+
+  abbrev pub instance-code : ℕ
+  instance-code = R.answer-number (instance-searched .answer)
+
+  abbrev pub instance-note : List ℕ
+  instance-note = note-left instance-searched note
+
+  abbrev pub instance-steps : List ℕ
+  instance-steps = steps-left instance-searched steps
+
+  abbrev pub instance-plan : List ℕ
+  instance-plan = plan-left (i .«item_count») instance-searched plan
+
+-- "or a refusal as check does": the sheet's first
+abbrev pub searched : Read Instance → List ℕ → ℕ → List ℕ → List ℕ → SearchResult
+searched (refused e) note allowance steps plan = R.result-refused e (checkpoint-in note)
+searched (got i at rest) note allowance steps plan = instance-searched i note allowance steps plan
+
 abbrev pub items-in : Read Instance → ℕ
 items-in (refused e) = 0
 items-in (got i at rest) = i .«item_count»
 
--- the call with these bytes lent, as a value
+-- the call with these bytes lent: its result, its number, and what it leaves in the buffers
 module _ (sheet note : List ℕ) (allowance : ℕ) (steps plan : List ℕ) where
   unfoldable pub search-call : SearchResult
-  search-call = searched (decode sheet) note allowance (length steps) (length plan)
+  search-call = searched (decode sheet) note allowance steps plan
 
   -- "It returns 0 spent, 1 placed, 2 none, or a refusal as check does"
   abbrev pub search-code : ℕ

@@ -1,4 +1,4 @@
-// Check and search for a C program: numbers and byte slices.
+// Check, pieces and search for a C program: numbers and byte slices.
 ghost use Rattle.sheet.specs.Sheet.{max-items};
 ghost use Rattle.buffers.specs.Lengths.{note-length, steps-length, position-length};
 ghost use mathlib.Core.Path.{_≡_};
@@ -10,7 +10,9 @@ ghost use Rattle.formats.specs.Reading.{Bytes};
 ghost use Rattle.instance.specs.Valid.{valid};
 ghost use Rattle.packing.specs.Check.{check-number};
 ghost use Rattle.search.specs.Results.{answer-number};
-ghost use Rattle.c_api.specs.Calls.{lengths-fit, checked-if, plan-fits, check-code, instance-searched, note-left, steps-left, plan-left, PathFits, search-code, note-after, steps-after, plan-after};
+ghost use Rattle.c_api.specs.Calls.{check-code, pieces-code, search-code, note-after, steps-after, plan-after};
+ghost use Rattle.c_api.specs.Calls.{instance-checked, lengths-fit, instance-code, instance-note, instance-steps, instance-plan};
+ghost use Rattle.c_api.specs.Calls.{PathFits, note-left, steps-left, plan-left};
 use buffers::checkpoints;
 use buffers::positions;
 use buffers::words;
@@ -33,6 +35,21 @@ pub extern "C" fn hallplan_check(sheet: &[u8], plan: &[u8]) -> u32
     match answer {
         ReadAnswer::Refused(e) => refusal_code(e),
         ReadAnswer::Read => check_instance(instance, plan),
+    }
+}
+
+// How many pieces the sheet has; 100 plus the number of a refusal.
+#[no_mangle]
+pub extern "C" fn hallplan_pieces(sheet: &[u8]) -> u32
+    ensures { λ r. ⌜ r ≡ pieces-code (now (sheet .entry)) ⌝ }
+    ensures { λ _. ⌜ Bytes (now (sheet .entry)) ⌝ }
+{
+    let read = Instance::read(sheet);
+    let answer = read.answer;
+    let instance = read.instance;
+    match answer {
+        ReadAnswer::Refused(e) => refusal_code(e),
+        ReadAnswer::Read => instance.item_count as u32,
     }
 }
 
@@ -69,7 +86,7 @@ fn refusal_code(e: Refusal) -> u32
 // The check on a sheet that reads as the instance.
 fn check_instance(instance: Instance, plan: &[u8]) -> u32
     requires { ⌜ valid instance ≡ true ⌝ }
-    ensures { λ r. ⌜ r ≡ check-number (checked-if (plan-fits instance (length (now (plan .entry)))) instance (now (plan .entry))) ⌝ }
+    ensures { λ r. ⌜ r ≡ check-number (instance-checked instance (now (plan .entry))) ⌝ }
 {
     let n = instance.item_count;
     if plan.len() != buffers::POSITION_BYTES * n {
@@ -106,10 +123,10 @@ fn search_instance(
     plan: &mut [u8],
 ) -> u32
     requires { ⌜ valid instance ≡ true ⌝ }
-    ensures { λ r. ⌜ r ≡ answer-number (instance-searched instance (now (note .entry)) allowance (length (now (steps .entry))) (length (now (plan .entry))) .answer) ⌝ }
-    ensures { λ _. ⌜ now (note .exit) ≡ note-left (instance-searched instance (now (note .entry)) allowance (length (now (steps .entry))) (length (now (plan .entry)))) (now (note .entry)) ⌝ }
-    ensures { λ _. ⌜ now (steps .exit) ≡ steps-left (instance-searched instance (now (note .entry)) allowance (length (now (steps .entry))) (length (now (plan .entry)))) (now (steps .entry)) ⌝ }
-    ensures { λ _. ⌜ now (plan .exit) ≡ plan-left (instance .«item_count») (instance-searched instance (now (note .entry)) allowance (length (now (steps .entry))) (length (now (plan .entry)))) (now (plan .entry)) ⌝ }
+    ensures { λ r. ⌜ r ≡ instance-code instance (now (note .entry)) allowance (now (steps .entry)) (now (plan .entry)) ⌝ }
+    ensures { λ _. ⌜ now (note .exit) ≡ instance-note instance (now (note .entry)) allowance (now (steps .entry)) (now (plan .entry)) ⌝ }
+    ensures { λ _. ⌜ now (steps .exit) ≡ instance-steps instance (now (note .entry)) allowance (now (steps .entry)) (now (plan .entry)) ⌝ }
+    ensures { λ _. ⌜ now (plan .exit) ≡ instance-plan instance (now (note .entry)) allowance (now (steps .entry)) (now (plan .entry)) ⌝ }
 {
     if !lengths_fit(instance, note.len(), steps.len(), plan.len()) {
         return refusal_code(Refusal::BadArgument);

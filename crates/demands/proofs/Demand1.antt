@@ -13,6 +13,7 @@ use Rattle.search.proofs.Claim.{refuses, handed-back}
 use Rattle.search.specs.Results.{answer-number, search-result}
 use Rattle.search.specs.declared.answer.Answer.{Answer}
 use Rattle.c_api.proofs.Faults.{search-refuses, untouched}
+use Rattle.c_api.proofs.Pieces.{pieces-refuses, pieces-counts, pieces-answers}
 use Rattle.c_api.proofs.Plans.{check-refuses}
 use Rattle.c_api.specs.Calls.{checked, check-code, search-call}
 use Rattle.demands.specs.Demand1.{Demand1}
@@ -41,6 +42,9 @@ demand1 = record {
   search-bytes-refuses = search-refuses;
   search-bytes-answers = λ sheet note steps plan allowance. search-answers (search-call sheet note allowance steps plan .answer);
   buffers-untouched = untouched;
+  pieces-refuses = pieces-refuses;
+  pieces-counts = pieces-counts;
+  pieces-answers = pieces-answers;
   read-refuses = read-refuses;
   read-answers = read-answers;
   write-refuses = write-refuses;

@@ -52,7 +52,7 @@ module _ {C X P : Type 0} (p : Problem) (σ : Sound p) (w : Service S.Checkpoint
 
   -- where the run does not end with none, it is placed, and the check says yes to its plan
   record Placed : Type 0 where
-    one : run-number p ≡ 1
+    number : run-number p ≡ 1
     yes : (c : C) → check (plan-by w c end (S.status end)) ≡ 1
 
   placed : (run-number p ≡ 2 → ⊥) → Placed
@@ -60,10 +60,10 @@ module _ {C X P : Type 0} (p : Problem) (σ : Sound p) (w : Service S.Checkpoint
     where
       go : T.RunEnds p → Placed
       go (T.ends-infeasible e f) = absurd (n (ap (λ (κ : S.Checkpoint). status-number (S.status κ)) (end-run ∙ e)))
-      go (T.ends-packed path e f) = let d = end-run ∙ e in record { one = rw d; yes = λ c. rw d (checks (S.packed-at path) f) }
+      go (T.ends-packed path e f) = let d = end-run ∙ e in record { number = rw d; yes = λ c. rw d (checks (S.packed-at path) f) }
 
-  after : (earlier : List C) (c : C) → Right (machine p) w (step-count p) earlier c
-  after earlier c = T.every-list p σ w υ (earlier ++ (c ∷ [])) .each earlier c [] refl
+  call-right : (earlier : List C) (c : C) → Right (machine p) w (step-count p) earlier c
+  call-right earlier c = T.every-list p σ w υ (earlier ++ (c ∷ [])) .each earlier c [] refl
 
   -- a call that is neither refused nor spent answers as the run does
   record AsRun (earlier : List C) (c : C) : Type 0 where
@@ -74,28 +74,28 @@ module _ {C X P : Type 0} (p : Problem) (σ : Sound p) (w : Service S.Checkpoint
   as-run earlier c l h = go (decLt (budget-sum w earlier + w .budget c) (step-count p))
     where
       go : Dec (budget-sum w earlier + w .budget c < step-count p) → AsRun earlier c
-      go (yes k) = absurd (omega (arith, after earlier c .spent h .1 k))
-      go (no k) = record { number = after earlier c .answer h (omega arith); plan = after earlier c .plan h (omega arith) }
+      go (yes k) = absurd (omega (arith, call-right earlier c .spent h .1 k))
+      go (no k) = record { number = call-right earlier c .answer h (omega arith); plan = call-right earlier c .plan h (omega arith) }
 
-  none-said : (earlier : List C) (c : C) → returned-code w earlier c ≡ 2 → (q : Positions) → Feasible p q → ⊥
-  none-said earlier c e = none-exactly .0 (sym (as-run earlier c (omega arith) (omega arith) .number) ∙ e)
+  call-none : (earlier : List C) (c : C) → returned-code w earlier c ≡ 2 → (q : Positions) → Feasible p q → ⊥
+  call-none earlier c e = none-exactly .0 (sym (as-run earlier c (omega arith) (omega arith) .number) ∙ e)
 
-  placed-said : (earlier : List C) (c : C) → returned-code w earlier c ≡ 1 → check (returned-plan w earlier c) ≡ 1
-  placed-said earlier c e =
+  call-placed : (earlier : List C) (c : C) → returned-code w earlier c ≡ 1 → check (returned-plan w earlier c) ≡ 1
+  call-placed earlier c e =
       let r = as-run earlier c (omega arith) (omega arith) in
       rw (r .plan) (placed (λ z. omega (arith, r .number)) .yes c)
 
-  holds : SearchDemand p w check
-  holds = record {
+  search-demand : SearchDemand p w check
+  search-demand = record {
     count = T.counted p σ;
     one-count = T.one-count p σ;
     every-list = T.every-list p σ w υ;
     run-none = none-exactly;
-    run-placed = λ n. placed n .one;
-    none-means = none-said;
-    none-unchecked = λ earlier c e q y. let (r, f) = yes-fits q y in none-said earlier c e r f;
-    nothing-fits = λ f earlier c h l. after earlier c .answer h l ∙ none-exactly .1 f;
-    placed-checks = placed-said;
+    run-placed = λ n. placed n .number;
+    none-means = call-none;
+    none-unchecked = λ earlier c e q y. let (r, f) = yes-fits q y in call-none earlier c e r f;
+    nothing-fits = λ f earlier c h l. call-right earlier c .answer h l ∙ none-exactly .1 f;
+    placed-checks = call-placed;
   }
 
 -- In values
@@ -113,7 +113,7 @@ module _ (i : Instance) (v : valid i ≡ true) (φ : Full i) where
 
   in-values : SearchDemand (problem-of i) (values i) (λ q. check-number (check-answer i q))
   in-values =
-      holds (problem-of i) sound (values i) _ (Values.values-serve i v (φ .items-room)) value-checks
+      search-demand (problem-of i) sound (values i) _ (Values.values-serve i v (φ .items-room)) value-checks
       (λ q y. (positions-of q, decides i q .yes .0 y .1))
 
 -- a call that says placed is on a valid instance
@@ -138,7 +138,7 @@ module _ (sheet : List ℕ) (bytes : Bytes sheet) (r : Reads sheet) where
 
   in-bytes : SearchDemand (problem-of (r .instance)) (on-bytes sheet (r .instance)) (check-code sheet)
   in-bytes =
-      holds (problem-of (r .instance)) (reads-sound sheet bytes r) (on-bytes sheet (r .instance)) (check-code sheet)
+      search-demand (problem-of (r .instance)) (reads-sound sheet bytes r) (on-bytes sheet (r .instance)) (check-code sheet)
       (OnBytes.bytes-serve sheet bytes r) (placed-checks sheet bytes r) yes-fits
 
 pub demand3 : Demand3

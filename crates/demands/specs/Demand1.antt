@@ -9,6 +9,7 @@ use Rattle.parts.specs.Parts.{item}
 use Rattle.parts.specs.Sizes.{no-item}
 use Rattle.sheet.specs.Faults.{Fault, FirstFault}
 use Rattle.sheet.specs.Contents.{sheet-at}
+use Rattle.sheet.specs.Sheet.{max-items}
 use Rattle.instance.specs.Answers.{read-result, read-values}
 use Rattle.instance.specs.Meaning.{problem-of, positions-of}
 use Rattle.instance.specs.Reads.{Reads}
@@ -25,7 +26,7 @@ use Rattle.writer.specs.Refusing.{WriteFault}
 use Rattle.packing.specs.Check.{check-answer, check-number}
 use Rattle.packing.specs.Clearance.{clearance-between, clearance-answer, clearance-values, ClearanceFault}
 use Rattle.search.specs.Results.{answer-number, search-result, SearchFault}
-use Rattle.c_api.specs.Calls.{check-code, search-code, note-after, steps-after, plan-after}
+use Rattle.c_api.specs.Calls.{check-code, pieces-code, search-code, note-after, steps-after, plan-after}
 use Rattle.c_api.specs.Faults.{CheckBytesFault, SearchBytesFault}
 use Rattle.demands.specs.Functions.{Functions}
 
@@ -47,6 +48,12 @@ pub record Demand1 : Type 2 where
       → (note-after sheet note allowance steps plan ≡ note)
       × (steps-after sheet note allowance steps plan ≡ steps)
       × (plan-after sheet note allowance steps plan ≡ plan)
+  -- Pieces (ours): 100 plus the number of the sheet's first fault, and otherwise its number of pieces, at most 10
+  pub pieces-refuses : (sheet : List ℕ) → Bytes sheet → (n : ℕ)
+      → (pieces-code sheet ≡ 100 + n) ↔ ((e : Refusal) × FirstFault sheet e × (n ≡ number-of e))
+  pub pieces-counts : (sheet : List ℕ) → Bytes sheet → (n : ℕ)
+      → ((pieces-code sheet ≡ n) × (n ≤ max-items)) ↔ ((r : Reads sheet) × (n ≡ r .instance .«item_count»))
+  pub pieces-answers : (sheet : List ℕ) → Bytes sheet → (pieces-code sheet ≤ max-items) ⊎ (100 ≤ pieces-code sheet)
   -- Reading: number and place of the sheet's first fault; otherwise the instance that its bytes tell
   pub read-refuses : (sheet : List ℕ) (n place : ℕ)
       → (read-values (read-result (decode sheet)) ≡ inr (n, place))

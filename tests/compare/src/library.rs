@@ -73,6 +73,12 @@ pub fn check(sheet: &[u8], plan: &[u8]) -> Result<u32, &'static str> {
     unless_changed(&[(&s, sheet), (&p, plan)], returned)
 }
 
+pub fn pieces(sheet: &[u8]) -> Result<u32, &'static str> {
+    let s = Lent::new(sheet);
+    let returned = unsafe { linked::hallplan_pieces(s.start(), s.len) };
+    unless_changed(&[(&s, sheet)], returned)
+}
+
 pub fn search(sheet: &[u8], note: &[u8], allowance: u32, steps: &[u8], plan: &[u8]) -> Result<Searched, &'static str> {
     let s = Lent::new(sheet);
     let (mut n, mut t, mut p) = (Lent::new(note), Lent::new(steps), Lent::new(plan));

@@ -13,11 +13,13 @@ fn code(refusal: &Refusal) -> (u32, usize) {
     (refusal.number, refusal.place)
 }
 
-/// Reading, and the refusals of check and search on the same bytes.
+/// Reading, the number of pieces, and the refusals of check and search on the same bytes.
 pub fn reading(report: &mut Report, kind: &'static str, sheet: &[u8]) {
     let read = sheet::read(sheet);
     let expected = read.as_ref().map_or_else(code, |_| (0, 0));
     report.same(kind, &Ok(expected), &library::read(sheet), || hexadecimal(sheet));
+    let kind = if read.is_ok() { "pieces: their number" } else { "pieces: refused" };
+    report.same(kind, &Ok(bytes::pieces(sheet)), &library::pieces(sheet), || hexadecimal(sheet));
     let plan = vec![0; 6 * read.as_ref().map_or(1, |instance| instance.items.len())];
     check(report, sheet, &plan);
     if read.is_err() {

@@ -4,6 +4,7 @@ macro_rules! signatures {
     ($m:ident) => {
         $m! {
             hallplan_check(sheet: *const u8, sheet_len: usize, plan: *const u8, plan_len: usize) -> u32;
+            hallplan_pieces(sheet: *const u8, sheet_len: usize) -> u32;
             hallplan_search(
                 sheet: *const u8, sheet_len: usize, note: *mut u8, note_len: usize, allowance: u32,
                 steps: *mut u8, steps_len: usize, plan: *mut u8, plan_len: usize

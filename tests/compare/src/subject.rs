@@ -41,6 +41,7 @@ fn clearance(value: &[u8], plan: &[u8], u: usize, v: usize, axis: u8) -> Result<
 /// What each function returns, of its arguments; a pointer and a length stand side by side.
 macro_rules! body {
     (hallplan_check $s:ident $sl:ident $p:ident $pl:ident) => { bytes::check(lent($s, $sl), lent($p, $pl)) };
+    (hallplan_pieces $s:ident $sl:ident) => { bytes::pieces(lent($s, $sl)) };
     (hallplan_search $s:ident $sl:ident $n:ident $nl:ident $allowance:ident $t:ident $tl:ident $p:ident $pl:ident) => {
         bytes::search(lent($s, $sl), lent_mut($n, $nl), $allowance, lent_mut($t, $tl), lent_mut($p, $pl))
     };

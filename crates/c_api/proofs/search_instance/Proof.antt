@@ -5,55 +5,74 @@ use Rattle.instance.proofs.Arrays.{length-mapped}
 use Rattle.search.specs.Results.{result-refused, search-result}
 use Rattle.instance.specs.declared.Checkpoint.{Checkpoint}
 use Rattle.c_api.specs.Notes.{Lengths}
-use Rattle.c_api.proofs.Outcomes.{lengths-so, wrong-lengths, no-checkpoint, as-searched, path-fits}
-use Rattle.c_api.specs.Calls.{lengths-fit}
+use Rattle.c_api.proofs.Outcomes.{lengths-exactly, wrong-lengths, no-checkpoint, as-searched, path-fits}
+use Rattle.c_api.specs.Calls.{buffers-fit, instance-searched}
 use Rattle.c_api.proofs.search_instance.Tie as tie
 
 long : (c : tie.Start) → length (c .args .instance .items) ≡ 10
 long c = search length-mapped
 
--- the lengths are right, from where they were tested on
-fit : (c : tie.Else1) → let a = c .before .before .before .before .before .args in
-    lengths-fit (a .instance) (length (a .note .now)) (length (a .steps .now)) (length (a .plan .now)) ≡ true
-fit c = sym (c .before .lengths-fit .ensures) ∙ not-false _ (c .if1 .left)
+-- where the function starts, from where the lengths are found right
+abbrev start : tie.Else1 → tie.Start
+start c = c .before .before .before .before .before
 
-right : (c : tie.Else1) → let a = c .before .before .before .before .before .args in
-    Lengths (a .instance) (a .note .now) (a .steps .now) (a .plan .now)
-right c =
-    let a = c .before .before .before .before .before .args in
-    lengths-so (a .instance) (a .note .now) (a .steps .now) (a .plan .now) .0 (fit c)
+fits : (c : tie.Else1) → let a = start c .args in buffers-fit (a .instance) (a .note .now) (a .steps .now) (a .plan .now) ≡ true
+fits c = sym (c .before .lengths-fit .ensures) ∙ not-false _ (c .if1 .left)
+
+lengths : (c : tie.Else1) → let a = start c .args in Lengths (a .instance) (a .note .now) (a .steps .now) (a .plan .now)
+lengths c = let a = start c .args in lengths-exactly (a .instance) (a .note .now) (a .steps .now) (a .plan .now) .0 (fits c)
 
 returns : tie.Need-returns
 unfolding result-refused
 returns c =
-    let a = c .before .before .before .before .before .before .args in
-    let l = sym (c .before .before .lengths-fit .ensures) ∙ not-true _ (c .before .if1 .taken) in
-    rw (wrong-lengths (a .instance) (a .note .now) (a .allowance) _ _ l) (c .refusal-code .ensures, (refl, (refl, refl)))
+    let tested = c .before .before in
+    let a = tested .before .before .before .before .args in
+    let l = sym (tested .lengths-fit .ensures) ∙ not-true _ (c .before .if1 .taken) in
+    rw (wrong-lengths (a .instance) (a .note .now) (a .allowance) (a .steps .now) (a .plan .now) l)
+    (c .refusal-code .ensures, (refl, (refl, refl)))
 
 returns-2 : tie.Need-returns-2
 unfolding result-refused
 returns-2 c =
-    let a = c .before .before .before .before .before .before .before .before .before .args in
-    let k = sym (c .before .before .is-checkpoint .ensures) ∙ not-true _ (c .before .if2 .taken) in
-    rw (no-checkpoint (a .instance) (a .note .now) (a .allowance) _ _ (fit (c .before .before .before .before)) k) (c .refusal-code2 .ensures, (refl, (refl, refl)))
+    let tested = c .before .before in
+    let right = tested .before .before in
+    let a = start right .args in
+    let k = sym (tested .is-checkpoint .ensures) ∙ not-true _ (c .before .if2 .taken) in
+    rw (no-checkpoint (a .instance) (a .note .now) (a .allowance) (a .steps .now) (a .plan .now) (fits right) k)
+    (c .refusal-code2 .ensures, (refl, (refl, refl)))
+
+-- from the search on: where the lengths were found right
+abbrev right : tie.After-search → tie.Else1
+right c = c .before .before .before .before .before .before
+
+-- the result of the search is the call's
+result : (c : tie.After-search) → let a = start (right c) .args in
+    instance-searched (a .instance) (a .note .now) (a .allowance) (a .steps .now) (a .plan .now) ≡ c .search .result
+result c =
+    let s = start (right c) in
+    let a = s .args in
+    let held = c .before .before .before in
+    let k = sym (held .before .is-checkpoint .ensures) ∙ not-false _ (held .if2 .left) in
+    let read = ap (λ (x : Checkpoint). search-result (a .instance) x (a .allowance)) (c .before .read-checkpoint .ensures) in
+    as-searched (a .instance) (a .note .now) (a .allowance) (a .steps .now) (a .plan .now) (s .pre) (fits (right c)) k
+    ∙ sym (c .search .ensures .0 ∙ read)
 
 hand-over-requires : tie.Need-hand-over-requires
 hand-over-requires c κs =
-    let a = c .before .before .before .before .before .before .before .before .before .before .before .before .before .before .args in
-    let l = right (c .before .before .before .before .before .before .before .before .before) in (
-      rw (c .before .before .before .search .ensures .0) (path-fits (a .instance) (c .before .before .before .before .before .before .before .before .before .before .before .before .before .before .pre) (long (c .before .before .before .before .before .before .before .before .before .before .before .before .before .before)) (c .before .before .before .before .read-checkpoint .result) (a .allowance)),
-      (l .note-is, l .steps-are, l .plan-is, valid-says (a .instance) (c .before .before .before .before .before .before .before .before .before .before .before .before .before .before .pre) .items-few),
+    let r = c .before .before .before in
+    let s = start (right r) in
+    let l = lengths (right r) in
+    let i = s .args .instance in (
+      rw (r .search .ensures .0) (path-fits i (s .pre) (long s) (r .before .read-checkpoint .result) (s .args .allowance)),
+      (l .note-is, l .steps-are, l .plan-is, valid-says i (s .pre) .items-few),
     )
 
 returns-3 : tie.Need-returns-3
 returns-3 c =
-    let a = c .before .before .before .before .before .before .before .before .before .before .before .before .before .before .before .before .before .before .before .before .before .args in
-    let k = sym (c .before .before .before .before .before .before .before .before .before .before .before .before .before .before .is-checkpoint .ensures) ∙ not-false _ (c .before .before .before .before .before .before .before .before .before .before .before .before .before .if2 .left) in
-    let e = as-searched (a .instance) (a .note .now) (a .allowance) (length (a .steps .now)) (length (a .plan .now)) (c .before .before .before .before .before .before .before .before .before .before .before .before .before .before .before .before .before .before .before .before .before .pre) (fit (c .before .before .before .before .before .before .before .before .before .before .before .before .before .before .before .before)) k
-    ∙ sym (c .before .before .before .before .before .before .before .before .before .before .search .ensures .0 ∙ ap (λ (x : Checkpoint). search-result (a .instance) x (a .allowance)) (c .before .before .before .before .before .before .before .before .before .before .before .read-checkpoint .ensures)) in
-    rw e (c .before .before .before .before .before .before .hand-over .ensures)
+    let h = c .before .before .before .before .before .before in
+    rw (result (h .before .before .before .before)) (h .hand-over .ensures)
 
 pub search-instance-spec : {M : Type 1} → Rattle.c_api.proofs.search_instance.Statement.statement M
-search-instance-spec = tie.close (tie.spec (λ c κs. search needs) (λ c κs. search needs) returns (λ c κs. right (c .before) .note-is)
-    (λ c κs. search needs) (λ c. search needs) returns-2 (λ c κs. right (c .before .before .before .before) .note-is) (λ c κs. search needs)
+search-instance-spec = tie.close (tie.spec (λ c κs. search needs) (λ c κs. search needs) returns (λ c κs. lengths (c .before) .note-is)
+    (λ c κs. search needs) (λ c. search needs) returns-2 (λ c κs. lengths (c .before .before .before .before) .note-is) (λ c κs. search needs)
     hand-over-requires (λ c. search needs) (λ c. search needs) (λ c. search needs) returns-3)

@@ -1,4 +1,4 @@
-//! Check and search on bytes, as the planning screen calls them.
+//! Check, pieces and search on bytes, as the planning screen calls them.
 
 use super::packing::{is_feasible, Position};
 use super::search::{Branch, Checkpoint, Search, Status};
@@ -75,6 +75,11 @@ fn check_or_refuse(sheet: &[u8], plan: &[u8]) -> Result<bool, Refusal> {
         return refuse(8, 0);
     }
     Ok(is_feasible(&instance, &positions_of(plan)))
+}
+
+/// How many pieces the sheet has, or a refusal as check returns it.
+pub fn pieces(sheet: &[u8]) -> u32 {
+    read(sheet).map_or_else(|refusal| 100 + refusal.number, |instance| instance.items.len() as u32)
 }
 
 /// "It returns 0 spent, 1 placed, 2 none, or a refusal as check does, 8 before 10."
