@@ -48,7 +48,7 @@ pub extern "C" fn hallplan_pieces(sheet: &[u8]) -> u32
     let answer = read.answer;
     let instance = read.instance;
     match answer {
-        ReadAnswer::Refused(e) => refusal_code(e),
+        ReadAnswer::Refused(fault) => refusal_code(fault),
         ReadAnswer::Read => instance.item_count as u32,
     }
 }
