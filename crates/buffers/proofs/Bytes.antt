@@ -19,10 +19,6 @@ pub steps-back : (m : ℕ) → steps-in (step-bytes m) ≡ m
 unfolding steps-in step-bytes
 steps-back m = omega arith
 
-pub steps-length : (m : ℕ) → length (step-bytes m) ≡ 4
-unfolding step-bytes
-steps-length m = refl
-
 -- bytes that fill the whole buffer
 pub fills : (bs out : List ℕ) → length out ≡ length bs → sets out 0 bs ≡ bs
 fills bs out h =
@@ -65,17 +61,18 @@ packing-fills n q out h l = fills (packing-bytes n q) out (l ∙ sym (packing-le
 -- what the bytes do not give is 0
 pub position-past : (s : List ℕ) (u : ℕ) → length s ≤ 6 * u → plan-position s u ≡ origin
 position-past s u h =
-    let z : (k : ℕ) → length s ≤ k → getD s k 0 ≡ 0 = λ k l. List·getD-eq-default s 0 l in
-    rw (z (6 * u) h, z (6 * u + 1) (omega arith), z (6 * u + 2) (omega arith), z (6 * u + 2 + 1) (omega arith), z (6 * u + 4) (omega arith), z (6 * u + 4 + 1) (omega arith))
+    let byte : (k : ℕ) → length s ≤ k → getD s k 0 ≡ 0 = λ k l. List·getD-eq-default s 0 l in
+    let word : (k : ℕ) → length s ≤ k → word-at s k ≡ 0 = λ k l. rw (byte k l, byte (k + 1) (omega arith)) in
+    (λ i. record { x = word (6 * u) h i; y = word (6 * u + 2) (omega arith) i; t = word (6 * u + 4) (omega arith) i })
 
 -- the first u positions are read, with 0 past them
 pub record ReadTo (s : List ℕ) (ps : List Position) (u : ℕ) : Type 0 where
   pub room : length ps ≡ 10
-  pub there : (v : ℕ) → v < u → getD ps v origin ≡ plan-position s v
+  pub read : (v : ℕ) → v < u → getD ps v origin ≡ plan-position s v
   pub blank : (v : ℕ) → u ≤ v → getD ps v origin ≡ origin
 
 pub read-none : (s : List ℕ) → ReadTo s (replicate 10 origin) 0
-read-none s = record { room = refl; there = λ v h. absurd (omega arith); blank = λ v h. blank-at 10 v }
+read-none s = record { room = refl; read = λ v h. absurd (omega arith); blank = λ v h. blank-at 10 v }
   where
     blank-at : (n v : ℕ) → getD (replicate n origin) v origin ≡ origin
     blank-at zero v = refl
@@ -85,13 +82,13 @@ read-none s = record { room = refl; there = λ v h. absurd (omega arith); blank 
 pub read-next : {s : List ℕ} {ps : List Position} {u : ℕ} (p : Position) → ReadTo s ps u → u < 10 → p ≡ plan-position s u → ReadTo s (set ps u p) (u + 1)
 read-next {s} {ps} {u} p ρ h e = record {
   room = length-set ps u p ∙ ρ .room;
-  there = λ v l. go v l (ℕ-discrete v u);
+  read = λ v l. go v l (ℕ-discrete v u);
   blank = λ v l. let d : v ≡ u → ⊥ = λ q. omega arith in getD-set-other ps u v p origin d ∙ ρ .blank v (omega arith);
 }
   where
     go : (v : ℕ) → v < u + 1 → Dec (v ≡ u) → getD (set ps u p) v origin ≡ plan-position s v
     go v l (yes q) = rw q (getD-set-same ps u p origin (omega (arith, ρ .room)) ∙ e)
-    go v l (no d) = getD-set-other ps u v p origin d ∙ ρ .there v (omega arith)
+    go v l (no d) = getD-set-other ps u v p origin d ∙ ρ .read v (omega arith)
 
 pub read-all : (s : List ℕ) (ps : List Position) (n : ℕ) → ReadTo s ps n → length s ≡ 6 * n → record { positions = ps } ≡ packing-in s
 unfolding packing-in
@@ -100,7 +97,7 @@ read-all s ps n ρ l =
     (ext-getD origin ps _ (ρ .room) (λ u h. at u (decLt u n) ∙ sym (ten-at (plan-position s) u (omega (arith, ρ .room)))))
   where
     at : (u : ℕ) → Dec (u < n) → getD ps u origin ≡ plan-position s u
-    at u (yes h) = ρ .there u h
+    at u (yes h) = ρ .read u h
     at u (no h) = ρ .blank u (omega arith) ∙ sym (position-past s u (omega arith))
 
 -- positions come back from their bytes
@@ -120,7 +117,8 @@ position-back (p ∷ ps) (suc u) h =
     let x : word-at (position-bytes p ++ rest) (6 * suc u) ≡ word-at rest (6 * u) = simp add-zero at (word 0) in
     (λ i. record { x = x i; y = word 2 i; t = word 4 i }) ∙ position-back ps u (omega arith)
 
-pub packing-back : (n u : ℕ) (q : Packing) → n ≤ length (q .positions) → n ≤ 10 → u < n → getD (packing-in (packing-bytes n q) .positions) u origin ≡ getD (q .positions) u origin
+pub packing-back : (n u : ℕ) (q : Packing) → n ≤ length (q .positions) → n ≤ 10 → u < n
+    → getD (packing-in (packing-bytes n q) .positions) u origin ≡ getD (q .positions) u origin
 unfolding packing-in packing-bytes
 packing-back n u q l m h =
     ten-at (plan-position (row-bytes position-bytes (take n (q .positions)))) u (omega arith)

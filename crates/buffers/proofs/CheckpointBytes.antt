@@ -65,7 +65,8 @@ unfolding is-checkpoint checkpoint-bytes
 bytes-hold c h =
     let d : drop (3 + c .length) (status-byte (c .status) ∷ c .length % 256 ∷ c .length / 256 ∷ c .branches) ≡ drop (c .length) (c .branches) =
     drop-append-add (status-byte (c .status) ∷ c .length % 256 ∷ c .length / 256 ∷ []) (c .branches) (c .length) in
-    rw (status-small (c .status), word-back (c .length), d) (zero-all (drop (c .length) (c .branches)) (λ i. getD-drop (c .length) (c .branches) i 0 ∙ h (c .length + i) (omega arith)))
+    rw (status-small (c .status), word-back (c .length), d)
+    (zero-all (drop (c .length) (c .branches)) (λ i. getD-drop (c .length) (c .branches) i 0 ∙ h (c .length + i) (omega arith)))
 
 -- the three parts one after the other fill the buffer
 pub checkpoint-fills : (c : Checkpoint) (out : List ℕ) → length out ≡ 273 → length (c .branches) ≡ 270

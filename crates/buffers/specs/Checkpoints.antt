@@ -28,6 +28,6 @@ unfoldable pub all-zero : List ℕ → Bool
 all-zero [] = true
 all-zero (b ∷ bs) = eqb b 0 && all-zero bs
 
--- the state is one of the three, and the turns are "0 past the length"; whether the row may stand is tested by the search
+-- the state is one of the three, and the turns are "0 past the length"; whether the path is allowed is tested by the search
 unfoldable pub is-checkpoint : List ℕ → Bool
 is-checkpoint note = ltb (getD note 0 0) 3 && all-zero (drop (3 + word-at note 1) note)

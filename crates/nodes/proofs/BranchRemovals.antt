@@ -114,38 +114,38 @@ branch-filled : {k : Domains} {a u v : ℕ} → WellFormed k → Filled k → Pr
 unfolding undecided without fix-overlap gone
 branch-filled {k} {a} {u} {v} f full w h o e b = go o (may-before k a u v) (may-before k a v u) e refl refl (rw e at h) b
   where
-    one : (x y : ℕ) → (x < 3) × (y < 3) × (y ≢ x) → gone k y a u v ≡ false → Filled (without k x a u v)
-    one x y (hx, hy, d) = filled-without f x a u v hx w full y hy d
+    without-one : (x y : ℕ) → (x < 3) × (y < 3) × (y ≢ x) → gone k y a u v ≡ false → Filled (without k x a u v)
+    without-one x y (hx, hy, d) = filled-without f x a u v hx w full y hy d
 
     go : (o x y : Bool) → may-overlap k a u v ≡ o → may-before k a u v ≡ x → may-before k a v u ≡ y → (o && (x || y) || x && y) ≡ true
         → (b : Branch) → Filled (branch-at o b k a u v)
-    go true true y eo ex ey h first = one 0 1 (omega arith) (ap not ex)
-    go true false true eo ex ey h first = one 0 2 (omega arith) (ap not ey)
+    go true true y eo ex ey h first = without-one 0 1 (omega arith) (ap not ex)
+    go true false true eo ex ey h first = without-one 0 2 (omega arith) (ap not ey)
     go true false false eo ex ey h first = absurd (false≢true h)
     go true x y eo ex ey h second =
-        filled-without (without-well-formed k 2 a u v f) 1 a u v (omega arith) w (one 2 0 (omega arith) (ap not eo)) 0 (omega arith) (omega arith)
+        filled-without (without-well-formed k 2 a u v f) 1 a u v (omega arith) w (without-one 2 0 (omega arith) (ap not eo)) 0 (omega arith) (omega arith)
         (still-gone f 2 a u v (omega arith) w 0 (omega arith) (omega arith) ∙ ap not eo)
-    go false true true eo ex ey h first = one 2 1 (omega arith) (ap not ex)
-    go false true true eo ex ey h second = one 1 2 (omega arith) (ap not ey)
+    go false true true eo ex ey h first = without-one 2 1 (omega arith) (ap not ex)
+    go false true true eo ex ey h second = without-one 1 2 (omega arith) (ap not ey)
     go false true false eo ex ey h b = absurd (false≢true h)
     go false false y eo ex ey h b = absurd (false≢true h)
 
 module _ {k : Domains} {rows q : List ℕ} {c : Place} (g : Branchable k rows q c) where
-  pair : Proper 10 (c .axis) (c .u) (c .v)
-  pair = proper-up (g .place)
+  place-proper : Proper 10 (c .axis) (c .u) (c .v)
+  place-proper = proper-up (g .place)
 
   -- the row tells whether overlap is left
   overlap-row : bit-at (row-at rows (c .axis) (c .u)) (c .v) ≡ gone k 0 (c .axis) (c .u) (c .v)
-  overlap-row = row-first (g .laid .mirror) (pair .axis) (pair .item-u) (pair .item-v)
+  overlap-row = row-first (g .laid .mirror) (place-proper .axis) (place-proper .item-u) (place-proper .item-v)
 
   pub branch-removes : {items : ℕ} {P : ℕ → Type 0} → SetOf items (c .v) P → Good k rows (set q 0 1) × Askable (c .axis) (c .u) items
-  branch-removes h = (good-start (g .laid) (length-set q 0 1 ∙ g .long) (getD-set-same q 0 1 0 (omega (arith, g .long))), askable pair h)
+  branch-removes h = (good-start (g .laid) (length-set q 0 1 ∙ g .long) (getD-set-same q 0 1 0 (omega (arith, g .long))), askable place-proper h)
 
   pub overlap-left : bit-at (row-at rows (c .axis) (c .u)) (c .v) ≡ false → (x : ℕ) → x ≡ 0 → gone k x (c .axis) (c .u) (c .v) ≡ false
   overlap-left e x z = rw z (sym overlap-row ∙ e)
 
   pub take-one : (x : ℕ) → Taken k (c .axis) (c .u) (c .v) (λ y. y ≡ x) (without k x (c .axis) (c .u) (c .v))
-  take-one x = taken-one pair (g .laid .well-formed) x
+  take-one x = taken-one place-proper (g .laid .well-formed) x
 
   -- the row of overlap tells which branch it is
   pub branched : (o s : Bool) → bit-at (row-at rows (c .axis) (c .u)) (c .v) ≡ not o → {second : Bool} → second ≡ s → {P : ℕ → Type 0} {items : ℕ}
@@ -155,8 +155,8 @@ module _ {k : Domains} {rows q : List ℕ} {c : Place} (g : Branchable k rows q 
   unfolding gone
   branched o s is-o {second} is-s t h {j} {rows′} {r} b n =
       let overlap : may-overlap k (c .axis) (c .u) (c .v) ≡ o = sym (Bool·not-not _) ∙ (ap not (sym overlap-row ∙ is-o) ∙ Bool·not-not o) in
-      let full = branch-filled (g .laid .well-formed) (g .laid .filled) pair (g .several-left) o overlap (branch-by s) in
+      let full = branch-filled (g .laid .well-formed) (g .laid .filled) place-proper (g .several-left) o overlap (branch-by s) in
       (elim b as (λ b. Exact (branch-at o (branch-by s) k (c .axis) (c .u) (c .v)) k (set q 0 1) j rows′ r b → Branched k q c second j rows′ r) [
         | true ↦ λ (e, grown). record { left = rw (overlap, is-s) e; grown = grown }
         | false ↦ λ (long, none). absurd (none full)
-      ]) (exact pair t h (set q 0 1) j rows′ r b n)
+      ]) (exact place-proper t h (set q 0 1) j rows′ r b n)

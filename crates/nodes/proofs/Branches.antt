@@ -22,19 +22,19 @@ use Rattle.model.specs.Wide.{wide}
 
 module _ (p : Problem) (sound : Sound p) (path : List Branch) (forking : Forking (look p) path) (is : look p path ≡ fork)
     {k : Domains} {rows t : List ℕ} (seen : Seen p k rows t path) (c : Place) (at : choice (path-domains p path) ≡ slot-of c) where
-  here : Fork p (path-domains p path) (slot-of c)
-  here = let (consistent, unpacked) = look-fork p path is in subst (Fork p (path-domains p path)) at (path-fork p sound path consistent unpacked)
+  fork-at : Fork p (path-domains p path) (slot-of c)
+  fork-at = let (consistent, unpacked) = look-fork p path is in subst (Fork p (path-domains p path)) at (path-fork p sound path consistent unpacked)
 
   -- a branching point can be branched at
   pub branchable : (q : List ℕ) → length q ≡ max-queue → Branchable k rows q c
   branchable q h = record {
     laid = seen .rested .laid;
     long = h;
-    place = record { axis = here .place .axis; rising = here .place .rising; item = omega (arith, here .place .item, sound .limited) };
-    several-left = rw (seen .is) (here .several);
+    place = record { axis = fork-at .place .axis; rising = fork-at .place .rising; item = omega (arith, fork-at .place .item, sound .limited) };
+    several-left = rw (seen .is) (fork-at .several);
   }
 
-  -- what the branch leaves stands at its path
+  -- what the branch leaves is at its path
   module _ {q : List ℕ} {b : Bool} {j : Domains} {rows′ r : List ℕ} (long : length q ≡ max-queue) (w : Branched k q c b j rows′ r) where
     left-is : j ≡ branched (path-domains p path) (branch-by b)
     unfolding branched

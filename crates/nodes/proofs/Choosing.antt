@@ -49,14 +49,14 @@ module _ (n : ℕ) (limited : n ≤ 10) where
       let r = and-both _ _ (q .1) in
       (leb-true _ _ (q .0), leb-true _ _ (r .0), leb-true _ _ (r .1))
 
-  counted : (j : ℕ) → j < pair-count n → pair-of j .v < n
-  counted j h =
+  item-below : (j : ℕ) → j < pair-count n → pair-of j .v < n
+  item-below j h =
       let test = all-at 11 (λ n. all-below (pair-count n) (λ j. ltb (pair-of j .v) n)) (unfold pairs in refl) n (omega arith) in
       ltb-true _ n (all-at (pair-count n) (λ j. ltb (pair-of j .v) n) test j h)
 
-  numbered : (u v : ℕ) → u < v → v < n → pair-number u v < pair-count n
+  number-below : (u v : ℕ) → u < v → v < n → pair-number u v < pair-count n
   unfolding pair-number
-  numbered u v hu hv =
+  number-below u v hu hv =
       let test = all-at 11 (λ n. all-below n (λ v. all-below v (λ u. ltb (pair-number u v) (pair-count n)))) refl n (omega arith) in
       ltb-true _ _
       (all-at v (λ u. ltb (pair-number u v) (pair-count n)) (all-at n (λ v. all-below v (λ u. ltb (pair-number u v) (pair-count n))) test v hv) u hu)
@@ -70,16 +70,16 @@ some-axis f = go (f 0) (f 1) (f 2)
     go true false false = refl
     go false false false = refl
 
--- the domains of the pair with number j stand from 3 * j on
+-- the domains of the pair with number j are from 3 * j on
 module _ (k : Domains) (j : ℕ) {u v : ℕ} (rises : u < v) (number : pair-number u v ≡ j) where
-  stands : (a i : ℕ) → i ≡ 3 * j + a → i ≡ index a u v
+  index-is : (a i : ℕ) → i ≡ 3 * j + a → i ≡ index a u v
   unfolding index
-  stands a i e = omega arith
+  index-is a i e = omega arith
 
   separates-at : (a i : ℕ) → i ≡ 3 * j + a → separates (getD k i 0) ≡ (fixed-before k a u v || fixed-before k a v u)
   unfolding fixed-before
   separates-at a i e =
-      rw (stands a i e, may-overlap-sym k a u v, overlap-up k a rises, before-down k a rises, before-up k a rises, and-or-distrib-left)
+      rw (index-is a i e, may-overlap-sym k a u v, overlap-up k a rises, before-down k a rises, before-up k a rises, and-or-distrib-left)
 
   separated-is : separated-at k j ≡ separated k u v
   unfolding separated
@@ -89,14 +89,14 @@ module _ (k : Domains) (j : ℕ) {u v : ℕ} (rises : u < v) (number : pair-numb
 
   undecided-is : (a : ℕ) → several (getD k (3 * j + a) 0) ≡ undecided k a u v
   unfolding undecided
-  undecided-is a = rw (stands a (3 * j + a) refl, overlap-up k a rises, before-down k a rises, before-up k a rises) refl
+  undecided-is a = rw (index-is a (3 * j + a) refl, overlap-up k a rises, before-down k a rises, before-up k a rises) refl
 
 -- every pair from some number on is separated: packed
 pub packed-of : (k : Domains) (n : ℕ) → n ≤ 10 → (from : ℕ) → Passed k from → ((j : ℕ) → j < pair-count n → from ≤ j → separated-at k j ≡ true)
     → Chosen k n Packed
 packed-of k n limited from passed all p e =
     packed-from p (rw e limited) k from passed
-    (λ u v hu hv low. sym (separated-is k (pair-number u v) hu refl) ∙ all (pair-number u v) (numbered n limited u v hu (rw e at hv)) low)
+    (λ u v hu hv low. sym (separated-is k (pair-number u v) hu refl) ∙ all (pair-number u v) (number-below n limited u v hu (rw e at hv)) low)
 
 -- the first pair from some number on that is not
 pub record Unseparated (k : Domains) (n from j : ℕ) (c : P.Pair) : Type 0 where
@@ -114,13 +114,13 @@ module _ {k : Domains} {n from j : ℕ} {c : P.Pair} (f : Unseparated k n from j
   separated-at-pair : (i : ℕ) → i ≤ j → separated-at k i ≡ separated k (pair-of i .u) (pair-of i .v)
   separated-at-pair i h = separated-is k i (pairs-rise i (omega (arith, within))) (number-of-pair i (omega (arith, within)))
 
-  left : (b : ℕ) {x : Bool} → several (getD k (3 * j + b) 0) ≡ x → undecided k b (pair-of j .u) (pair-of j .v) ≡ x
-  left b e = sym (undecided-is k j (pairs-rise j within) (number-of-pair j within) b) ∙ e
+  undecided-by : (b : ℕ) {x : Bool} → several (getD k (3 * j + b) 0) ≡ x → undecided k b (pair-of j .u) (pair-of j .v) ≡ x
+  undecided-by b e = sym (undecided-is k j (pairs-rise j within) (number-of-pair j within) b) ∙ e
 
   chosen-at : (a : ℕ) → a < 3 → choice-axis k (pair-of j .u) (pair-of j .v) ≡ a → Chosen k n (At (record { axis = a; u = c .u; v = c .v }))
   unfolding choice packed
   chosen-at a ha e =
-      let top = counted n (f .limited) j (f .below) in
+      let top = item-below n (f .limited) j (f .below) in
       let rises = pairs-rise j within in
       let apart = sym (separated-at-pair j (omega arith)) ∙ f .unseparated in
       let unpassed = first-from k from j (f .passed) within apart (λ i low l. sym (separated-at-pair i (omega arith)) ∙ f .earlier i l low) in (
@@ -134,9 +134,9 @@ module _ {k : Domains} {n from j : ℕ} {c : P.Pair} (f : Unseparated k n from j
   -- its first axis with more than one relation left
   pub chosen-axis : (a : ℕ) → a < 3 → several (getD k (3 * j + a) 0) ≡ true → ((b : ℕ) → b < a → several (getD k (3 * j + b) 0) ≡ false)
       → Chosen k n (At (record { axis = a; u = c .u; v = c .v }))
-  chosen-axis a ha e none = chosen-at a ha (choice-axis-is k _ _ a ha (left a e) (λ b l. left b (none b l)))
+  chosen-axis a ha e none = chosen-at a ha (choice-axis-is k _ _ a ha (undecided-by a e) (λ b l. undecided-by b (none b l)))
 
   pub chosen-none : ((b : ℕ) → b < 3 → several (getD k (3 * j + b) 0) ≡ false) → Chosen k n (At (record { axis = 0; u = c .u; v = c .v }))
   unfolding choice-axis
   chosen-none none =
-      chosen-at 0 (omega arith) (cc (left 0 (none 0 (omega arith)), left 1 (none 1 (omega arith)), left 2 (none 2 (omega arith))))
+      chosen-at 0 (omega arith) (cc (undecided-by 0 (none 0 (omega arith)), undecided-by 1 (none 1 (omega arith)), undecided-by 2 (none 2 (omega arith))))

@@ -9,8 +9,8 @@ below-more P i h e x l = elim (ℕ-discrete x i) [ yes q ↦ rw q e | no q ↦ h
 -- what holds of the other entries, and of what is stored at i, holds of all entries after
 pub written : {A : Type 0} (d : A) (P : ℕ → A → Type 0) (l : List A) (i : ℕ) (v : A) → i < length l → P i v → ((x : ℕ) → x ≢ i → P x (getD l x d))
     → (x : ℕ) → P x (getD (set l i v) x d)
-written d P l i v room here other x =
-    elim (ℕ-discrete x i) [ yes q ↦ rw (q, getD-set-same l i v d room) here | no q ↦ rw (getD-set-other l i x v d q) (other x q) ]
+written d P l i v room new other x =
+    elim (ℕ-discrete x i) [ yes q ↦ rw (q, getD-set-same l i v d room) new | no q ↦ rw (getD-set-other l i x v d q) (other x q) ]
 
 -- what holds on each axis
 pub by-axis : (P : ℕ → Type 0) → P 0 → P 1 → P 2 → (a : ℕ) → a < 3 → P a

@@ -17,9 +17,9 @@ pub record Copying (n : ℕ) (s : List ℕ) (from : ℕ) (d : List ℕ) (to i : 
 pub copying-none : {n : ℕ} {s : List ℕ} {from : ℕ} {d : List ℕ} {to : ℕ} → Copying n s from d to 0 d
 copying-none = record { most = omega arith; long = refl; inner = λ x h. absurd (omega arith); front = λ x h. refl; back = λ x h. refl }
 
-pub copying-next : {n : ℕ} {s : List ℕ} {from : ℕ} {d : List ℕ} {to i : ℕ} {r : List ℕ} {x y : ℕ} → Copying n s from d to i r → i < n
-    → x ≡ from + i → y ≡ to + i → y < length d → Copying n s from d to (i + 1) (set r y (getD s x 0))
-copying-next {s = s} {from} {to = to} {i} {r} {x} {y} c more ex ey room = record {
+pub copying-next : {n : ℕ} {s : List ℕ} {from : ℕ} {d : List ℕ} {to i : ℕ} {r : List ℕ} {x y : ℕ} → Copying n s from d to i r
+    → (i < n) × (x ≡ from + i) × (y ≡ to + i) × (y < length d) → Copying n s from d to (i + 1) (set r y (getD s x 0))
+copying-next {s = s} {from} {to = to} {i} {r} {x} {y} c (more, ex, ey, room) = record {
   most = omega arith;
   long = length-set r y (getD s x 0) ∙ c .long;
   inner = below-more _ i (λ z l. getD-set-other r y (to + z) _ 0 (omega arith) ∙ c .inner z l)
@@ -44,9 +44,9 @@ module _ {n : ℕ} {kept : List ℕ} {level : ℕ} {l : List ℕ} (h : Storable 
   pub stored : {i : ℕ} {r : List ℕ} → Copying n l 0 kept (level * n) i r → n ≤ i → Stored n kept level l r
   stored {i} {r} c done = record {
     long = c .long;
-    here = part-same n l 0 r (level * n) (omega (arith, h .enough)) (omega (arith, c .long, h .room, level-room level max-levels (h .level-below)))
+    level-is = part-same n l 0 r (level * n) (omega (arith, h .enough)) (omega (arith, c .long, h .room, level-room level max-levels (h .level-below)))
         (λ x hx. c .inner x (omega arith));
-    elsewhere = λ j b d.
+    others-stay = λ j b d.
         let room = level-room j max-levels b in
         part-same n kept (j * n) r (j * n) (omega (arith, h .room)) (omega (arith, c .long, h .room))
         (λ x hx. elim (lt-or-gt j level d) [

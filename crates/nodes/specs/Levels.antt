@@ -17,8 +17,8 @@ pub record Storable (n : ℕ) (kept : List ℕ) (level : ℕ) (l : List ℕ) : T
 -- the first n elements of l are kept there, and every other level stays
 pub record Stored (n : ℕ) (kept : List ℕ) (level : ℕ) (l kept′ : List ℕ) : Type 0 where
   pub long : length kept′ ≡ length kept
-  pub here : chunk n kept′ level ≡ take n l
-  pub elsewhere : (i : ℕ) → i < max-levels → i ≢ level → chunk n kept′ i ≡ chunk n kept i
+  pub level-is : chunk n kept′ level ≡ take n l
+  pub others-stay : (i : ℕ) → i < max-levels → i ≢ level → chunk n kept′ i ≡ chunk n kept i
 
 -- the first n elements are those of the level, what follows them stays
 pub record Loaded (n : ℕ) (kept : List ℕ) (level : ℕ) (l l′ : List ℕ) : Type 0 where

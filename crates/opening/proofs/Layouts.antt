@@ -16,23 +16,23 @@ use Rattle.opening.specs.Layout.{put, put-item, LaidOut}
 -- A measure is put at its three places: what holds of it there, and of the other entries, holds of all
 put-at : (t : List ℕ) (i m : ℕ) → length t ≡ 93 → i < 30 → (P : ℕ → ℕ → Type 0) → ((j : ℕ) → j < 90 → j % 30 ≡ i → P j m)
     → ((j : ℕ) → (j < 90 → j % 30 ≢ i) → P j (getD t j 0)) → (j : ℕ) → P j (getD (put t i m) j 0)
-put-at t i m long h P here other =
-    written 0 P (set (set t i m) (30 + i) m) (60 + i) m (simp length-set (omega arith)) (here (60 + i) (omega arith) (omega arith)) (λ x.
-    written 0 (λ x v. x ≢ 60 + i → P x v) (set t i m) (30 + i) m (simp length-set (omega arith)) (λ _. here (30 + i) (omega arith) (omega arith))
-    (λ x. written 0 (λ x v. x ≢ 30 + i → x ≢ 60 + i → P x v) t i m (omega arith) (λ _ _. here i (omega arith) (omega arith))
+put-at t i m long h P new other =
+    written 0 P (set (set t i m) (30 + i) m) (60 + i) m (simp length-set (omega arith)) (new (60 + i) (omega arith) (omega arith)) (λ x.
+    written 0 (λ x v. x ≢ 60 + i → P x v) (set t i m) (30 + i) m (simp length-set (omega arith)) (λ _. new (30 + i) (omega arith) (omega arith))
+    (λ x. written 0 (λ x v. x ≢ 30 + i → x ≢ 60 + i → P x v) t i m (omega arith) (λ _ _. new i (omega arith) (omega arith))
     (λ x d e f. other x (λ l r. omega arith)) x) x)
 
 -- The measures of an item, likewise
 module _ (t : List ℕ) (u : ℕ) (s : Size) (long : length t ≡ 93) (h : u < 10) where
   item-at : (P : ℕ → ℕ → Type 0) → ((a j : ℕ) → a < 3 → j < 90 → j % 30 ≡ a * 10 + u → P j (measure-on a s))
       → ((j : ℕ) → (j < 90 → j % 10 ≢ u) → P j (getD t j 0)) → (j : ℕ) → P j (getD (put-item t u s) j 0)
-  item-at P here other =
+  item-at P new other =
       put-at (put (put t u (s .width)) (10 + u) (s .depth)) (20 + u) (s .shifts) (simp length-set long) (omega arith) P
-      (λ j hj e. here 2 j (omega arith) hj (omega arith))
+      (λ j hj e. new 2 j (omega arith) hj (omega arith))
       (λ j. put-at (put t u (s .width)) (10 + u) (s .depth) (simp length-set long) (omega arith) (λ j v. (j < 90 → j % 30 ≢ 20 + u) → P j v)
-      (λ j hj e _. here 1 j (omega arith) hj (omega arith))
+      (λ j hj e _. new 1 j (omega arith) hj (omega arith))
       (λ j. put-at t u (s .width) long (omega arith) (λ j v. (j < 90 → j % 30 ≢ 10 + u) → (j < 90 → j % 30 ≢ 20 + u) → P j v)
-      (λ j hj e _ _. here 0 j (omega arith) hj (omega arith)) (λ j d e f. other j (λ l r. omega (arith, d l, e l, f l))) j) j)
+      (λ j hj e _ _. new 0 j (omega arith) hj (omega arith)) (λ j d e f. other j (λ l r. omega (arith, d l, e l, f l))) j) j)
 
 -- the first n items of a list, in the container of t₀
 abbrev pub first-items : List Item → List ℕ → ℕ → Problem
@@ -73,39 +73,39 @@ module _ (items : List Item) (t₀ t : List ℕ) (u : ℕ) (h : u < 10) (small :
         (next-size 0 a w (omega arith) (out .alone 2 a w (omega arith) ha hw)) x d ∙ sym (next-size 60 a w (omega arith) refl);
   }
 
--- the container alone
-abbrev pub held : Size → List ℕ
-held c = set (set (set (replicate 93 0) 90 (c .width)) 91 (c .depth)) 92 (c .shifts)
+-- the container alone, no items yet
+abbrev pub no-items : Size → List ℕ
+no-items c = set (set (set (replicate 93 0) 90 (c .width)) 91 (c .depth)) 92 (c .shifts)
 
 module _ (c : Size) where
-  held-at : (P : ℕ → ℕ → Type 0) → P 90 (c .width) → P 91 (c .depth) → P 92 (c .shifts) → ((j : ℕ) → P j 0) → (j : ℕ) → P j (getD (held c) j 0)
-  held-at P x y z rest =
+  no-items-at : (P : ℕ → ℕ → Type 0) → P 90 (c .width) → P 91 (c .depth) → P 92 (c .shifts) → ((j : ℕ) → P j 0) → (j : ℕ) → P j (getD (no-items c) j 0)
+  no-items-at P x y z rest =
       written 0 P (set (set (replicate 93 0) 90 (c .width)) 91 (c .depth)) 92 (c .shifts) (omega arith) z
       (λ j _. written 0 P (set (replicate 93 0) 90 (c .width)) 91 (c .depth) (omega arith) y
       (λ j _. written 0 P (replicate 93 0) 90 (c .width) (omega arith) x (λ j _. rw (blank-at {A = ℕ} 0 93 j) (rest j)) j) j)
 
-  held-zero : (j : ℕ) → j < 90 → getD (held c) j 0 ≡ 0
-  held-zero = held-at (λ j v. j < 90 → v ≡ 0) (λ h. absurd (omega arith)) (λ h. absurd (omega arith)) (λ h. absurd (omega arith)) (λ j h. refl)
+  no-items-zero : (j : ℕ) → j < 90 → getD (no-items c) j 0 ≡ 0
+  no-items-zero = no-items-at (λ j v. j < 90 → v ≡ 0) (λ h. absurd (omega arith)) (λ h. absurd (omega arith)) (λ h. absurd (omega arith)) (λ j h. refl)
 
-  pub laid-none : (items : List Item) → ((a : ℕ) → a < 3 → measure-on a c < 65536) → LaidOut (first-items items (held c) 0) (held c)
+  pub laid-none : (items : List Item) → ((a : ℕ) → a < 3 → measure-on a c < 65536) → LaidOut (first-items items (no-items c) 0) (no-items c)
   laid-none items small = record {
     long = refl;
-    small = held-at (λ j v. v < 65536) (small 0 (omega arith)) (small 1 (omega arith)) (small 2 (omega arith)) (λ j. omega arith);
+    small = no-items-at (λ j v. v < 65536) (small 0 (omega arith)) (small 1 (omega arith)) (small 2 (omega arith)) (λ j. omega arith);
     capacity = λ a ha. refl;
-    size = λ a u ha hu. held-zero (60 + a * 10 + u) (omega arith) ∙ sym (wide-past (first-items items (held c) 0) a u (omega arith));
+    size = λ a u ha hu. no-items-zero (60 + a * 10 + u) (omega arith) ∙ sym (wide-past (first-items items (no-items c) 0) a u (omega arith));
     alone = λ x a u d ha hu.
-        by-direction (λ x. table (held c) x a u ≡ 0) (held-zero (30 + a * 10 + u) (omega arith)) (held-zero (0 + a * 10 + u) (omega arith)) x d
-        ∙ sym (held-zero (60 + a * 10 + u) (omega arith));
+        by-direction (λ x. table (no-items c) x a u ≡ 0) (no-items-zero (30 + a * 10 + u) (omega arith)) (no-items-zero (0 + a * 10 + u) (omega arith)) x d
+        ∙ sym (no-items-zero (60 + a * 10 + u) (omega arith));
   }
 
 -- all of them
-pub laid-all : (i : Instance) (u : ℕ) {t : List ℕ} → u ≡ i .«item_count» → LaidOut (first-items (i .items) (held (i .container)) u) t
+pub laid-all : (i : Instance) (u : ℕ) {t : List ℕ} → u ≡ i .«item_count» → LaidOut (first-items (i .items) (no-items (i .container)) u) t
     → LaidOut (problem-of i) t
 unfolding problem-of wide
 laid-all i u e out = record {
   long = out .long;
   small = out .small;
-  capacity = λ a ha. out .capacity a ha ∙ by-axis (λ a. capacity-at (held (i .container)) a ≡ measure-on a (i .container)) refl refl refl a ha;
+  capacity = λ a ha. out .capacity a ha ∙ by-axis (λ a. capacity-at (no-items (i .container)) a ≡ measure-on a (i .container)) refl refl refl a ha;
   size = λ a w ha hw. rw e at (out .size a w ha hw);
   alone = out .alone;
 }

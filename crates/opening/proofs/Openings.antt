@@ -15,10 +15,10 @@ use Rattle.model.proofs.Order.{below-refl, below-trans}
 use Rattle.model.proofs.Removal.{fix-before-less}
 use Rattle.domains.specs.Queue.{queue-end, Good, Long}
 use Rattle.domains.specs.Narrowed.{Grown, Narrowed, Refuted, Outcome, All, Asked, Askable}
-use Rattle.opening.specs.Openings.{FixedIf}
+use Rattle.opening.specs.Openings.{first-fixed, FixedIf}
 use Rattle.domains.proofs.Narrowed.{grown-none, grown-then}
 use Rattle.nodes.proofs.BranchRemovals.{taken-one, taken-more, SetOf, set-one, set-more, askable, filled-more, Exact, exact}
-use Rattle.opening.proofs.Sound.{stand-so}
+use Rattle.opening.proofs.Sound.{allowed-proper}
 use Rattle.model.specs.Problem as M
 
 -- fixing only removes
@@ -32,7 +32,7 @@ fixing-less (o ∷ l) k =
 pub record Fixing (m : ℕ) (os : List Precedence) (k : Domains) (q : List ℕ) (i : ℕ) (j : Domains) (rows r : List ℕ) : Type 0 where
   pub room : m ≤ length os
   pub within : i ≤ m
-  pub left : fix-precedences (map precedence-of (drop i (take m os))) j ≡ fix-precedences (map precedence-of (take m os)) k
+  pub left : fix-precedences (map precedence-of (drop i (take m os))) j ≡ first-fixed m os k
   pub grown : Grown k q j rows r
 
 pub fixing-none : {m : ℕ} {os : List Precedence} {k : Domains} {rows q : List ℕ} → m ≤ length os → Good k rows q → Fixing m os k q 0 k rows q
@@ -48,16 +48,16 @@ module _ {m : ℕ} {os : List Precedence} {k : Domains} {q : List ℕ} {i : ℕ}
   abbrev o : Precedence
   o = getD os i no-precedence
 
-  module _ (stand : all-allowed 10 Nothing (take m os) ≡ true) (more : i < m) where
+  module _ (allowed : all-allowed 10 Nothing (take m os) ≡ true) (more : i < m) where
     pub next-proper : Proper 10 2 (o .predecessor) (o .successor)
     next-proper =
         let inner = getD-in no-precedence (take m os) i (rw (length-take-le m os (f .room)) more) in
-        stand-so 10 Nothing stand (rw (getD-take m os i no-precedence more) at inner)
+        allowed-proper 10 Nothing allowed (rw (getD-take m os i no-precedence more) at inner)
 
     abbrev next : Domains
     next = fix-before j 2 (o .predecessor) (o .successor)
 
-    rest : fix-precedences (map precedence-of (drop (i + 1) (take m os))) next ≡ fix-precedences (map precedence-of (take m os)) k
+    rest : fix-precedences (map precedence-of (drop (i + 1) (take m os))) next ≡ first-fixed m os k
     rest = (rw (part-next m i os (f .room) no-precedence more) refl) ∙ f .left
 
     -- "v before u" and overlap, as a set
@@ -81,11 +81,10 @@ module _ {m : ℕ} {os : List Precedence} {k : Domains} {q : List ℕ} {i : ℕ}
             record { room = f .room; within = omega arith; left = rw is rest; grown = grown-then least (f .grown) grown }
 
         -- a pair that has nothing left now has nothing left in the end
-        pub fixing-fails : Long l rows′ z → Refuted (Asked 2 (o .predecessor) (bitOr x y)) j
-            → FixedIf (map precedence-of (take m os)) k q l rows′ z false
+        pub fixing-fails : Long l rows′ z → Refuted (Asked 2 (o .predecessor) (bitOr x y)) j → FixedIf m os k q l rows′ z false
         fixing-fails long none =
             let os′ = map precedence-of (drop (i + 1) (take m os)) in
             (long, λ full. fixed l rows′ z false (long, none) .1 (filled-more (fix-precedences os′ next) next (fixing-less os′ next) (rw rest full)))
 
-  pub fixing-done : m ≤ i → FixedIf (map precedence-of (take m os)) k q j rows r true
+  pub fixing-done : m ≤ i → FixedIf m os k q j rows r true
   fixing-done h = (rw (part-done m i os (f .room) h) at (f .left), f .grown)

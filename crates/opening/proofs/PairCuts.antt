@@ -22,7 +22,7 @@ use Rattle.nodes.proofs.Loops.{written}
 use Rattle.domains.proofs.BitLaws.{bit-shl, shl-small}
 use Rattle.domains.proofs.Narrowed.{narrowed-none, narrowed-as, narrowed-then, refuted-later}
 
--- .. of the first i places
+-- "u before v" is removed of two items too long together, of the first i places of axis and item u
 pub record CutTo (t : List ℕ) (i : ℕ) (f : Domains) : Type 0 where
   pub cut : (a u v : ℕ) → Proper 10 a u v → a * 10 + u < i → capacity-at t a < table t 2 a u + table t 1 a v → gone f 1 a u v ≡ true
 

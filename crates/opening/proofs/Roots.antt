@@ -42,9 +42,9 @@ use Rattle.nodes.proofs.BranchRemovals.{filled-more}
 use Rattle.opening.proofs.PairCuts.{too-inside}
 
 -- Nothing is removed yet
-full-not : (c : Fact) → Proper 10 (c .axis) (c .u) (c .v) → Holds full-domains c → ⊥
+full-holds-none : (c : Fact) → Proper 10 (c .axis) (c .u) (c .v) → Holds full-domains c → ⊥
 unfolding says
-full-not c s h = by (c .saying) h
+full-holds-none c s h = by (c .saying) h
   where
     not-gone : (x : ℕ) → gone full-domains x (c .axis) (c .u) (c .v) ≡ true → ⊥
     not-gone x e = clash e (full-left x s)
@@ -56,11 +56,11 @@ full-not c s h = by (c .saying) h
     by (forced x) e = not-gone 0 (and-both _ _ e .0)
 
 full-obeyed : Obeyed 10 full-domains
-full-obeyed _ _ (c3 a b c u v x s) h = absurd (full-not (of overlaps a u v) s (h .0))
-full-obeyed _ _ (d2 x a u v w o t) h = absurd (full-not (of (forced x) a u v) (t .uv) (h .0))
-full-obeyed _ _ (d1-far x a u v w o t) h = absurd (full-not (of (forced x) a u v) (t .uv) (h .0))
-full-obeyed _ _ (d1-near x a u v w o t) h = absurd (full-not (of (removed x) a u v) (t .uv) (h .0))
-full-obeyed _ _ (g1 a q r s t x y z) h = absurd (full-not (of overlaps a q r) (x .uv) (h .0))
+full-obeyed _ _ (c3 a b c u v x s) h = absurd (full-holds-none (of overlaps a u v) s (h .0))
+full-obeyed _ _ (d2 x a u v w o t) h = absurd (full-holds-none (of (forced x) a u v) (t .uv) (h .0))
+full-obeyed _ _ (d1-far x a u v w o t) h = absurd (full-holds-none (of (forced x) a u v) (t .uv) (h .0))
+full-obeyed _ _ (d1-near x a u v w o t) h = absurd (full-holds-none (of (removed x) a u v) (t .uv) (h .0))
+full-obeyed _ _ (g1 a q r s t x y z) h = absurd (full-holds-none (of overlaps a q r) (x .uv) (h .0))
 
 full-laid : Laid full-domains (replicate 30 0)
 full-laid = record {
@@ -176,7 +176,7 @@ module _ {p : Problem} {t : List ℕ} (sound : Sound p) (l : LaidOut p t) where
         closed = record {
           size = λ x a u d ha hu. omega (arith, alone-size x a u d ha (omega (arith, root-measured .ten)));
           on = λ x a v z d s h. elim (grown .new (of (forced x) a v z) (omega (arith, root-measured .ten)) h) [
-            | inl e ↦ absurd (full-not (of (forced x) a v z) (omega (arith, root-measured .ten)) e)
+            | inl e ↦ absurd (full-holds-none (of (forced x) a v z) (omega (arith, root-measured .ten)) e)
             | inr e ↦ inr e
           ];
           cut = λ a u v s h.

@@ -18,44 +18,45 @@ use Rattle.instance.specs.declared.Instance.{Instance}
 use Rattle.nodes.proofs.Loops.{by-axis}
 use Rattle.model.specs.Problem as M
 
-positive-so : (s : Size) → positive s ≡ true → (a : ℕ) → a < 3 → 1 ≤ measure-on a s
+positive-measures : (s : Size) → positive s ≡ true → (a : ℕ) → a < 3 → 1 ≤ measure-on a s
 unfolding positive
-positive-so s h =
+positive-measures s h =
     let q = and-both _ _ h in
     let r = and-both _ _ (q .1) in
     by-axis (λ a. 1 ≤ measure-on a s) (leb-true _ _ (q .0)) (leb-true _ _ (r .0)) (leb-true _ _ (r .1))
 
-sizes-so : (l : List Item) → all-have-size l ≡ true → (u : ℕ) → u < length l → positive (getD l u no-item .size) ≡ true
+sizes-positive : (l : List Item) → all-have-size l ≡ true → (u : ℕ) → u < length l → positive (getD l u no-item .size) ≡ true
 unfolding all-have-size
-sizes-so [] h u g = absurd (omega arith)
-sizes-so (i ∷ l) h zero g = and-both _ _ h .0
-sizes-so (i ∷ l) h (suc u) g = sizes-so l (and-both (positive (i .size)) (all-have-size l) h .1) u (omega arith)
+sizes-positive [] h u g = absurd (omega arith)
+sizes-positive (i ∷ l) h zero g = and-both _ _ h .0
+sizes-positive (i ∷ l) h (suc u) g = sizes-positive l (and-both (positive (i .size)) (all-have-size l) h .1) u (omega arith)
 
--- a precedence that may stand names two items
-names-so : (n : ℕ) (o : Precedence) → names-items n o ≡ true → Proper n M.time (o .predecessor) (o .successor)
+-- a precedence that is allowed names two items
+names-proper : (n : ℕ) (o : Precedence) → names-items n o ≡ true → Proper n M.time (o .predecessor) (o .successor)
 unfolding names-items
-names-so n o h =
+names-proper n o h =
     let q = and-both _ _ h in
     let r = and-both _ _ (q .1) in
     record { axis = omega arith; item-u = ltb-true _ _ (q .0); item-v = ltb-true _ _ (r .0); distinct = eqb-false _ _ (not-true _ (r .1)) }
 
-pub stand-so : (n : ℕ) (last : Previous) {l : List Precedence} → all-allowed n last l ≡ true → {o : Precedence} → List·Memᴰ o l
+pub allowed-proper : (n : ℕ) (last : Previous) {l : List Precedence} → all-allowed n last l ≡ true → {o : Precedence} → List·Memᴰ o l
     → Proper n M.time (o .predecessor) (o .successor)
 unfolding all-allowed
-stand-so n last h (List·Memᴰ·head {x = x} e) = rw e (names-so n x (and-both _ _ (and-both _ _ h .0) .0))
-stand-so n last h (List·Memᴰ·tail {x = x} {xs = l} m) = stand-so n (Was x) (and-both (names-items n x && rises last x) (all-allowed n (Was x) l) h .1) m
+allowed-proper n last h (List·Memᴰ·head {x = x} e) = rw e (names-proper n x (and-both _ _ (and-both _ _ h .0) .0))
+allowed-proper n last h (List·Memᴰ·tail {x = x} {xs = l} m) =
+    allowed-proper n (Was x) (and-both (names-items n x && rises last x) (all-allowed n (Was x) l) h .1) m
 
 -- precedences of n items are precedences of ten
-pub stands-wide : (n : ℕ) → n ≤ 10 → (last : Previous) (l : List Precedence) → all-allowed n last l ≡ true → all-allowed 10 last l ≡ true
+pub allowed-wide : (n : ℕ) → n ≤ 10 → (last : Previous) (l : List Precedence) → all-allowed n last l ≡ true → all-allowed 10 last l ≡ true
 unfolding all-allowed names-items
-stands-wide n h last [] e = refl
-stands-wide n h last (o ∷ os) e =
+allowed-wide n h last [] e = refl
+allowed-wide n h last (o ∷ os) e =
     let q = and-both (names-items n o && rises last o) (all-allowed n (Was o) os) e in
     let r = and-both (names-items n o) (rises last o) (q .0) in
-    let p = names-so n o (r .0) in
+    let p = names-proper n o (r .0) in
     let below = lt-ltb (o .successor) 10 (omega arith) in
     and-intro (and-intro (and-intro (lt-ltb (o .predecessor) 10 (omega arith)) (and-intro below (ap not (ne-eqb _ _ (p .distinct))))) (r .1))
-    (stands-wide n h (Was o) os (q .1))
+    (allowed-wide n h (Was o) os (q .1))
 
 -- validity taken apart
 pub valid-parts : (i : Instance) → valid i ≡ true
@@ -66,8 +67,8 @@ valid-parts i h =
     let q = and-both _ _ h in
     let r = and-both _ _ (q .1) in
     let sizes = all-have-size (items-of i) in
-    let stand = all-allowed (i .«item_count») Nothing (precedences-of i) in
-    let s = and-both sizes stand (and-both (positive (i .container)) (sizes && stand) (r .1) .1) in
+    let allowed = all-allowed (i .«item_count») Nothing (precedences-of i) in
+    let s = and-both sizes allowed (and-both (positive (i .container)) (sizes && allowed) (r .1) .1) in
     (leb-true _ _ (q .0), leb-true _ _ (r .0), s .0, s .1)
 
 pub valid-sound : (i : Instance) → valid i ≡ true → length (i .items) ≡ 10 → Sound (problem-of i)
@@ -78,7 +79,7 @@ valid-sound i h long =
     record {
       limited = limited;
       positive = λ a u la lu.
-          let size = sizes-so (items-of i) σ u (rw (length-take-le n (i .items) (omega arith)) lu) in
-          positive-so _ (rw (getD-take n (i .items) u no-item lu) at size) a la;
-      named = λ o m. let (x, mem, e) = Memᴰ·of-map precedence-of (precedences-of i) m in rw (← e) (stand-so n Nothing τ mem);
+          let size = sizes-positive (items-of i) σ u (rw (length-take-le n (i .items) (omega arith)) lu) in
+          positive-measures _ (rw (getD-take n (i .items) u no-item lu) at size) a la;
+      named = λ o m. let (x, mem, e) = Memᴰ·of-map precedence-of (precedences-of i) m in rw (← e) (allowed-proper n Nothing τ mem);
     }

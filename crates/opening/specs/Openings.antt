@@ -1,6 +1,6 @@
 -- The opening domains by removals.
-use Rattle.prelude.specs.Names.{Bool, true, false, List, [], _≡_, ℕ, _+_, _≤_, _<_}
-use Rattle.model.specs.Problem.{Problem, Precedence}
+use Rattle.prelude.specs.Names.{Bool, true, false, List, [], map, _≡_, ℕ, _+_, _≤_, _<_, take}
+use Rattle.model.specs.Problem.{Problem}
 use Rattle.model.specs.Domains.{Domains}
 use Rattle.model.specs.Order.{Proper}
 use Rattle.model.specs.Branching.{fix-precedences}
@@ -8,21 +8,28 @@ use Rattle.model.specs.Relations.{gone, Filled, Untouched}
 use Rattle.model.specs.Toward.{Direction}
 use Rattle.model.specs.Run.{look}
 use Rattle.domains.specs.Queue.{Long}
-use Rattle.domains.specs.Narrowed.{Grown}
+use Rattle.domains.specs.Narrowed.{Grown, Narrowed, Refuted}
 use Rattle.chains.specs.Totals.{table, capacity-at}
+use Rattle.parts.specs.declared.Precedence.{Precedence}
+use Rattle.instance.specs.Meaning.{precedence-of}
 use Rattle.nodes.specs.Nodes.{At}
 use Rattle.opening.specs.declared.Root.{Root}
 use Rattle.model.specs.Search as S
 
--- all but "u before v" on t is removed for each precedence; or that leaves a pair nothing
-abbrev pub FixedIf : List Precedence → Domains → List ℕ → Domains → List ℕ → List ℕ → Bool → Type 0
-FixedIf os k q j rows r true = (j ≡ fix-precedences os k) × Grown k q j rows r
-FixedIf os k q j rows r false = Long j rows r × (Filled (fix-precedences os k) → ⊥)
+-- the domains with the first m precedences fixed
+abbrev pub first-fixed : ℕ → List Precedence → Domains → Domains
+first-fixed m os k = fix-precedences (map precedence-of (take m os)) k
+
+-- all but "u before v" on t is removed for each of them; or that leaves a pair nothing
+abbrev pub FixedIf : ℕ → List Precedence → Domains → List ℕ → Domains → List ℕ → List ℕ → Bool → Type 0
+FixedIf m os k q j rows r true = (j ≡ first-fixed m os k) × Grown k q j rows r
+FixedIf m os k q j rows r false = Long j rows r × (Filled (first-fixed m os k) → ⊥)
 
 -- "u before v" is removed of every two items that are too long together
 abbrev pub PairsCut : List ℕ → Domains → Type 0
 PairsCut t f = (a u v : ℕ) → Proper 10 a u v → capacity-at t a < table t 2 a u + table t 1 a v → gone f 1 a u v ≡ true
 
+-- and every pair has a relation left
 pub record PairsAsked (t : List ℕ) (f : Domains) : Type 0 where
   pub all : PairsCut t f
   pub filled : Filled f
@@ -35,9 +42,10 @@ Past t n = (x a u : ℕ) → Direction x → a < 3 → n ≤ u → u < 10 → ta
 abbrev pub Outside : List ℕ → Domains → Domains → Type 0
 Outside t k j = (n : ℕ) → n ≤ 10 → Past t n → Untouched n k → Untouched n j
 
-abbrev pub OutsideIf : List ℕ → Domains → Domains → Bool → Type 0
-OutsideIf t k j true = Outside t k j
-OutsideIf t k j false = Unit {0}
+-- every two items that are too long together are cut, and nothing past the items; or that leaves a pair nothing
+abbrev pub CutIf : List ℕ → Domains → List ℕ → Domains → List ℕ → List ℕ → Bool → Type 0
+CutIf t k q j rows r true = Narrowed (PairsAsked t) (PairsCut t) k q j rows r × Outside t k j
+CutIf t k q j rows r false = Long j rows r × Refuted (PairsAsked t) k
 
 -- the opening domains, ready; or that they are inconsistent
 abbrev pub RootedIf : Problem → Root → Bool → Type 0

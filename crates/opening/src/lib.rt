@@ -1,18 +1,16 @@
 // The opening domains of an instance.
 ghost use mathlib.Core.Path.{_≡_};
 ghost use mathlib.Core.Bool.{true, false};
-ghost use mathlib.Core.List.{map};
 ghost use Prim.Native.Nat.{_≤_};
 ghost use lib.ListN.{take};
 ghost use Rattle.sheet.specs.Sheet.{max-precedences};
 ghost use Rattle.parts.specs.Precedences.{all-allowed};
 ghost use Rattle.parts.specs.declared.Previous.{Previous};
 ghost use Rattle.instance.specs.Valid.{valid};
-ghost use Rattle.instance.specs.Meaning.{problem-of, precedence-of};
+ghost use Rattle.instance.specs.Meaning.{problem-of};
 ghost use Rattle.domains.specs.Queue.{Good};
 ghost use Rattle.chains.specs.Totals.{Tabled};
-ghost use Rattle.domains.specs.Narrowed.{Outcome};
-ghost use Rattle.opening.specs.Openings.{FixedIf, PairsAsked, PairsCut, OutsideIf, RootedIf};
+ghost use Rattle.opening.specs.Openings.{FixedIf, CutIf, RootedIf};
 use chains::cuts::too_long;
 use chains::totals::STARTS;
 use chains::totals::TOTALS;
@@ -44,7 +42,7 @@ fn fix_precedences(
     m: usize,
 ) -> bool
     requires { ⌜ Good (now k) (now rows) (now queue) × (m ≤ max-precedences) × (all-allowed 10 Previous.Nothing (take m precedences) ≡ true) ⌝ }
-    ensures { λ r. ⌜ FixedIf (map precedence-of (take m precedences)) (now (k .entry)) (now (queue .entry)) (now (k .exit)) (now (rows .exit)) (now (queue .exit)) r ⌝ }
+    ensures { λ r. ⌜ FixedIf m precedences (now (k .entry)) (now (queue .entry)) (now (k .exit)) (now (rows .exit)) (now (queue .exit)) r ⌝ }
 {
     let mut i: usize = 0;
     while i < m {
@@ -67,7 +65,7 @@ fn cut_pairs(
     t: &[u16; TOTALS],
 ) -> bool
     requires { ⌜ Good (now k) (now rows) (now queue) × Tabled (now t) ⌝ }
-    ensures { λ r. ⌜ Outcome (PairsAsked (now (t .entry))) (PairsCut (now (t .entry))) (now (k .entry)) (now (queue .entry)) (now (k .exit)) (now (rows .exit)) (now (queue .exit)) r × OutsideIf (now (t .entry)) (now (k .entry)) (now (k .exit)) r ⌝ }
+    ensures { λ r. ⌜ CutIf (now (t .entry)) (now (k .entry)) (now (queue .entry)) (now (k .exit)) (now (rows .exit)) (now (queue .exit)) r ⌝ }
 {
     let mut i: usize = 0;
     while i < ROWS {
@@ -81,7 +79,7 @@ fn cut_pairs(
     true
 }
 
-// What stands where the opening domains are inconsistent.
+// The value where the opening domains are inconsistent.
 fn no_root(totals: [u16; TOTALS]) -> Root
     ensures { λ r. ⌜ r .consistent ≡ false ⌝ }
 {

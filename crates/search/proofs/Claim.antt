@@ -17,7 +17,8 @@ use Rattle.instance.specs.declared.Checkpoint.{Checkpoint}
 use Rattle.instance.specs.declared.Instance.{Instance}
 use Rattle.search.specs.Calls.{values}
 use Rattle.tree_paths.specs.Checkpoints.{checkpoint-of, well-formed, following, Following, branches-of, value-of}
-use Rattle.search.specs.Results.{answer-number, answer-of, packing-with, result-of, result-refused, result-if, search-result, SearchFault, nine, ten}
+use Rattle.search.specs.Results.{answer-number, answer-of, packing-with, result-of, result-refused, result-if, search-result, SearchFault}
+use Rattle.search.specs.Results.{nine, ten}
 use Rattle.search.specs.declared.answer.SearchResult.{SearchResult}
 use Rattle.tree_paths.proofs.Checkpoints.{Short, checkpoint-back, value-well-formed}
 use Rattle.search.proofs.Packing.{packing-back, feasible-same}

@@ -13,10 +13,9 @@ use Rattle.instance.specs.declared.Checkpoint.{Checkpoint}
 use Rattle.instance.specs.declared.Instance.{Instance}
 use Rattle.instance.specs.declared.Packing.{Packing}
 use Rattle.instance.specs.declared.Status.{Status}
-use Rattle.tree_paths.specs.Checkpoints.{path-of, with-status, well-formed, following, value-of}
+use Rattle.tree_paths.specs.Checkpoints.{path-of, value-path, with-status, well-formed, following, value-of, PathIn}
 use Rattle.search.specs.Results.{answer-number, answer-of, packing-of, result-of, result-refused, followed, infeasible-after, spent-after}
 use Rattle.search.specs.Results.{packed-after, search-result}
-use Rattle.tree_paths.specs.Standing.{PathIn}
 use Rattle.search.specs.declared.answer.SearchResult.{SearchResult}
 use Rattle.search.proofs.Budget.{Comes, rest-start, rest-finished}
 use Rattle.tree_paths.proofs.Checkpoints.{checkpoint-as}
@@ -44,12 +43,15 @@ module _ (p : Problem) (budget : ℕ) (c : Checkpoint) (κ : S.Checkpoint) where
     module _ {t n : ℕ} {path : List Branch} {bs : List ℕ} (h : PathIn path bs n) where
       pub comes-spent : Comes (look p) budget κ t (S.open-at path) → spent-after t bs n ≡ followed p budget c κ
       unfolding spent-after result-of value-of
-      comes-spent γ = rw (h .many, h .values) (comes γ)
+      comes-spent γ = rw (h .many, h .entries) (comes γ)
 
       pub comes-packed : {q : Packing} → q ≡ packing-of p (plan p path) → Comes (look p) budget κ t (S.packed-at path)
           → packed-after t bs n q ≡ followed p budget c κ
       unfolding packed-after result-of value-of
-      comes-packed e γ = rw (h .many, h .values, e) (comes γ)
+      comes-packed e γ = rw (h .many, h .entries, e) (comes γ)
+
+pub infeasible-again : (p : Problem) (budget : ℕ) (c : Checkpoint) → infeasible-after 0 ≡ followed p budget c S.infeasible
+infeasible-again p budget c = comes-infeasible p budget c S.infeasible refl (comes-again p budget c S.infeasible tt)
 
 -- a path with a beginning that is no branching point
 module _ (look : List Branch → S.Outlook) (bs : List ℕ) (i : ℕ) where
@@ -61,10 +63,9 @@ module _ (look : List Branch → S.Outlook) (bs : List ℕ) (i : ℕ) where
   forking-fails n h e = not-so _ (forking-so look (path-of n bs)) (λ f. clash (rw (fork-within n h f)) e)
 
 -- The call on a packed checkpoint, by what one step from its path comes to
-module _ (p : Problem) (c : Checkpoint) {r : SearchResult}
-    (is : r ≡ followed p 1 c (S.open-at (path-of (c .length) (c .branches)))) (budget : ℕ) where
+module _ (p : Problem) (c : Checkpoint) {r : SearchResult} (is : r ≡ followed p 1 c (S.open-at (value-path c))) (budget : ℕ) where
   abbrev path : List Branch
-  path = path-of (c .length) (c .branches)
+  path = value-path c
 
   abbrev Packed : SearchResult → Type 0
   Packed s = s ≡ followed p budget c (S.packed-at path)
@@ -98,6 +99,6 @@ module _ (p : Problem) (c : Checkpoint) {r : SearchResult}
 
 -- A call on a well-formed checkpoint, by its status
 pub searched : (i : Instance) (c : Checkpoint) (budget : ℕ) → valid i ≡ true → well-formed c ≡ true → {s : Status} → c .status ≡ s
-    → {r : SearchResult} → r ≡ followed (problem-of i) budget c (with-status s (path-of (c .length) (c .branches))) → r ≡ search-result i c budget
+    → {r : SearchResult} → r ≡ followed (problem-of i) budget c (with-status s (value-path c)) → r ≡ search-result i c budget
 unfolding search-result following
 searched i c budget v w e h = rw (v, w, checkpoint-as c e) h

@@ -1,5 +1,5 @@
 -- A packing as a value.
-use Rattle.prelude.specs.Names.{List, _⊎_, inl, inr, _≡_, refl, sym, ap, _∙_, ℕ, zero, suc, _≤_, _<_, decLt, arith, length, getD, ext-getD, lt-ltb}
+use Rattle.prelude.specs.Names.{List, _⊎_, inl, inr, _≡_, refl, sym, ap, _∙_, ℕ, _≤_, _<_, decLt, arith, length, getD, ext-getD, lt-ltb}
 use Rattle.prelude.specs.Names.{le-ltb}
 use Rattle.model.specs.Admits.{Sound}
 use Rattle.model.specs.Branching.{Branch, path-domains, starts, plan}
@@ -10,6 +10,7 @@ use Rattle.instance.specs.Meaning.{start, positions-of}
 use Rattle.instance.specs.Values.{origin}
 use Rattle.instance.specs.declared.Packing.{Packing}
 use Rattle.instance.specs.declared.Position.{Position}
+use Rattle.nodes.proofs.Loops.{by-axis}
 use Rattle.search.specs.Results.{position-of, packing-of}
 
 -- a value that has a packing's positions at its items, and 0 past them, is the packing's value
@@ -34,13 +35,9 @@ module _ (p : Problem) (q : Positions) (r : Packing) (long : length (r .position
 -- and back: its positions are the packing's
 pub packing-back : (p : Problem) → p .items ≤ 10 → (q : Positions) (a u : ℕ) → a < 3 → u < p .items → positions-of (packing-of p q) a u ≡ q a u
 unfolding positions-of packing-of
-packing-back p l q a u la lu = rw (ten-at (position-of (p .items) q) u (omega arith), lt-ltb u (p .items) lu) (go a la)
-  where
-    go : (a : ℕ) → a < 3 → start a (record { x = q 0 u; y = q 1 u; t = q 2 u }) ≡ q a u
-    go zero h = refl
-    go (suc zero) h = refl
-    go (suc (suc zero)) h = refl
-    go (suc (suc (suc a))) h = absurd (omega arith)
+packing-back p l q a u la lu =
+    rw (ten-at (position-of (p .items) q) u (omega arith), lt-ltb u (p .items) lu)
+    (by-axis (λ a. start a (record { x = q 0 u; y = q 1 u; t = q 2 u }) ≡ q a u) refl refl refl a la)
 
 -- the packing of a path's greatest chains is its plan
 pub plan-is : (p : Problem) (path : List Branch) (k : Domains) → k ≡ path-domains p path → (r : Packing) → length (r .positions) ≡ 10

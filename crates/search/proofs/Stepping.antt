@@ -7,43 +7,42 @@ use Rattle.model.specs.Run.{look}
 use Rattle.refusal.specs.declared.Refusal.the-variants.{NotFollowing}
 use Rattle.instance.specs.declared.Checkpoint.{Checkpoint}
 use Rattle.instance.specs.declared.Packing.{Packing}
-use Rattle.tree_paths.specs.Checkpoints.{branch-of, path-of, branches-of}
+use Rattle.tree_paths.specs.Checkpoints.{branch-of, path-of, value-path, branches-of, PathIn}
 use Rattle.search.specs.Results.{packing-of, result-refused, followed, infeasible-after, spent-after, packed-after}
-use Rattle.tree_paths.specs.Standing.{PathIn}
 use Rattle.search.specs.declared.answer.SearchResult.{SearchResult}
 use Rattle.search.proofs.Budget.{Rest, rest-start, rest-next, rest-finished, rest-spent}
 use Rattle.tree_paths.proofs.Checkpoints.{path-length, path-next, branch-back, branches-past, branches-small, first-held, again-at}
 use Rattle.search.proofs.Outcome.{forking-fails, comes-infeasible, comes-spent, comes-packed, refused-result}
-use Rattle.tree_paths.proofs.Standing.{Turn}
+use Rattle.tree_paths.proofs.SearchState.{BackTo}
 use Rattle.model.specs.Search as S
 
 -- the path of a checkpoint is gone along, and some steps lead on from it
-pub record On (p : Problem) (budget : ℕ) (start : List Branch) (steps : ℕ) (path : List Branch) (bs : List ℕ) : Type 0 where
+pub record PastPath (p : Problem) (budget : ℕ) (start : List Branch) (steps : ℕ) (path : List Branch) (bs : List ℕ) : Type 0 where
   pub start-forks : S.Forking (look p) start
   pub rest : Rest (look p) budget (S.open-at start) steps (S.open-at path)
   pub held : bs ≡ branches-of path
 
 -- after so many looks on a call of the first n of the branches given
-pub record Way (p : Problem) (budget : ℕ) (given : List ℕ) (n looks : ℕ) (path : List Branch) (bs : List ℕ) : Type 0 where
+pub record Progress (p : Problem) (budget : ℕ) (given : List ℕ) (n looks : ℕ) (path : List Branch) (bs : List ℕ) : Type 0 where
   pub early : looks < n → (path ≡ path-of looks given) × (bs ≡ branches-of (path-of n given))
-  pub late : n ≤ looks → On p budget (path-of n given) (looks - n) path bs
+  pub late : n ≤ looks → PastPath p budget (path-of n given) (looks - n) path bs
 
 -- where the path of the checkpoint ends
 module _ {p : Problem} {budget n : ℕ} (given : List ℕ) where
   arrived : {looks : ℕ} {path : List Branch} {bs : List ℕ} → looks ≡ n → path ≡ path-of looks given → bs ≡ branches-of (path-of n given)
-      → S.Forking (look p) path → On p budget (path-of n given) (looks - n) path bs
+      → S.Forking (look p) path → PastPath p budget (path-of n given) (looks - n) path bs
   arrived {looks} {path} e f b forks =
       let g : path ≡ path-of n given = rw e at f in
       let z : looks - n ≡ 0 = omega arith in
       record { start-forks = rw g at forks; rest = rw (z, g) (rest-start (look p) budget (S.open-at (path-of n given))); held = rw g b }
 
 module _ {p : Problem} {budget : ℕ} {given : List ℕ} {n : ℕ} where
-  pub way-root : {bs : List ℕ} → bs ≡ branches-of (path-of n given) → Way p budget given n 0 [] bs
-  way-root b = record { early = λ h. (refl, b); late = λ h. arrived given (omega arith) refl b tt }
+  pub progress-root : {bs : List ℕ} → bs ≡ branches-of (path-of n given) → Progress p budget given n 0 [] bs
+  progress-root b = record { early = λ h. (refl, b); late = λ h. arrived given (omega arith) refl b tt }
 
-  module _ {looks : ℕ} {path : List Branch} {bs : List ℕ} (ω : Way p budget given n looks path bs) where
-    pub way-small : (i : ℕ) → getD bs i 0 < 2
-    way-small i = elim (decLt looks n) [
+  module _ {looks : ℕ} {path : List Branch} {bs : List ℕ} (ω : Progress p budget given n looks path bs) where
+    pub progress-small : (i : ℕ) → getD bs i 0 < 2
+    progress-small i = elim (decLt looks n) [
       | yes h ↦ rw (ω .early h .1) (branches-small (path-of n given) i)
       | no h ↦ rw (ω .late (omega arith) .held) (branches-small path i)
     ]
@@ -55,7 +54,7 @@ module _ {p : Problem} {budget : ℕ} {given : List ℕ} {n : ℕ} where
         let s : looks + 1 - n ≡ looks - n + 1 = omega arith in
         rw s (rest-next (look p) budget (S.open-at (path-of n given)) (ω .late h .rest) (omega arith) e)
 
-    -- one branch more, as it stands in the array
+    -- one branch more, as the array has it
     module _ (fork : look p path ≡ S.fork) (forks : S.Forking (look p) path) (short : n ≤ 270) (d : looks < n + budget)
         {depth : ℕ} (deep : depth ≡ length path) where
       given-next : looks < n → branch-of (getD bs depth 0) ∷ path ≡ path-of (looks + 1) given
@@ -64,8 +63,8 @@ module _ {p : Problem} {budget : ℕ} {given : List ℕ} {n : ℕ} where
           let e : depth ≡ looks = deep ∙ ap length f ∙ path-length looks given in
           rw (f, b, e, again-at n given short looks h, branch-back, path-next)
 
-      pub way-fork : Way p budget given n (looks + 1) (branch-of (getD bs depth 0) ∷ path) bs
-      way-fork = record {
+      pub progress-fork : Progress p budget given n (looks + 1) (branch-of (getD bs depth 0) ∷ path) bs
+      progress-fork = record {
         early = λ h. (given-next (omega arith), ω .early (omega arith) .1);
         late = λ h. elim (decLt looks n) [
           | yes l ↦ arrived given (omega arith) (given-next l) (ω .early l .1) (fork, forks)
@@ -77,21 +76,21 @@ module _ {p : Problem} {budget : ℕ} {given : List ℕ} {n : ℕ} where
       }
 
     -- the last first branch becomes second
-    pub way-back : n ≤ looks → looks < n + budget → look p path ≡ S.conflict → (τ : Turn p path) → {cs : List ℕ} {left : ℕ}
-        → PathIn (second ∷ τ .to) cs left → Way p budget given n (looks + 1) (second ∷ τ .to) cs
-    way-back h l e τ δ = record {
+    pub progress-back : n ≤ looks → looks < n + budget → look p path ≡ S.conflict → (τ : BackTo p path) → {cs : List ℕ} {left : ℕ}
+        → PathIn (second ∷ τ .to) cs left → Progress p budget given n (looks + 1) (second ∷ τ .to) cs
+    progress-back h l e τ δ = record {
       early = λ d. absurd (omega arith);
-      late = λ _. record { start-forks = ω .late h .start-forks; rest = rw (τ .back) at (steps-on h l e); held = δ .values };
+      late = λ _. record { start-forks = ω .late h .start-forks; rest = rw (τ .back) at (steps-on h l e); held = δ .entries };
     }
 
 -- What the call on a checkpoint comes to
 module _ (c : Checkpoint) {p : Problem} {budget looks : ℕ} {path : List Branch} {bs : List ℕ}
-    (ω : Way p budget (c .branches) (c .length) looks path bs) where
-  abbrev Result : SearchResult → Type 0
-  Result r = r ≡ followed p budget c (S.open-at (path-of (c .length) (c .branches)))
-
+    (ω : Progress p budget (c .branches) (c .length) looks path bs) where
   abbrev κ : S.Checkpoint
-  κ = S.open-at (path-of (c .length) (c .branches))
+  κ = S.open-at (value-path c)
+
+  abbrev Result : SearchResult → Type 0
+  Result r = r ≡ followed p budget c κ
 
   -- a beginning that is no branching point
   pub not-following : looks < c .length → S.is-fork (look p path) ≡ false → Result (result-refused NotFollowing c)
@@ -99,10 +98,10 @@ module _ (c : Checkpoint) {p : Problem} {budget looks : ℕ} {path : List Branch
 
   module _ (h : c .length ≤ looks) where
     follows : S.follows (look p) κ ≡ true
-    follows = forking-so (look p) (path-of (c .length) (c .branches)) .1 (ω .late h .start-forks)
+    follows = forking-so (look p) (value-path c) .1 (ω .late h .start-forks)
 
     held : {depth : ℕ} → depth ≡ length path → PathIn path bs depth
-    held d = record { many = d; values = ω .late h .held }
+    held d = record { many = d; entries = ω .late h .held }
 
     -- "if none is left, the note is none with an empty row"
     pub result-infeasible : looks < c .length + budget → look p path ≡ S.conflict → S.backtrack path ≡ S.infeasible

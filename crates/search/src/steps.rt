@@ -8,7 +8,7 @@ ghost use Rattle.model.specs.Run as R;
 ghost use Rattle.model.specs.Search as S;
 ghost use Rattle.instance.specs.Valid.{valid};
 ghost use Rattle.instance.specs.Meaning.{problem-of};
-ghost use Rattle.tree_paths.specs.Checkpoints.{Bits, path-of};
+ghost use Rattle.tree_paths.specs.Checkpoints.{Bits, value-path};
 ghost use Rattle.search.specs.Results.{followed};
 ghost use Rattle.nodes.specs.Nodes.{slot-of, slot-coded};
 use crate::answer::Answer;
@@ -45,7 +45,7 @@ fn place_of(number: u16) -> Place
 
 // The call where the opening domains are inconsistent.
 fn dead_end(checkpoint: Checkpoint, budget: u32) -> SearchResult
-    ensures { λ r. ⌜ ((p : Problem) → R.look p [] ≡ S.conflict → r ≡ followed p budget checkpoint (S.open-at (path-of (checkpoint .length) (checkpoint .branches)))) ⌝ }
+    ensures { λ r. ⌜ ((p : Problem) → R.look p [] ≡ S.conflict → r ≡ followed p budget checkpoint (S.open-at (value-path checkpoint))) ⌝ }
 {
     if checkpoint.length != 0 {
         return results::refused(Refusal::NotFollowing, checkpoint);
@@ -62,7 +62,7 @@ fn dead_end(checkpoint: Checkpoint, budget: u32) -> SearchResult
 pub fn run(instance: Instance, checkpoint: Checkpoint, budget: u32) -> SearchResult
     requires { ⌜ valid instance ≡ true ⌝ }
     requires { ⌜ Bits (checkpoint .length) (checkpoint .branches) ⌝ }
-    ensures { λ r. ⌜ r ≡ followed (problem-of instance) budget checkpoint (S.open-at (path-of (checkpoint .length) (checkpoint .branches))) ⌝ }
+    ensures { λ r. ⌜ r ≡ followed (problem-of instance) budget checkpoint (S.open-at (value-path checkpoint)) ⌝ }
 {
     let root = opening::root_of(instance);
     if !root.consistent {
@@ -137,7 +137,7 @@ pub fn run(instance: Instance, checkpoint: Checkpoint, budget: u32) -> SearchRes
 pub fn repeat(instance: Instance, checkpoint: Checkpoint) -> SearchResult
     requires { ⌜ valid instance ≡ true ⌝ }
     requires { ⌜ Bits (checkpoint .length) (checkpoint .branches) ⌝ }
-    ensures { λ r. ⌜ ((budget : ℕ) → r ≡ followed (problem-of instance) budget checkpoint (S.packed-at (path-of (checkpoint .length) (checkpoint .branches)))) ⌝ }
+    ensures { λ r. ⌜ ((budget : ℕ) → r ≡ followed (problem-of instance) budget checkpoint (S.packed-at (value-path checkpoint))) ⌝ }
 {
     let again = run(instance, checkpoint, 1);
     let answer = again.answer;

@@ -1,17 +1,17 @@
 -- Laws of a path's branches in an array, and of checkpoints as values.
 use Rattle.prelude.specs.Names.{true, false, List, [], _∷_, _≡_, refl, sym, ap, _∙_, subst, ℕ, zero, suc, _+_, _-_, _≤_, _<_, ℕ-discrete, decLt}
-use Rattle.prelude.specs.Names.{add-one, arith, leb, length, getD, set, replicate, length-set, length-replicate, ext-getD, getD-set-same}
+use Rattle.prelude.specs.Names.{add-one, arith, leb, length, getD, set, length-set, length-replicate, ext-getD, getD-set-same}
 use Rattle.prelude.specs.Names.{getD-set-other, set-getD, eqb-true, le-leb, lt-ltb, le-ltb, leb-true, ltb-true}
 use lib.Seq.{set-set}
 use Rattle.model.proofs.Below.{and-intro, and-both, all-at, all-of}
 use Rattle.model.specs.Below.{all-below}
 use Rattle.model.specs.Branching.{Branch, first, second}
+use Rattle.nodes.proofs.Loops.{blank-at}
 use Rattle.instance.specs.declared.Checkpoint.{Checkpoint}
 use Rattle.instance.specs.declared.Status.{Status}
 use Rattle.instance.specs.declared.Status.the-variants.{Open, Infeasible, Packed}
-use Rattle.tree_paths.specs.Checkpoints.{branch-of, branch-number, path-of, with-status, checkpoint-of, length-allowed, all-branches, well-formed}
-use Rattle.tree_paths.specs.Checkpoints.{Bits, branches-of, value-of}
-use Rattle.tree_paths.specs.Standing.{PathIn, Backed, some-left, none-left}
+use Rattle.tree_paths.specs.Checkpoints.{branch-of, branch-number, path-of, value-path, with-status, checkpoint-of, length-allowed}
+use Rattle.tree_paths.specs.Checkpoints.{all-branches, well-formed, Bits, branches-of, value-of, PathIn, Backed, some-left, none-left}
 use Rattle.model.specs.Search as S
 
 -- a branch and its number
@@ -44,15 +44,10 @@ unfolding branches-of
 branches-length [] = length-replicate {A = ℕ} 270 0
 branches-length (b ∷ path) = length-set (branches-of path) (length path) (branch-number b) ∙ branches-length path
 
-blank : (n i : ℕ) → getD (replicate n zero) i 0 ≡ 0
-blank zero i = refl
-blank (suc n) zero = refl
-blank (suc n) (suc i) = blank n i
-
 -- "0 past the length"
 pub branches-past : (path : List Branch) (i : ℕ) → length path ≤ i → getD (branches-of path) i 0 ≡ 0
 unfolding branches-of
-branches-past [] i h = blank 270 i
+branches-past [] i h = blank-at {A = ℕ} 0 270 i
 branches-past (b ∷ path) i h =
     let d : i ≡ length path → ⊥ = λ e. omega arith in
     getD-set-other (branches-of path) (length path) i (branch-number b) 0 d ∙ branches-past path i (omega arith)
@@ -62,8 +57,10 @@ pub path-back : (path : List Branch) → length path ≤ 270 → path-of (length
 unfolding branches-of
 path-back [] h = refl
 path-back (b ∷ path) h =
-    let l : length path < length (branches-of path) = omega (arith, branches-length path) in
-    rw (getD-set-same (branches-of path) (length path) (branch-number b) 0 l, branch-back, path-set (length path) (branches-of path) (length path) (branch-number b) (omega arith), path-back path (omega arith))
+    let n = length path in
+    let bs = branches-of path in
+    let l : n < length bs = omega (arith, branches-length path) in
+    rw (getD-set-same bs n (branch-number b) 0 l, branch-back, path-set n bs n (branch-number b) (omega arith), path-back path (omega arith))
 
 set-small : (l : List ℕ) (i j v : ℕ) → v < 2 → getD l j 0 < 2 → getD (set l i v) j 0 < 2
 set-small [] i j v small h = h
@@ -74,7 +71,7 @@ set-small (x ∷ l) (suc i) (suc j) v small h = set-small l i j v small h
 
 pub branches-small : (path : List Branch) (i : ℕ) → getD (branches-of path) i 0 < 2
 unfolding branches-of
-branches-small [] i = omega (arith, blank 270 i)
+branches-small [] i = omega (arith, blank-at {A = ℕ} 0 270 i)
 branches-small (b ∷ path) i = set-small (branches-of path) (length path) i (branch-number b) (number-small b) (branches-small path i)
 
 -- no branch is written for a first one
@@ -113,9 +110,9 @@ value-well-formed S.infeasible h = and-intro refl (and-intro refl (branches-bits
 value-well-formed (S.packed-at path) h = and-intro (le-leb _ _ h) (and-intro refl (branches-bits path (length path)))
 
 -- a checkpoint by its status
-pub checkpoint-as : (c : Checkpoint) {s : Status} → c .status ≡ s → checkpoint-of c ≡ with-status s (path-of (c .length) (c .branches))
+pub checkpoint-as : (c : Checkpoint) {s : Status} → c .status ≡ s → checkpoint-of c ≡ with-status s (value-path c)
 unfolding checkpoint-of
-checkpoint-as c e = ap (λ (s : Status). with-status s (path-of (c .length) (c .branches))) e
+checkpoint-as c e = ap (λ (s : Status). with-status s (value-path c)) e
 
 -- what a well-formed value says of its length and its branches
 pub well-formed-bits : (c : Checkpoint) → well-formed c ≡ true → Bits (c .length) (c .branches)
@@ -162,53 +159,53 @@ module _ (n : ℕ) (bs : List ℕ) (long : length bs ≡ 270) (β : Bits n bs) (
 
 -- The array of a path within a call
 
-pub holds-root : PathIn [] (branches-of []) 0
-holds-root = record { many = refl; values = refl }
+pub path-in-root : PathIn [] (branches-of []) 0
+path-in-root = record { many = refl; entries = refl }
 
-pub holds-next : {path : List Branch} {bs : List ℕ} {n : ℕ} (b : Branch) → PathIn path bs n → PathIn (b ∷ path) (set bs n (branch-number b)) (n + 1)
+pub path-in-next : {path : List Branch} {bs : List ℕ} {n : ℕ} (b : Branch) → PathIn path bs n → PathIn (b ∷ path) (set bs n (branch-number b)) (n + 1)
 unfolding branches-of
-holds-next b h = record { many = omega (arith, h .many); values = rw (h .many, h .values) }
+path-in-next b h = record { many = omega (arith, h .many); entries = rw (h .many, h .entries) }
 
 -- one branch more of an array that is read from its start
 pub path-next : (n : ℕ) (bs : List ℕ) → path-of (n + 1) bs ≡ branch-of (getD bs n 0) ∷ path-of n bs
 path-next n bs = rw add-one
 
--- the last branch of a path: a first one is turned, a second one dropped
+-- the last branch of a path: a first one becomes second, a second one is dropped
 module _ {path : List Branch} {bs : List ℕ} {n : ℕ} where
   last-number : {b : Branch} → PathIn (b ∷ path) bs n → n ≤ 270 → getD bs (n - 1) 0 ≡ branch-number b
   unfolding branches-of
   last-number {b} h l =
       let e : n - 1 ≡ length path = omega (arith, h .many) in
-      rw (e, h .values) (getD-set-same (branches-of path) (length path) (branch-number b) 0 (omega (arith, h .many, branches-length path)))
+      rw (e, h .entries) (getD-set-same (branches-of path) (length path) (branch-number b) 0 (omega (arith, h .many, branches-length path)))
 
-  turned : PathIn (first ∷ path) bs n → PathIn (second ∷ path) (set bs (n - 1) 1) n
+  made-second : PathIn (first ∷ path) bs n → PathIn (second ∷ path) (set bs (n - 1) 1) n
   unfolding branches-of
-  turned h =
+  made-second h =
       let e : n - 1 ≡ length path = omega (arith, h .many) in
-      record { many = h .many; values = rw (e, h .values, set-set) }
+      record { many = h .many; entries = rw (e, h .entries, set-set) }
 
-  dropped : PathIn (second ∷ path) bs n → PathIn path (set bs (n - 1) 0) (n - 1)
+  second-dropped : PathIn (second ∷ path) bs n → PathIn path (set bs (n - 1) 0) (n - 1)
   unfolding branches-of
-  dropped h =
+  second-dropped h =
       let e : n - 1 ≡ length path = omega (arith, h .many) in
-      record { many = e; values = rw (e, h .values, set-set) (first-held path) }
+      record { many = e; entries = rw (e, h .entries, set-set) (first-held path) }
 
 module _ {bs : List ℕ} {n : ℕ} where
-  -- a last branch 0 is turned; any other is dropped; none is left to turn
-  pub back-turned : (path : List Branch) → PathIn path bs n → 0 < n → n ≤ 270 → getD bs (n - 1) 0 ≡ 0 → Backed (S.backtrack path) (set bs (n - 1) 1) n
-  back-turned [] h g l e = absurd (omega (arith, h .many))
-  back-turned (first ∷ path) h g l e = some-left (turned h)
-  back-turned (second ∷ path) h g l e = absurd (omega (arith, last-number h l))
+  -- a last branch 0 becomes 1; any other is dropped; or none is left
+  pub back-at-first : (path : List Branch) → PathIn path bs n → 0 < n → n ≤ 270 → getD bs (n - 1) 0 ≡ 0 → Backed (S.backtrack path) (set bs (n - 1) 1) n
+  back-at-first [] h g l e = absurd (omega (arith, h .many))
+  back-at-first (first ∷ path) h g l e = some-left (made-second h)
+  back-at-first (second ∷ path) h g l e = absurd (omega (arith, last-number h l))
 
-  pub back-dropped : (path : List Branch) → PathIn path bs n → 0 < n → n ≤ 270 → (getD bs (n - 1) 0 ≡ 0 → ⊥)
+  pub back-at-second : (path : List Branch) → PathIn path bs n → 0 < n → n ≤ 270 → (getD bs (n - 1) 0 ≡ 0 → ⊥)
       → (rest : List Branch) × PathIn rest (set bs (n - 1) 0) (n - 1) × (S.backtrack path ≡ S.backtrack rest)
-  back-dropped [] h g l f = absurd (omega (arith, h .many))
-  back-dropped (first ∷ path) h g l f = absurd (f (last-number h l))
-  back-dropped (second ∷ path) h g l f = (path, dropped h, refl)
+  back-at-second [] h g l f = absurd (omega (arith, h .many))
+  back-at-second (first ∷ path) h g l f = absurd (f (last-number h l))
+  back-at-second (second ∷ path) h g l f = (path, second-dropped h, refl)
 
-  pub back-none : (path : List Branch) → PathIn path bs n → n ≡ 0 → Backed (S.backtrack path) bs 0
-  back-none [] h e = none-left
-  back-none (b ∷ path) h e = absurd (omega (arith, h .many))
+  pub back-at-root : (path : List Branch) → PathIn path bs n → n ≡ 0 → Backed (S.backtrack path) bs 0
+  back-at-root [] h e = none-left
+  back-at-root (b ∷ path) h e = absurd (omega (arith, h .many))
 
 -- the test of one branch more
 module _ {i j : ℕ} (bs : List ℕ) (next : i ≡ suc j) where

@@ -1,3 +1,3 @@
 pub mod Checkpoints
 pub mod Seeing
-pub mod Standing
+pub mod SearchState

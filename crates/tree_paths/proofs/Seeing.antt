@@ -12,8 +12,9 @@ use Rattle.model.specs.Wide.{wide}
 use Rattle.nodes.specs.Choice.{Chosen}
 use Rattle.propagation.specs.Propagated.{Propagated}
 use Rattle.nodes.specs.Nodes.{At, Seen}
-use Rattle.tree_paths.specs.Standing.{Looked}
-use Rattle.domains.specs.declared.Place.{Place}
+use Rattle.tree_paths.specs.Looks.{Looked}
+use Rattle.nodes.specs.declared.branching.Branching.{Branching}
+use Rattle.tree_paths.specs.declared.outlook.Outlook.{Outlook}
 use Rattle.tree_paths.specs.declared.outlook.Outlook.the-variants.{Complete, Fork}
 use Rattle.model.specs.Search as S
 use Rattle.nodes.specs.declared.branching.Branching.the-variants as B
@@ -31,15 +32,18 @@ module _ (p : Problem) (limited : p .items ≤ 10) (path : List Branch) {k : Dom
       let e = φ .is ∙ wide-propagates p limited k (at .ready .good .laid .well-formed) (at .untouched) (at .leads .verdict ∙ c) ∙ at .leads .same c in
       record { is = e; rested = φ .rested; consistent = rw e c }
 
+-- the outlook by where the domains branch
+abbrev pub outlook-of : Branching → Outlook
+outlook-of B.Packed = Complete
+outlook-of (B.At c) = Fork c
+
 module _ (p : Problem) (path : List Branch) {j : Domains} {rows t : List ℕ} (s : Seen p j rows t path) {n : ℕ} (count : p .items ≡ n) where
   consistent : inconsistent p (path-domains p path) ≡ false
   consistent = rw (s .is) at (s .consistent)
 
-  pub looked-complete : Chosen j n B.Packed → Looked p path j rows t Complete
-  looked-complete χ = (look-by p path consistent (rw (s .is) at (χ p count)), s)
-
-  pub looked-fork : {c : Place} → Chosen j n (B.At c) → Looked p path j rows t (Fork c)
-  looked-fork χ = (look-by p path consistent (rw (s .is) at (χ .2 p count)), s, rw (s .is) at (χ .0))
+  pub looked-chosen : (b : Branching) → Chosen j n b → Looked p path j rows t (outlook-of b)
+  looked-chosen B.Packed χ = (look-by p path consistent (rw (s .is) at (χ p count)), s)
+  looked-chosen (B.At c) χ = (look-by p path consistent (rw (s .is) at (χ .2 p count)), s, rw (s .is) at (χ .0))
 
   pub seen-passed : {from : ℕ} → Passed (path-domains p path) from → Passed j from
   seen-passed {from} h = subst (λ (k : Domains). Passed k from) (sym (s .is)) h

@@ -25,6 +25,9 @@ abbrev pub path-of : ℕ → List ℕ → List Branch
 path-of zero bs = []
 path-of (suc n) bs = branch-of (getD bs n 0) ∷ path-of n bs
 
+abbrev pub value-path : Checkpoint → List Branch
+value-path c = path-of (c .length) (c .branches)
+
 abbrev pub with-status : Status → List Branch → S.Checkpoint
 with-status Open path = S.open-at path
 with-status Infeasible path = S.infeasible
@@ -32,7 +35,7 @@ with-status Packed path = S.packed-at path
 
 -- "A note is open, none or placed, with a row of turns"; entries past the length are no part of it
 unfoldable pub checkpoint-of : Checkpoint → S.Checkpoint
-checkpoint-of c = with-status (c .status) (path-of (c .length) (c .branches))
+checkpoint-of c = with-status (c .status) (value-path c)
 
 -- "a none note's row is empty"
 abbrev pub length-allowed : Status → ℕ → Bool
@@ -72,3 +75,13 @@ unfoldable pub value-of : S.Checkpoint → Checkpoint
 value-of (S.open-at path) = record { status = Open; length = length path; branches = branches-of path }
 value-of S.infeasible = record { status = Infeasible; length = 0; branches = branches-of [] }
 value-of (S.packed-at path) = record { status = Packed; length = length path; branches = branches-of path }
+
+-- the branches of a path in an array, and how many they are
+pub record PathIn (path : List Branch) (bs : List ℕ) (n : ℕ) : Type 0 where
+  pub many : n ≡ length path
+  pub entries : bs ≡ branches-of path
+
+-- what the step back comes to: branches in the array, or none left
+pub data Backed : S.Checkpoint → List ℕ → ℕ → Type 0 where
+  some-left : {path : List Branch} {bs : List ℕ} {n : ℕ} → PathIn path bs n → Backed (S.open-at path) bs n
+  none-left : {bs : List ℕ} → Backed S.infeasible bs 0

@@ -1,3 +1,3 @@
--- Checkpoints and the paths in them, and how snapshots stand beside a path.
+-- Checkpoints and the paths in them, and what a look at a path shows.
 pub mod Checkpoints
-pub mod Standing
+pub mod Looks

@@ -6,7 +6,7 @@ ghost use Rattle.model.specs.Problem.{Problem};
 ghost use Rattle.domains.specs.Queue.{Long};
 ghost use Rattle.chains.specs.Totals.{SameMeasures};
 ghost use Rattle.propagation.specs.Propagated.{Ready};
-ghost use Rattle.tree_paths.specs.Standing.{Lookable, Looked};
+ghost use Rattle.tree_paths.specs.Looks.{Lookable, Looked};
 use chains::totals::TOTALS;
 use domains::DOMAINS;
 use domains::Place;
@@ -33,7 +33,9 @@ pub fn look(
 ) -> Outlook
     requires { ⌜ (n ≤ 10) × ((p : Problem) × Ready p (now k) (now rows) (now queue) (now t)) ⌝ }
     ensures { λ _. ⌜ Long (now (k .exit)) (now (rows .exit)) (now (queue .exit)) × SameMeasures (now (t .entry)) (now (t .exit)) ⌝ }
-    ensures { λ r. ⌜ ((p : Problem) (path : List Branch) → Lookable p n (now (k .entry)) (now (rows .entry)) (now (queue .entry)) (now (t .entry)) path from → Looked p path (now (k .exit)) (now (rows .exit)) (now (t .exit)) r) ⌝ }
+    ensures { λ r. ⌜ ((p : Problem) (path : List Branch)
+        → Lookable p n (now (k .entry)) (now (rows .entry)) (now (queue .entry)) (now (t .entry)) path from
+        → Looked p path (now (k .exit)) (now (rows .exit)) (now (t .exit)) r) ⌝ }
 {
     if !propagate(k, rows, queue, t) {
         return Outlook::Conflict;

@@ -6,8 +6,7 @@ ghost use Prim.Native.Nat.{_≤_};
 ghost use lib.ListN as L;
 ghost use Rattle.model.specs.Branching.{Branch};
 ghost use Rattle.model.specs.Search as S;
-ghost use Rattle.tree_paths.specs.Checkpoints.{well-formed, all-branches, length-allowed, Bits, branches-of, path-of};
-ghost use Rattle.tree_paths.specs.Standing.{PathIn, Backed};
+ghost use Rattle.tree_paths.specs.Checkpoints.{well-formed, all-branches, length-allowed, Bits, branches-of, path-of, PathIn, Backed};
 use instance::Checkpoint;
 use instance::Instance;
 use instance::Status;
@@ -71,7 +70,7 @@ pub fn path_branches(
     branches
 }
 
-// Drops the trailing second branches and turns the last first one: how many are left.
+// Drops the trailing second branches and makes the last first one second: how many are left.
 pub fn back(branches: &mut [u8; Instance::MAX_BRANCHES], length: usize) -> usize
     requires { ⌜ (L.length (now branches) ≡ max-branches) × (length ≤ max-branches) ⌝ }
     ensures { λ r. ⌜ ((path : List Branch) → PathIn path (now (branches .entry)) length → Backed (S.backtrack path) (now (branches .exit)) r) ⌝ }

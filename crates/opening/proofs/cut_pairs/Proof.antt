@@ -1,4 +1,5 @@
--- `opening::cut_pairs` meets its contract. The first `i` places of axis and item are dealt with; those left are ever fewer.
+-- `opening::cut_pairs` meets its contract. Invariant: of the first i places of axis and item all pairs too long are cut,
+-- and nothing past the items. Measure: the places left.
 use Rattle.prelude.specs.Names.{refl, _-_, _≤_, arith, not-true, not-false}
 use Rattle.domains.specs.Narrowed.{Narrowed}
 use Rattle.opening.specs.Openings.{PairsAsked, Outside}
@@ -17,7 +18,7 @@ returns c =
     let f = c .before .remove in
     let (long, none) = rw (not-true (f .result) (c .if1 .taken)) at (f .ensures) in
     let g = c .before .before .too-long .ensures in
-    ((long, pairs-refuted _ _ _ _ (omega arith) (omega arith) g (b .loop .i) (omega arith) (b .loop .inv .1) (b .before .pre .0 .least) none), tt)
+    (long, pairs-refuted _ _ _ _ (omega arith) (omega arith) g (b .loop .i) (omega arith) (b .loop .inv .1) (b .before .pre .0 .least) none)
 
 loop-again : tie.Need-loop-again Inv-loop μ-loop
 loop-again c =

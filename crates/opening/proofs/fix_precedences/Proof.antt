@@ -1,5 +1,5 @@
--- `opening::fix_precedences` meets its contract. The loop's invariant: i precedences are fixed, and fixing the rest comes to fixing all.
--- The measure is what is left.
+-- `opening::fix_precedences` meets its contract. Invariant: the first i precedences are fixed, and fixing the rest comes to fixing all.
+-- Measure: the precedences left.
 use Rattle.prelude.specs.Names.{needs, not-true, not-false, arith, _≡_, _-_, length}
 use Rattle.opening.proofs.Openings.{Fixing, fixing-none, next-proper, fixable, fixing-next, fixing-fails, fixing-done}
 use Rattle.opening.proofs.fix_precedences.Tie as tie

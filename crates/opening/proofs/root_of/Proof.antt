@@ -7,7 +7,7 @@ use Rattle.instance.proofs.Arrays.{length-mapped}
 use Rattle.instance.specs.Meaning.{problem-of}
 use Rattle.opening.specs.Layout.{LargeIf}
 use Rattle.domains.specs.Narrowed.{Grown}
-use Rattle.opening.proofs.Sound.{valid-sound, valid-parts, stands-wide}
+use Rattle.opening.proofs.Sound.{valid-sound, valid-parts, allowed-wide}
 use Rattle.opening.proofs.Roots.{no-queue, full-good, large-conflict, unfixed-conflict, uncut-conflict, root-tabled, rooted}
 use Rattle.opening.proofs.root_of.Tie as tie
 
@@ -43,22 +43,25 @@ opened c =
 
 cut-pairs-requires : tie.Need-cut-pairs-requires
 cut-pairs-requires c κs =
-    let o = opened (c .before .before .before .before) in
-    let b = c .before .before .before .before .before in
+    let e = c .before .before .before .before in
+    let o = opened e in
+    let b = e .before in
     (o .2 .good, root-tabled (sound (totals b .before .before)) (totals b .totals-of .ensures) (o .0))
 
 returns-3 : tie.Need-returns-3
 returns-3 c =
-    let b = c .before .before .before .before .before .before .before .before in
-    let o = opened (c .before .before .before .before .before .before .before) in
+    let e = c .before .before .before .before .before .before .before in
+    let o = opened e in
+    let b = e .before in
     let f = c .before .before .cut-pairs in
     let x = rw (not-true (f .result) (c .before .if3 .taken)) at (f .ensures) in
-    rw (c .no-root3 .ensures) (uncut-conflict (sound (totals b .before .before)) (totals b .totals-of .ensures) (o .0) (o .1) (x .0 .1))
+    rw (c .no-root3 .ensures) (uncut-conflict (sound (totals b .before .before)) (totals b .totals-of .ensures) (o .0) (o .1) (x .1))
 
 returns-4 : tie.Need-returns-4
 returns-4 c =
-    let b = c .before .before .before .before .before .before .before in
-    let o = opened (c .before .before .before .before .before .before) in
+    let e = c .before .before .before .before .before .before in
+    let o = opened e in
+    let b = e .before in
     let f = c .before .cut-pairs in
     let x = rw (not-false (f .result) (c .if3 .left)) at (f .ensures) in
     rooted (sound (totals b .before .before)) (totals b .totals-of .ensures) (o .0) (o .1) (o .2) (x .0) (x .1)
@@ -66,5 +69,5 @@ returns-4 c =
 pub root-of-spec : {M : Type 1} → Rattle.opening.proofs.root_of.Statement.statement M
 root-of-spec = tie.close (tie.spec (λ c κs. valid-parts (c .before .args .instance) (c .before .pre) .0) (λ c κs. search needs)
     (λ c κs. search needs) returns (λ c. search needs) (λ c κs. let b = c .before .before .before .before .before .before .before .before in
-    let (limited, many, sizes, stand) = valid-parts (b .args .instance) (b .pre) in (full-good, many, stands-wide _ limited _ _ stand))
+    let (limited, many, sizes, allowed) = valid-parts (b .args .instance) (b .pre) in (full-good, many, allowed-wide _ limited _ _ allowed))
     (λ c κs. search needs) returns-2 cut-pairs-requires (λ c κs. search needs) returns-3 returns-4)

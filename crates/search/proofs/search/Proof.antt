@@ -1,16 +1,15 @@
 -- `search::search` meets its contract.
-use Rattle.prelude.specs.Names.{true, _≡_, refl, sym, _∙_, needs, not-true, not-false}
+use Rattle.prelude.specs.Names.{true, _≡_, sym, _∙_, needs, not-true, not-false}
 use Rattle.instance.proofs.Arrays.{length-mapped}
 use Rattle.instance.specs.Meaning.{problem-of}
 use Rattle.instance.specs.Reads.{Full}
 use Rattle.instance.specs.Valid.{valid}
 use Rattle.instance.specs.declared.Status.{Status}
-use Rattle.tree_paths.specs.Checkpoints.{path-of, with-status, well-formed, following, Bits}
-use Rattle.search.specs.Results.{followed, infeasible-after, search-result}
+use Rattle.tree_paths.specs.Checkpoints.{value-path, with-status, well-formed, following, Bits}
+use Rattle.search.specs.Results.{followed, search-result}
 use Rattle.search.specs.declared.answer.SearchResult.{SearchResult}
 use Rattle.tree_paths.proofs.Checkpoints.{well-formed-bits}
-use Rattle.search.proofs.Outcome.{comes-infeasible, comes-again, searched}
-use Rattle.model.specs.Search as S
+use Rattle.search.proofs.Outcome.{infeasible-again, searched}
 use Rattle.search.proofs.search.Tie as tie
 
 -- as every value of the type
@@ -31,18 +30,11 @@ bits c = (passed c .0, well-formed-bits (arguments c .args .checkpoint) (passed 
 
 -- by the status
 answered : (c : tie.Else2) {s : Status} → arguments c .args .checkpoint .status ≡ s → {r : SearchResult} → let a = arguments c .args in
-    r ≡ followed (problem-of (a .instance)) (a .budget) (a .checkpoint) (with-status s (path-of (a .checkpoint .length) (a .checkpoint .branches)))
+    r ≡ followed (problem-of (a .instance)) (a .budget) (a .checkpoint) (with-status s (value-path (a .checkpoint)))
     → (r ≡ search-result (a .instance) (a .checkpoint) (a .budget)) × Full (a .instance)
-answered c told h =
+answered c status-is h =
     let a = arguments c .args in
-    (searched (a .instance) (a .checkpoint) (a .budget) (passed c .0) (passed c .1) told h, full (arguments c))
-
-infeasible-again : (c : tie.Else2) → let a = arguments c .args in
-    infeasible-after 0 ≡ followed (problem-of (a .instance)) (a .budget) (a .checkpoint) S.infeasible
-infeasible-again c =
-    let a = arguments c .args in
-    comes-infeasible (problem-of (a .instance)) (a .budget) (a .checkpoint) S.infeasible refl
-    (comes-again (problem-of (a .instance)) (a .budget) (a .checkpoint) S.infeasible tt)
+    (searched (a .instance) (a .checkpoint) (a .budget) (passed c .0) (passed c .1) status-is h, full (arguments c))
 
 returns : tie.Need-returns
 unfolding search-result
@@ -53,14 +45,16 @@ returns c =
 returns-2 : tie.Need-returns-2
 unfolding search-result following
 returns-2 c =
-    let v = c .before .before .before .before .is-valid in
+    let b = c .before .before .before .before in
+    let v = b .is-valid in
     let w = c .before .before .is-well-formed in
     let valid = not-false (v .result) (c .before .before .before .if1 .left) in
-    (rw (← (v .ensures), valid, ← (w .ensures), not-true (w .result) (c .before .if2 .taken)) (c .refused2 .ensures), full (c .before .before .before .before .before))
+    (rw (← (v .ensures), valid, ← (w .ensures), not-true (w .result) (c .before .if2 .taken)) (c .refused2 .ensures), full (b .before))
 
 pub search-spec : {M : Type 1} → Rattle.search.proofs.search.Statement.statement M
 search-spec = tie.close (tie.spec (λ c κs. search needs) (λ c κs. search needs) returns (λ c κs. search needs) (λ c κs. search needs) returns-2
     (λ c. search needs) (λ c κs. bits (c .before .before)) (λ c. search needs) (λ c κs. search needs) (λ c. search needs)
     (λ c κs. bits (c .before .before)) (λ c. answered (c .before .before .before) (c .before .enum-told .given .1) (c .run .ensures))
-    (λ c. let e = c .before .before .before in answered e (c .before .enum-told2 .given .1) (c .infeasible .ensures ∙ infeasible-again e))
+    (λ c. let e = c .before .before .before in let a = arguments e .args in
+    answered e (c .before .enum-told2 .given .1) (c .infeasible .ensures ∙ infeasible-again (problem-of (a .instance)) (a .budget) (a .checkpoint)))
     (λ c. let e = c .before .before .before in answered e (c .before .enum-told3 .given .1) (c .repeat .ensures (arguments e .args .budget))))

@@ -3,10 +3,6 @@ use Rattle.prelude.specs.Names.{_≤_, _<_, arith, getD, lt-ltb, le-ltb, needs}
 use Rattle.buffers.specs.Checkpoints.{is-checkpoint}
 use Rattle.buffers.proofs.checkpoints.is_checkpoint.Tie as tie
 
-returns : tie.Need-returns
-unfolding is-checkpoint
-returns c = let h : 3 ≤ getD (c .before .before .before .args .note .now) 0 0 = omega arith in rw (le-ltb _ _ h)
-
 returns-2 : tie.Need-returns-2
 unfolding is-checkpoint
 returns-2 c =
@@ -14,5 +10,7 @@ returns-2 c =
     rw (c .zero-from .ensures, c .before .word-at .ensures, lt-ltb _ _ h)
 
 pub is-checkpoint-spec : {M : Type 1} → Rattle.buffers.proofs.checkpoints.is_checkpoint.Statement.statement M
-is-checkpoint-spec = tie.close (tie.spec (λ c. search needs) returns (λ c κs. search needs) (λ c. search needs) (λ c. search needs)
-    (λ c κs. search needs) returns-2)
+unfolding is-checkpoint
+is-checkpoint-spec = tie.close (tie.spec (λ c. search needs)
+    (λ c. let h : 3 ≤ getD (c .before .before .before .args .note .now) 0 0 = omega arith in rw (le-ltb _ _ h)) (λ c κs. search needs)
+    (λ c. search needs) (λ c. search needs) (λ c κs. search needs) returns-2)

@@ -1,4 +1,4 @@
--- `buffers::checkpoints::read_branches` meets its contract.
+-- `buffers::checkpoints::read_branches` meets its contract. Invariant: the first i branches are read. Measure: the branches left.
 use Rattle.prelude.specs.Names.{_≡_, refl, _∙_, _-_, _≤_, arith, length, take, drop, replicate, length-set, sets}
 use Rattle.buffers.proofs.CheckpointBytes.{branches-next, branches-read}
 use Rattle.buffers.proofs.checkpoints.read_branches.Tie as tie
@@ -8,9 +8,6 @@ Inv-loop note branches₀ i₀ branches i = (i ≤ 270) × (branches ≡ sets br
 
 abbrev μ-loop : tie.MeasureT-loop
 μ-loop note branches₀ i₀ branches i = 270 - i
-
-loop-holds : tie.Need-loop-holds Inv-loop μ-loop
-loop-holds c = (omega arith, refl, refl)
 
 loop-again : tie.Need-loop-again Inv-loop μ-loop
 loop-again c =
@@ -25,5 +22,5 @@ returns c =
     l .inv .1 ∙ rw e (branches-read (c .before .before .args .note .now) (replicate 270 0) (omega arith) refl)
 
 pub read-branches-spec : {M : Type 1} → Rattle.buffers.proofs.checkpoints.read_branches.Statement.statement M
-read-branches-spec = tie.close (tie.spec Inv-loop μ-loop loop-holds (λ c. omega arith) (λ c. omega arith) (λ c. omega arith) (λ c. omega arith)
-    (λ c. omega arith) loop-again returns)
+read-branches-spec = tie.close (tie.spec Inv-loop μ-loop (λ c. (omega arith, refl, refl)) (λ c. omega arith) (λ c. omega arith)
+    (λ c. omega arith) (λ c. omega arith) (λ c. omega arith) loop-again returns)

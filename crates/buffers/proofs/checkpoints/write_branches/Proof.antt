@@ -1,4 +1,4 @@
--- `buffers::checkpoints::write_branches` meets its contract.
+-- `buffers::checkpoints::write_branches` meets its contract. Invariant: the first i branches are written. Measure: the branches left.
 use Rattle.prelude.specs.Names.{_≡_, refl, _-_, _≤_, arith, length, take, length-set, sets, take-all, needs}
 use Rattle.formats.proofs.Stores.{sets-next}
 use Rattle.buffers.proofs.checkpoints.write_branches.Tie as tie
@@ -8,9 +8,6 @@ Inv-loop out₀ branches i₀ out i = (i ≤ 270) × (out ≡ sets out₀ 3 (tak
 
 abbrev μ-loop : tie.MeasureT-loop
 μ-loop out₀ branches i₀ out i = 270 - i
-
-loop-holds : tie.Need-loop-holds Inv-loop μ-loop
-loop-holds c = (omega arith, refl, refl)
 
 loop-again : tie.Need-loop-again Inv-loop μ-loop
 loop-again c =
@@ -28,5 +25,5 @@ returns c =
     rw (l .inv .1, e, take-all 270 (a .t2) (omega arith))
 
 pub write-branches-spec : {M : Type 1} → Rattle.buffers.proofs.checkpoints.write_branches.Statement.statement M
-write-branches-spec = tie.close (tie.spec Inv-loop μ-loop loop-holds (λ c. omega arith) (λ c. omega arith) (λ c. omega arith) (λ c. omega arith)
-    (λ c. omega arith) loop-again (λ c. c .before .loop .inv .2) returns)
+write-branches-spec = tie.close (tie.spec Inv-loop μ-loop (λ c. (omega arith, refl, refl)) (λ c. omega arith) (λ c. omega arith)
+    (λ c. omega arith) (λ c. omega arith) (λ c. omega arith) loop-again (λ c. c .before .loop .inv .2) returns)

@@ -1,4 +1,4 @@
--- `buffers::positions::write_packing` meets its contract.
+-- `buffers::positions::write_packing` meets its contract. Invariant: the first u positions are written. Measure: the items left.
 use Rattle.prelude.specs.Names.{_≡_, refl, _∙_, _-_, _≤_, arith, length, take, sets, needs}
 use Rattle.formats.specs.Formats.{row-bytes}
 use Rattle.formats.proofs.Stores.{row-none}
@@ -12,9 +12,6 @@ Inv-loop out₀ n positions u₀ out u = (u ≤ n) × (out ≡ sets out₀ 0 (ro
 
 abbrev μ-loop : tie.MeasureT-loop
 μ-loop out₀ n positions u₀ out u = n - u
-
-loop-holds : tie.Need-loop-holds Inv-loop μ-loop
-loop-holds c = (omega arith, rw (row-none position-bytes) refl, refl)
 
 loop-again : tie.Need-loop-again Inv-loop μ-loop
 loop-again c =
@@ -33,5 +30,6 @@ returns c =
     l .inv .1 ∙ rw e (packing-fills (a .n) (a .packing) (a .out .now) (omega arith) (omega arith))
 
 pub write-packing-spec : {M : Type 1} → Rattle.buffers.proofs.positions.write_packing.Statement.statement M
-write-packing-spec = tie.close (tie.spec Inv-loop μ-loop loop-holds (λ c. omega arith) (λ c. search needs) (λ c. omega arith) (λ c κs. omega arith)
+write-packing-spec = tie.close (tie.spec Inv-loop μ-loop
+    (λ c. (omega arith, rw (row-none position-bytes) refl, refl)) (λ c. omega arith) (λ c. search needs) (λ c. omega arith) (λ c κs. omega arith)
     (λ c. omega arith) (λ c. omega arith) loop-again (λ c. c .before .loop .inv .2) returns)

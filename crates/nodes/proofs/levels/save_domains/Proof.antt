@@ -1,4 +1,4 @@
--- `nodes::levels::save_domains` meets its contract. The loop's invariant: i elements are copied, and all else stays. The measure is what is left.
+-- `nodes::levels::save_domains` meets its contract. Invariant: the first i elements are copied, all else stays. Measure: the elements left.
 use Rattle.prelude.specs.Names.{arith, _*_, _-_}
 use Rattle.nodes.proofs.Snapshots.{Copying, copying-none, copying-next, stored}
 use Rattle.nodes.proofs.levels.save_domains.Tie as tie
@@ -11,6 +11,5 @@ abbrev μ-loop : tie.MeasureT-loop
 
 pub save-domains-spec : {M : Type 1} → Rattle.nodes.proofs.levels.save_domains.Statement.statement M
 save-domains-spec = tie.close (tie.spec Inv-loop μ-loop (λ c. copying-none) (λ c. omega arith) (λ c. omega arith) (λ c. omega arith)
-    (λ c. omega arith) (λ c. omega arith) (λ c. omega arith)
-    (λ c. copying-next (c .before .before .loop .inv) (c .before .loop-test .taken) (omega arith) (omega arith) (omega arith))
+    (λ c. omega arith) (λ c. omega arith) (λ c. omega arith) (λ c. copying-next (c .before .before .loop .inv) (omega arith))
     (λ c. stored (c .before .before .pre) (c .before .loop .inv) (c .loop-test .left)))

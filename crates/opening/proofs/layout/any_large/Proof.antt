@@ -1,4 +1,5 @@
--- `opening::layout::any_large` meets its contract. No item at a place below i is above the container's measure; the places left are ever fewer.
+-- `opening::layout::any_large` meets its contract. Invariant: no item at a place below i is above the container's measure.
+-- Measure: the places left.
 use Rattle.prelude.specs.Names.{_≡_, ℕ, _+_, _*_, _/_, _%_, _-_, _≤_, _<_, arith, getD}
 use Rattle.nodes.proofs.Loops.{below-more}
 use Rattle.opening.proofs.layout.any_large.Tie as tie

@@ -5,7 +5,7 @@ use mir.Val.{Fits}
 use Rattle.opening.specs.Layout.{LaidOut}
 use Rattle.instance.specs.Meaning.{measure-on}
 use Rattle.nodes.proofs.Loops.{by-axis}
-use Rattle.opening.proofs.Layouts.{first-items, held, laid-none, laid-next, laid-all}
+use Rattle.opening.proofs.Layouts.{first-items, no-items, laid-none, laid-next, laid-all}
 use Rattle.opening.proofs.layout.totals_of.Tie as tie
 
 abbrev Inv-loop : tie.InvT-loop
@@ -29,7 +29,7 @@ loop-again c =
     let l = c .before .before .before .before .loop in
     let (is, x, y, z) = c .put-item .ensures in
     let room : l .u < 10 = omega (arith, s .pre, c .before .before .before .loop-test .taken) in
-    (omega arith, rw is (laid-next (i .items) (held (i .container)) (l .t) (l .u) room (by-axis _ x y z) (l .inv .1)))
+    (omega arith, rw is (laid-next (i .items) (no-items (i .container)) (l .t) (l .u) room (by-axis _ x y z) (l .inv .1)))
 
 pub totals-of-spec : {M : Type 1} → Rattle.opening.proofs.layout.totals_of.Statement.statement M
 totals-of-spec = tie.close (tie.spec Inv-loop μ-loop (λ c. search needs) (λ c. search needs) (λ c. search needs) (λ c. search needs)

@@ -4,9 +4,6 @@ use Rattle.tree_paths.specs.Checkpoints.{value-of, branches-of}
 use Rattle.search.specs.Results.{infeasible-after}
 use Rattle.search.proofs.results.infeasible.Tie as tie
 
-returns : tie.Need-returns
-unfolding infeasible-after value-of branches-of
-returns c = rw (c .origin .ensures)
-
 pub infeasible-spec : {M : Type 1} → Rattle.search.proofs.results.infeasible.Statement.statement M
-infeasible-spec = tie.close (tie.spec (λ c κs. search needs) returns)
+unfolding infeasible-after value-of branches-of
+infeasible-spec = tie.close (tie.spec (λ c κs. search needs) (λ c. rw (c .origin .ensures)))

@@ -3,9 +3,6 @@ use Rattle.prelude.specs.Names.{refl}
 use Rattle.search.specs.Results.{packed-after}
 use Rattle.search.proofs.results.packed.Tie as tie
 
-returns : tie.Need-returns
-unfolding packed-after
-returns c = refl
-
 pub packed-spec : {M : Type 1} → Rattle.search.proofs.results.packed.Statement.statement M
-packed-spec = tie.close (tie.spec returns)
+unfolding packed-after
+packed-spec = tie.close (tie.spec (λ c. refl))

@@ -3,9 +3,6 @@ use Rattle.prelude.specs.Names.{needs}
 use Rattle.search.specs.Results.{result-refused}
 use Rattle.search.proofs.results.refused.Tie as tie
 
-returns : tie.Need-returns
-unfolding result-refused
-returns c = rw (c .origin .ensures)
-
 pub refused-spec : {M : Type 1} → Rattle.search.proofs.results.refused.Statement.statement M
-refused-spec = tie.close (tie.spec (λ c κs. search needs) returns)
+unfolding result-refused
+refused-spec = tie.close (tie.spec (λ c κs. search needs) (λ c. rw (c .origin .ensures)))

@@ -2,26 +2,26 @@
 use Rattle.prelude.specs.Names.{[], _≡_, refl, sym, ap, _∙_, ℕ, _+_, _-_, arith, needs}
 use Rattle.tree_paths.specs.Checkpoints.{branches-of}
 use Rattle.search.specs.Results.{infeasible-after, spent-after}
-use Rattle.search.proofs.Stepping.{way-root, not-following, result-infeasible, result-spent}
+use Rattle.search.proofs.Stepping.{progress-root, not-following, result-infeasible, result-spent}
 use Rattle.search.proofs.steps.dead_end.Tie as tie
 
 returns : tie.Need-returns
 returns c = λ p e.
-    c .refused .ensures ∙ not-following (c .before .before .before .args .checkpoint) (way-root refl) (omega (arith, c .before .if1 .taken)) (rw e)
+    c .refused .ensures ∙ not-following (c .before .before .before .args .checkpoint) (progress-root refl) (omega (arith, c .before .if1 .taken)) (rw e)
 
 returns-2 : tie.Need-returns-2
 unfolding branches-of
 returns-2 c = λ p e.
     let z = c .before .before .if1 .left in
     c .spent .ensures ∙ ap (λ (m : ℕ). spent-after m (branches-of []) 0) (sym (c .before .if2 .taken))
-    ∙ result-spent (c .before .before .before .before .args .checkpoint) (way-root (rw z)) (omega arith) (omega arith) refl
+    ∙ result-spent (c .before .before .before .before .args .checkpoint) (progress-root (rw z)) (omega arith) (omega arith) refl
 
 returns-3 : tie.Need-returns-3
 returns-3 c = λ p e.
     let k = c .before .before .before .before .args .checkpoint in
-    let one : 1 ≡ 0 + 1 - k .length = omega (arith, c .before .before .if1 .left) in
-    c .infeasible .ensures ∙ ap infeasible-after one
-    ∙ result-infeasible k (way-root refl) (omega (arith, c .before .before .if1 .left)) (omega (arith, c .before .if2 .left)) e refl
+    let count : 1 ≡ 0 + 1 - k .length = omega (arith, c .before .before .if1 .left) in
+    c .infeasible .ensures ∙ ap infeasible-after count
+    ∙ result-infeasible k (progress-root refl) (omega (arith, c .before .before .if1 .left)) (omega (arith, c .before .if2 .left)) e refl
 
 pub dead-end-spec : {M : Type 1} → Rattle.search.proofs.steps.dead_end.Statement.statement M
 dead-end-spec = tie.close (tie.spec (λ c κs. search needs) returns (λ c κs. search needs) returns-2 (λ c κs. search needs) returns-3)

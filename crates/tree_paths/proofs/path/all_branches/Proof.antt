@@ -1,4 +1,4 @@
--- `tree_paths::path::all_branches` meets its contract. The test of the first n is the test of the first i, for i from n down.
+-- `tree_paths::path::all_branches` meets its contract. Invariant: the test of the first n is the test of the first i. Measure: i, which falls from n.
 use Rattle.prelude.specs.Names.{_≡_, refl, sym, _∙_, _≤_, arith}
 use Rattle.tree_paths.specs.Checkpoints.{all-branches}
 use Rattle.tree_paths.proofs.Checkpoints.{branches-fail, branches-pass}
