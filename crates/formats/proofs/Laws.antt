@@ -3,8 +3,8 @@ use Rattle.prelude.specs.Names.{_≡_, refl, sym, ap, _∙_, subst, Bool, true,
 use Rattle.prelude.specs.Names.{append-nil, ℕ, zero, suc, _+_, _*_, _/_, _%_, _<_, arith, add-zero, zero-add, add-assoc, length, length-append}
 use Rattle.prelude.specs.Names.{getD-append-add, not-true}
 use Rattle.formats.specs.Reading.{Reading, done, due, end, _>>=_, got, run, Bytes}
-use Rattle.formats.specs.Formats.{Format, byte, word, pair, converted, Test, testing, passes-all, tested, keyed, row-bytes, row-reading, row-valid}
-use Rattle.formats.specs.Formats.{row, count, counted, whole}
+use Rattle.formats.specs.Formats.{Format, byte, word, pair, converted, Test, testing, passes-all, tested, keyed, row-bytes, row-reading}
+use Rattle.formats.specs.Formats.{row-valid, row, count, counted, whole}
 use Rattle.formats.proofs.Run.{after-same, run-then, never-both, cond-got, after-got, run-length}
 
 -- the bytes of a value read as that value, whatever comes after them
@@ -18,7 +18,8 @@ pub record ReadFrom {A : Type 0} (f : Format A) (x : A) (rest rest′ : List ℕ
 
 pub record Lawful {A : Type 0} (f : Format A) : Type 0 where
   pub written-read : (x : A) → f .valid x ≡ true → ReadsBack (f .reading) x (f .bytes x)
-  pub read-written : (at : ℕ) (rest : List ℕ) {x : A} {at′ : ℕ} {rest′ : List ℕ} → Bytes rest → run (f .reading) at rest ≡ got x at′ rest′ → ReadFrom f x rest rest′
+  pub read-written : (at : ℕ) (rest : List ℕ) {x : A} {at′ : ℕ} {rest′ : List ℕ} → Bytes rest → run (f .reading) at rest ≡ got x at′ rest′
+      → ReadFrom f x rest rest′
 
 pub both-true : (a b : Bool) → (a && b) ≡ true → (a ≡ true) × (b ≡ true)
 both-true true b h = (refl, h)
@@ -37,7 +38,7 @@ pub record ReadsOnly {A : Type 0} (r : Reading A) (P : A → List ℕ → Type 0
 abbrev pub Writes : {A : Type 0} → Format A → A → List ℕ → Type 0
 Writes f x xs = (f .valid x ≡ true) × (f .bytes x ≡ xs)
 
--- so the laws may be told too
+-- the laws, from what reading takes
 pub lawful : {A : Type 0} {f : Format A} → ((x : A) → f .valid x ≡ true → ReadsBack (f .reading) x (f .bytes x))
     → ReadsOnly (f .reading) (Writes f) → Lawful f
 lawful back only = record {
@@ -139,7 +140,8 @@ keyed-lawful {f = f} {key = key} {g = g} φ γ shown = lawful
     only-as (reads-only (γ k v)) (λ x ys (w, q). let s = shown k x w in (rw (s, v) w, rw (s, p, q)))))
 
 module _ {P A : Type 0} (part : Format A) (tests : P → A → List Test) (next : P → A → P) (φ : Lawful part) where
-  row-back : (p : P) (n : ℕ) (xs : List A) → row-valid part tests next p n xs ≡ true → ReadsBack (row-reading part tests next p n) xs (row-bytes (part .bytes) xs)
+  row-back : (p : P) (n : ℕ) (xs : List A) → row-valid part tests next p n xs ≡ true
+      → ReadsBack (row-reading part tests next p n) xs (row-bytes (part .bytes) xs)
   unfolding row-valid row-reading row-bytes run
   row-back p zero [] v at rest = rw add-zero
   row-back p (suc n) [] v at rest = absurd (false≢true v)

@@ -25,16 +25,16 @@ module _ {A : Type 0} {o : Optional A} (φ : OptionalLaws o) where
       [ true ↦ λ e v at rest. rw (add-zero, φ .only x e) | false ↦ λ e v. φ .lawful .written-read x v ]) refl
 
   -- by its bit
-  optional-only : (standing : Bool) → ReadsOnly (optional-reading o standing)
-      (λ x xs. (standing ≡ not (o .left-out x)) × (optional-valid o x ≡ true) × (optional-bytes o x ≡ xs))
+  optional-only : (present : Bool) → ReadsOnly (optional-reading o present)
+      (λ x xs. (present ≡ not (o .left-out x)) × (optional-valid o x ≡ true) × (optional-bytes o x ≡ xs))
   unfolding optional-valid optional-bytes
   optional-only false = let l = φ .out in done-only (rw l, rw l, rw l)
   optional-only true = only-as (reads-only (φ .lawful)) (λ x xs (v, q). let l = φ .apart x v in (rw l, rw l v, rw l q))
 
--- a bit of n is that of a field, which is left out where b holds, if it is read as that bit, and only then
-bit-tells : (b : Bool) (n : ℕ) → (cond b 0 1 ≤ 1) × (n % 2 ≡ cond b 0 1 → eqb (n % 2) 1 ≡ not b) × (eqb (n % 2) 1 ≡ not b → n % 2 ≡ cond b 0 1)
-bit-tells true n = (omega arith, λ e. rw e, λ e. let d = eqb-false (n % 2) 1 e in omega arith)
-bit-tells false n = (omega arith, λ e. rw e, eqb-true (n % 2) 1)
+-- the flag of a field that is left out where b holds: at most 1, and the last bit of n is this flag exactly where it is read as such
+flag-bit : (b : Bool) (n : ℕ) → (cond b 0 1 ≤ 1) × (n % 2 ≡ cond b 0 1 → eqb (n % 2) 1 ≡ not b) × (eqb (n % 2) 1 ≡ not b → n % 2 ≡ cond b 0 1)
+flag-bit true n = (omega arith, λ e. rw e, λ e. let d = eqb-false (n % 2) 1 e in omega arith)
+flag-bit false n = (omega arith, λ e. rw e, eqb-true (n % 2) 1)
 
 module _ {S : Type 0} where
   -- the fields of s make s
@@ -53,7 +53,7 @@ module _ {S : Type 0} where
   pub flags-small : {n : ℕ} (f : Fields S n) (s : S) → flags f s < maps n
   unfolding flags flag
   flags-small (made _) s = omega arith
-  flags-small (field get o rest) s = omega (arith, bit-tells (o .left-out (get s)) 0 .0, flags-small (rest (get s)) s)
+  flags-small (field get o rest) s = omega (arith, flag-bit (o .left-out (get s)) 0 .0, flags-small (rest (get s)) s)
 
   fields-back : {n : ℕ} (f : Fields S n) (P : S → Type 0) → FieldsMake f P → (s : S) → Rebuilds f s → fields-valid f s ≡ true
       → (map weight : ℕ) → map / weight ≡ flags f s → ReadsBack (fields-reading f map weight) s (fields-bytes f s)
@@ -61,7 +61,7 @@ module _ {S : Type 0} where
   fields-back (made s₀) P φ s q v map weight m at rest = rw (q, add-zero)
   fields-back (field get o next) P (φ, ψ) s q v map weight m at rest =
       let (v₁, v₂) = both-true (optional-valid o (get s)) (fields-valid (next (get s)) s) v in
-      let (small, set, _) = bit-tells (o .left-out (get s)) (map / weight) in
+      let (small, set, _) = flag-bit (o .left-out (get s)) (map / weight) in
       let more : map / (weight * 2) ≡ flags (next (get s)) s = rw (← (div-div-eq-div-mul map weight 2)) (omega arith) in
       let back = fields-back (next (get s)) _ (ψ (get s)) s q v₂ map (weight * 2) more in
       simp (append-assoc, run-then, set (omega arith), optional-back φ (get s) v₁, back, length-append, add-assoc)
@@ -75,7 +75,7 @@ module _ {S : Type 0} where
       let d = div-div-eq-div-mul map weight 2 in
       then-only (optional-only φ (is-set map weight)) (λ x xs (bit, v, q). only-as
       (fields-only (next x) (λ s. P s × (get s ≡ x)) (ψ x) map (weight * 2) (rw (← d) (omega arith)))
-      (λ s ys ((p, g), known, w, r). (p, rw g (omega (arith, bit-tells (o .left-out x) (map / weight) .2 bit)), rw (g, v) w, rw (g, q, r))))
+      (λ s ys ((p, g), known, w, r). (p, rw g (omega (arith, flag-bit (o .left-out x) (map / weight) .2 bit)), rw (g, v) w, rw (g, q, r))))
 
   fields-lawful : {n : ℕ} (f : Fields S n) → FieldsLaws f → ((s : S) → Rebuilds f s) → (map : ℕ) → map < maps n → Lawful (fields f map)
   unfolding fields

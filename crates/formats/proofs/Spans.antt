@@ -1,4 +1,4 @@
--- The faults of some bytes told by places: over bytes s, what a reading from a place on reads, how far, and which faults it meets on the way,
+-- The faults of some bytes by their places: over bytes s, what a reading from a place on reads, how far, and which faults it meets on the way,
 -- if it reads on after each as if there were none. How each combinator puts these together.
 use Rattle.prelude.specs.Names.{_≡_, refl, sym, ap, _∙_, Bool, true, false, cond, _||_, false≢true, List, [], _∷_, _⊎_, inl, inr, _↔_, ℕ, zero, suc}
 use Rattle.prelude.specs.Names.{_+_, _≤_, _<_, arith, eq-or-lt-of-le, add-one, eqb, ltb, leb, length, getD, drop, drop-of-length-le, drop-cons}
@@ -9,12 +9,12 @@ use Rattle.refusal.specs.Numbers.{place-of}
 use Rattle.formats.specs.Reading.{Reading, done, due, end, _>>=_, Read, got, refused, run, Before}
 use Rattle.formats.specs.Formats.{up-to, Format, byte, Test, testing, tested, row-reading, count, whole}
 use Rattle.formats.specs.Fields.{maps, map-byte}
-use Rattle.formats.proofs.Run.{run-then, after, never-both}
+use Rattle.formats.proofs.Run.{Next, after, run-then, never-both}
 use Rattle.formats.proofs.Laws.{untested}
 
-or-true : (a b : Bool) {A B : Type 0} → ((a ≡ true) ↔ A) → ((b ≡ true) ↔ B) → ((a || b) ≡ true) ↔ (A ⊎ B)
-or-true true b p q = (λ _. inl (p .0 refl), λ _. refl)
-or-true false b p q = (λ h. inr (q .0 h), elim [ inl x ↦ absurd (false≢true (p .1 x)) | inr y ↦ q .1 y ])
+or-exactly : (a b : Bool) {A B : Type 0} → ((a ≡ true) ↔ A) → ((b ≡ true) ↔ B) → ((a || b) ≡ true) ↔ (A ⊎ B)
+or-exactly true b p q = (λ _. inl (p .0 refl), λ _. refl)
+or-exactly false b p q = (λ h. inr (q .0 h), elim [ inl x ↦ absurd (false≢true (p .1 x)) | inr y ↦ q .1 y ])
 
 pub length-up-to : {A : Type 0} (n : ℕ) (x : ℕ → A) → length (up-to n x) ≡ n
 length-up-to zero x = refl
@@ -62,7 +62,7 @@ module _ (s : List ℕ) where
     given-none (refuses e m first) h = absurd (never-both h)
 
   -- one after the other, where every fault of the second is met after those of the first
-  gives-then : {A B : Type 0} {x : A} {mid : ℕ} {y : B} {stop : ℕ} {M N : Refusal → Type 0} {z : Read A} (next : A → ℕ → List ℕ → Read B)
+  gives-then : {A B : Type 0} {x : A} {mid : ℕ} {y : B} {stop : ℕ} {M N : Refusal → Type 0} {z : Read A} (next : Next A B)
       → Gives x mid M z → (mid ≤ length s → Gives y stop N (next x mid (drop mid s))) → ((e f : Refusal) → M e → N f → From e f)
       → Gives y stop (λ e. M e ⊎ N e) (after z next)
   gives-then next (reads l none) h across = gives-as (h l) (λ e. (inr, elim [ inl m ↦ absurd (none e m) | inr n ↦ n ]))
@@ -185,7 +185,7 @@ module _ (s : List ℕ) where
   spans-count limit at =
       let n = getD s at 0 in
       spans-one-test byte (λ n. eqb n 0 || ltb limit n) BadCount (omega arith) refl
-      (or-true (eqb n 0) (ltb limit n) (eqb-true n 0, eq-eqb n 0) (ltb-true limit n, lt-ltb limit n)) (spans-byte at)
+      (or-exactly (eqb n 0) (ltb limit n) (eqb-true n 0, eq-eqb n 0) (ltb-true limit n, lt-ltb limit n)) (spans-byte at)
 
   -- the parts of a row: part k is at its place, after a state that is known
   pub record Parts {P A : Type 0} (part : Format A) (tests : P → A → List Test) (next : P → A → P)

@@ -11,7 +11,7 @@ pub record Optional (A : Type 0) : Type 0 where
   pub written : Format A
 
 module _ {A : Type 0} (o : Optional A) where
-  -- by whether its bit stands
+  -- by whether its bit is set
   abbrev pub optional-reading : Bool → Reading A
   optional-reading true = o .written .reading
   optional-reading false = done (o .default)
@@ -31,7 +31,7 @@ pub data Fields (S : Type 0) : ℕ → Type 1 where
   made : S → Fields S zero
   field : {A : Type 0} {n : ℕ} → (S → A) → Optional A → (A → Fields S n) → Fields S (suc n)
 
--- whether the bit of that weight stands in a map byte
+-- whether the bit of that weight is set in a map byte
 abbrev pub is-set : ℕ → ℕ → Bool
 is-set map weight = eqb (map / weight % 2) 1
 

@@ -10,20 +10,20 @@ use Rattle.sheet.specs.Sheet.{Sheet, sheet-fields, sheet, item-list, precedence
 use Rattle.instance.specs.declared.Instance.{Instance}
 use Rattle.instance.specs.Valid.{items-of, precedences-of}
 use Rattle.instance.specs.Sheets.{instance-of, decode}
-use Rattle.lists.proofs.Counted.{filled-many}
+use Rattle.lists.proofs.Counted.{padded-count}
 use Rattle.instance.specs.Drafts.{Draft, from-items, from-precedences, from-yard-number}
 
 -- 7: "bytes after the last field"
 module _ (s : Sheet) (at : ℕ) where
-  pub ended-more : (rest : List ℕ) → 0 < length rest → read-as instance-of (run (end (done s)) at rest) ≡ refused (TrailingBytes at)
+  pub bytes-left : (rest : List ℕ) → 0 < length rest → read-as instance-of (run (end (done s)) at rest) ≡ refused (TrailingBytes at)
   unfolding run
-  ended-more [] h = absurd (omega arith)
-  ended-more (b ∷ rest) h = refl
+  bytes-left [] h = absurd (omega arith)
+  bytes-left (b ∷ rest) h = refl
 
-  pub ended-here : (rest : List ℕ) → length rest ≡ 0 → read-as instance-of (run (end (done s)) at rest) ≡ got (instance-of s) at []
+  pub no-bytes-left : (rest : List ℕ) → length rest ≡ 0 → read-as instance-of (run (end (done s)) at rest) ≡ got (instance-of s) at []
   unfolding run
-  ended-here [] h = refl
-  ended-here (b ∷ rest) h = absurd (omega arith)
+  no-bytes-left [] h = refl
+  no-bytes-left (b ∷ rest) h = absurd (omega arith)
 
 module _ (map : ℕ) (d : Sheet) (at : ℕ) (rest : List ℕ) where
   pub yard-number-run : from-yard-number map d at rest
@@ -50,18 +50,18 @@ unfolding decode whole sheet with-map map-byte keyed tested byte run _>>=_
 sheet-short [] h = refl
 sheet-short (x ∷ rest) h = absurd (omega arith)
 
-pub sheet-there : (s : List ℕ) → 1 ≤ length s → (is : Sheet) → decode s
+pub sheet-run : (s : List ℕ) → 1 ≤ length s → (d : Sheet) → decode s
     ≡ cond (leb 64 (getD s 0 0)) (refused (UnknownBit 0))
     (after (run (fields-reading size-fields (getD s 0 0) 1) 1 (drop 1 s)) λ c at₁ rest₁.
-    from-items (getD s 0 0) (record { container = c; items = is .items; precedences = is .precedences; yard-number = is .yard-number }) at₁ rest₁)
+    from-items (getD s 0 0) (record { container = c; items = d .items; precedences = d .precedences; yard-number = d .yard-number }) at₁ rest₁)
 unfolding decode whole sheet with-map map-byte keyed tested testing byte fields fields-reading sheet-fields size-fields measures from-items run _>>=_
-sheet-there [] h d = absurd (omega arith)
-sheet-there (x ∷ rest) h d = simp (cond-after, read-as-cond, run-then, after-after, read-as-after)
+sheet-run [] h d = absurd (omega arith)
+sheet-run (x ∷ rest) h d = simp (cond-after, read-as-cond, run-then, after-after, read-as-after)
 
 -- The draft.
 module _ (i : Instance) (δ : Draft i) where
-  pub items-many : length (items-of i) ≡ i .«item_count»
-  items-many = filled-many _ _ _ _ (δ .items)
+  pub items-count : length (items-of i) ≡ i .«item_count»
+  items-count = padded-count _ _ _ _ (δ .items)
 
   -- with a yard number it is the instance of its parts
   pub draft-is : (yard : ℕ) → instance-of (record { container = i .container; items = items-of i; precedences = precedences-of i; yard-number = yard })
@@ -74,4 +74,4 @@ module _ (i : Instance) (δ : Draft i) where
         «yard_number» = yard;
       }
   unfolding instance-of
-  draft-is yard = rw (← (δ .items .same), ← (δ .precedences .same), items-many, filled-many _ _ _ _ (δ .precedences))
+  draft-is yard = rw (← (δ .items .same), ← (δ .precedences .same), items-count, padded-count _ _ _ _ (δ .precedences))

@@ -76,7 +76,7 @@ module _ (s : List ℕ) where
     (λ (e, f, p, q). rw (decode-refuses s e .1 f, p, q)),
   )
 
-  -- the instance that the bytes tell, where there is none
+  -- the instance that the bytes say, where there is no fault
   pub read-answers : (i : Instance) → (read-values (read-result (decode s)) ≡ inl i)
       ↔ (((e : Refusal) → Fault s e → ⊥) × (i ≡ instance-of (sheet-at s)))
   unfolding decode

@@ -15,32 +15,32 @@ use Rattle.parts.specs.declared.Precedence.{Precedence}
 use Rattle.parts.specs.declared.Previous.{Previous}
 use Rattle.instance.specs.Reads.{Full}
 
-pub record Says (i : Instance) : Type 0 where
+pub record IsValid (i : Instance) : Type 0 where
   pub items-few : i .«item_count» ≤ max-items
   pub precedences-few : i .«precedence_count» ≤ max-precedences
   pub container-has-size : positive (i .container) ≡ true
   pub items-have-size : all-have-size (items-of i) ≡ true
-  pub precedences-stand : all-allowed (i .«item_count») Nothing (precedences-of i) ≡ true
+  pub precedences-allowed : all-allowed (i .«item_count») Nothing (precedences-of i) ≡ true
 
-pub valid-says : (i : Instance) → valid i ≡ true → Says i
+pub valid-says : (i : Instance) → valid i ≡ true → IsValid i
 unfolding valid
 valid-says i h =
     let (a, b) = both-true (leb (i .«item_count») max-items) _ h in
     let (c, d) = both-true (leb (i .«precedence_count») max-precedences) _ b in
     let (e, f) = both-true (positive (i .container)) _ d in
     let (g, k) = both-true (all-have-size (items-of i)) _ f in
-    record { items-few = leb-true _ _ a; precedences-few = leb-true _ _ c; container-has-size = e; items-have-size = g; precedences-stand = k }
+    record { items-few = leb-true _ _ a; precedences-few = leb-true _ _ c; container-has-size = e; items-have-size = g; precedences-allowed = k }
 
--- each of the precedences that stand names two items below n
-pub stands-at : (n : ℕ) (last : Previous) (os : List Precedence) → all-allowed n last os ≡ true → (k : ℕ) → k < length os
+-- each of the precedences that are allowed names two items below n
+pub allowed-at : (n : ℕ) (last : Previous) (os : List Precedence) → all-allowed n last os ≡ true → (k : ℕ) → k < length os
     → let o = getD os k no-precedence in (o .predecessor < n) × (o .successor < n) × (o .predecessor ≢ o .successor)
 unfolding all-allowed names-items
-stands-at n last [] e k h = absurd (omega arith)
-stands-at n last (o ∷ os) e zero h =
+allowed-at n last [] e k h = absurd (omega arith)
+allowed-at n last (o ∷ os) e zero h =
     let (a, r) = both-true (ltb (o .predecessor) n) _ (both-true (names-items n o) _ (both-true (names-items n o && rises last o) _ e .0) .0) in
     let (b, d) = both-true (ltb (o .successor) n) _ r in
     (ltb-true _ _ a, ltb-true _ _ b, eqb-false _ _ (not-true _ d))
-stands-at n last (o ∷ os) e (suc k) h = stands-at n (Was o) os (both-true (names-items n o && rises last o) _ e .1) k (le-of-suc-le-suc h)
+allowed-at n last (o ∷ os) e (suc k) h = allowed-at n (Was o) os (both-true (names-items n o && rises last o) _ e .1) k (le-of-suc-le-suc h)
 
 -- a valid value of the type has as many entries as it counts
 module _ (i : Instance) (h : valid i ≡ true) (full : Full i) where

@@ -2,12 +2,9 @@
 ghost use mathlib.Core.Path.{_≡_};
 ghost use Rattle.instance.specs.Valid.{valid};
 ghost use Rattle.instance.specs.Values.{opening-checkpoint, origin-packing};
-ghost use Rattle.instance.specs.Sheets.{decode};
-ghost use Rattle.instance.specs.Answers.{read-result};
 use parts::Item;
 use parts::Precedence;
 use parts::Size;
-use parts::SizeRead;
 use refusal::Refusal;
 
 mod read;
@@ -41,7 +38,7 @@ pub enum Status {
     Packed,
 }
 
-// A note: where a search stands. A branch is 0 for first and 1 for second; entries past the length are no part of it.
+// A note: where a search is. A branch is 0 for first and 1 for second; entries past the length are no part of it.
 pub struct Checkpoint {
     pub status: Status,
     pub length: usize,
@@ -78,28 +75,6 @@ impl Instance {
             status: Status::Open,
             length: 0,
             branches,
-        }
-    }
-
-    // Reads a sheet: the map byte and the container here, what follows them in `read`.
-    pub fn read(bytes: &[u8]) -> ReadResult
-        ensures { λ r. ⌜ r ≡ read-result (decode (now (bytes .entry))) ⌝ }
-    {
-        if bytes.len() < 1 {
-            return read::refuse(Refusal::EndsEarly(0));
-        }
-        let map = bytes[0];
-        if 63 < map {
-            return read::refuse(Refusal::UnknownBit(0));
-        }
-        match parts::read::read_size(&bytes[1..], 1, map) {
-            SizeRead::Refused(e) => read::refuse(e),
-            SizeRead::Value(container, used) => {
-                let at = 1 + used;
-                let mut draft = read::empty();
-                draft.container = container;
-                read::read_from_items(&bytes[at..], at, map, draft)
-            }
         }
     }
 

@@ -4,7 +4,7 @@ ghost use lib.ListN.{length};
 ghost use Rattle.formats.specs.Reading.{refused};
 ghost use Rattle.parts.specs.Answers.{PlacesFit};
 ghost use Rattle.instance.specs.Answers.{read-result, empty-instance};
-ghost use Rattle.instance.specs.Sheets.{sheet-of};
+ghost use Rattle.instance.specs.Sheets.{sheet-of, decode};
 ghost use Rattle.instance.specs.Drafts.{Draft, from-items, from-precedences, from-yard-number};
 use crate::Instance;
 use crate::ReadAnswer;
@@ -12,9 +12,10 @@ use crate::ReadResult;
 use lists::Stop;
 use parts::FieldRead;
 use parts::Size;
+use parts::SizeRead;
 use refusal::Refusal;
 
-pub fn empty() -> Instance
+fn empty() -> Instance
     ensures { λ r. ⌜ r ≡ empty-instance ⌝ }
 {
     let container = Size {
@@ -34,7 +35,7 @@ pub fn empty() -> Instance
     }
 }
 
-pub fn refuse(e: Refusal) -> ReadResult
+fn refuse(e: Refusal) -> ReadResult
     ensures { λ r. ⌜ r ≡ read-result (refused e) ⌝ }
 {
     let instance = empty();
@@ -86,7 +87,7 @@ fn read_from_precedences(rest: &[u8], at: usize, map: u8, draft: Instance) -> Re
 }
 
 // The items, and what follows them.
-pub fn read_from_items(rest: &[u8], at: usize, map: u8, draft: Instance) -> ReadResult
+fn read_from_items(rest: &[u8], at: usize, map: u8, draft: Instance) -> ReadResult
     requires { ⌜ PlacesFit at (now rest) × Draft draft ⌝ }
     ensures { λ r. ⌜ r ≡ read-result (from-items map (sheet-of draft) at (now (rest .entry))) ⌝ }
 {
@@ -100,6 +101,30 @@ pub fn read_from_items(rest: &[u8], at: usize, map: u8, draft: Instance) -> Read
             next.items = items;
             next.item_count = list.count;
             read_from_precedences(&rest[used..], at + used, map, next)
+        }
+    }
+}
+
+impl Instance {
+    // Reads a sheet: the map byte and the container, and what follows them.
+    pub fn read(bytes: &[u8]) -> ReadResult
+        ensures { λ r. ⌜ r ≡ read-result (decode (now (bytes .entry))) ⌝ }
+    {
+        if bytes.len() < 1 {
+            return refuse(Refusal::EndsEarly(0));
+        }
+        let map = bytes[0];
+        if 63 < map {
+            return refuse(Refusal::UnknownBit(0));
+        }
+        match parts::read::read_size(&bytes[1..], 1, map) {
+            SizeRead::Refused(e) => refuse(e),
+            SizeRead::Value(container, used) => {
+                let at = 1 + used;
+                let mut draft = empty();
+                draft.container = container;
+                read_from_items(&bytes[at..], at, map, draft)
+            }
         }
     }
 }

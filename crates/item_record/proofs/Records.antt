@@ -14,7 +14,7 @@ use Rattle.instance.specs.Reads.{Reads}
 use Rattle.instance.proofs.RoundTrips.{read-sheet}
 use Rattle.item_record.specs.declared.Lookup.the-variants.{There}
 use Rattle.item_record.specs.Record.{lookup, item-record}
-use Rattle.item_record.proofs.Refusing.{Grounds, grounds, ends-so}
+use Rattle.item_record.proofs.Refusing.{Grounds, grounds, from-grounds}
 
 -- a record is not at the start of the sheet, and the next one is after it
 pub place-positive : (s : List ℕ) (k : ℕ) → 0 < item-place s k
@@ -61,4 +61,4 @@ unfolding item-record
 record-is-read sheet b r k l =
     let (inside, there) = read-there sheet r k l in
     let after = next-after sheet k in
-    (there, rw (ends-so sheet k There (r, l)) (part-read sheet b (omega arith) inside there))
+    (there, rw (from-grounds sheet k There (r, l)) (part-read sheet b (omega arith) inside there))

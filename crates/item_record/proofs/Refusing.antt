@@ -15,7 +15,7 @@ use Rattle.item_record.specs.declared.Lookup.the-variants.{There, Refuse
 use Rattle.item_record.specs.Record.{lookup, item-record, refusal-code, code-of, item-record-code}
 use Rattle.item_record.specs.Refusing.{RecordFault, unread, missing}
 
--- number and place tell how the lookup ended
+-- number and place say how the lookup ended
 same-code : (o p : Lookup) → code-of o ≡ code-of p → o ≡ p
 same-code There There q = refl
 same-code There (Refused f) q = absurd (number-not-zero f (ap (λ (c : RefusalCode). c .number) (sym q)))
@@ -24,7 +24,7 @@ same-code (Refused e) (Refused f) q =
     ap Refused (same-refusal e f (ap (λ (c : RefusalCode). c .number) q) (ap (λ (c : RefusalCode). c .place) q))
 
 module _ (sheet : List ℕ) (k : ℕ) where
-  -- what holds where the lookup ends so
+  -- what holds where the lookup gives this
   abbrev pub Grounds : Lookup → Type 0
   Grounds There = (r : Reads sheet) × (k < r .instance .«item_count»)
   Grounds (Refused e) = RecordFault sheet k e
@@ -41,14 +41,14 @@ module _ (sheet : List ℕ) (k : ℕ) where
       go (got i at rest) h = on-sheet (reads-as sheet h) (ltb k (i .«item_count»)) refl
       go (refused e) h = unread (decode-refuses sheet e .0 h)
 
-  pub ends-so : (o : Lookup) → Grounds o → lookup (decode sheet) k ≡ o
-  ends-so There (r, l) = rw (r .reads, lt-ltb k (r .instance .«item_count») l)
-  ends-so (Refused e) (unread f) = rw (decode-refuses sheet e .1 f)
-  ends-so (Refused e) (missing r l q) = rw (r .reads, le-ltb k (r .instance .«item_count») l, q)
+  pub from-grounds : (o : Lookup) → Grounds o → lookup (decode sheet) k ≡ o
+  from-grounds There (r, l) = rw (r .reads, lt-ltb k (r .instance .«item_count») l)
+  from-grounds (Refused e) (unread f) = rw (decode-refuses sheet e .1 f)
+  from-grounds (Refused e) (missing r l q) = rw (r .reads, le-ltb k (r .instance .«item_count») l, q)
 
   coded : (o : Lookup) → (item-record-code sheet k ≡ code-of o) ↔ Grounds o
   unfolding item-record-code
-  coded o = (λ q. subst Grounds (same-code (lookup (decode sheet) k) o q) grounds, λ g. ap code-of (ends-so o g))
+  coded o = (λ q. subst Grounds (same-code (lookup (decode sheet) k) o q) grounds, λ g. ap code-of (from-grounds o g))
 
   -- "a second call gives number and place"
   pub record-refuses : (e : Refusal)
@@ -63,4 +63,4 @@ module _ (sheet : List ℕ) (k : ℕ) where
   pub record-empty : (e : Refusal) → item-record-code sheet k ≡ refusal-code (number-of e) (place-of e)
       → item-record sheet k ≡ []
   unfolding item-record
-  record-empty e h = rw (ends-so (Refused e) (record-refuses e .0 h))
+  record-empty e h = rw (from-grounds (Refused e) (record-refuses e .0 h))

@@ -18,7 +18,8 @@ list-run part tests next p limit false at rest = refl
 list-run part tests next p limit true at rest = simp run-then
 
 -- a count that was read is within its limit
-pub count-within : (limit : ℕ) (present : Bool) (at : ℕ) (rest : List ℕ) {n at′ : ℕ} {rest′ : List ℕ} → run (optional-reading (count-field limit) present) at rest ≡ got n at′ rest′ → n ≤ limit
+pub count-within : (limit : ℕ) (present : Bool) (at : ℕ) (rest : List ℕ) {n at′ : ℕ} {rest′ : List ℕ}
+    → run (optional-reading (count-field limit) present) at rest ≡ got n at′ rest′ → n ≤ limit
 unfolding count-field count tested testing byte run _>>=_
 count-within limit false at rest {n} h = let e : _≡_ {A = ℕ} 0 n = cc in omega arith
 count-within limit true at [] h = absurd (never-both h)
@@ -29,5 +30,5 @@ count-within limit true at (x ∷ rest) {n} h =
     omega arith
 
 module _ {A : Type 0} (room n : ℕ) (blank : A) (xs : List A) (φ : Padded room blank n xs) where
-  pub filled-many : length (take n xs) ≡ n
-  filled-many = omega (arith, length-take n xs, simp (length-append, length-replicate) at (ap length (φ .same)))
+  pub padded-count : length (take n xs) ≡ n
+  padded-count = omega (arith, length-take n xs, simp (length-append, length-replicate) at (ap length (φ .same)))

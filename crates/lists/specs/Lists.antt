@@ -8,6 +8,8 @@ use Rattle.parts.specs.declared.Previous.{Previous}
 use Rattle.parts.specs.declared.Previous.the-variants.{Was}
 use Rattle.parts.specs.Parts.{item, precedence, precedence-tests}
 use Rattle.lists.specs.declared.Stop.{Stop}
+use Rattle.lists.specs.declared.ItemsRead.{ItemsRead}
+use Rattle.lists.specs.declared.PrecedencesRead.{PrecedencesRead}
 use Rattle.lists.specs.declared.Stop.the-variants as S
 
 -- the next n items
@@ -18,10 +20,16 @@ item-row = row-reading item (λ (_ : Unit {0}) _. []) (λ p _. p) tt
 abbrev pub precedence-row : ℕ → Previous → ℕ → Reading (List Precedence)
 precedence-row n = row-reading precedence (precedence-tests n) (λ _ o. Was o)
 
--- a row that was read from these bytes
-abbrev pub row-read : {A : Type 0} → ℕ → List ℕ → Stop → List A → Read (List A)
+-- what the readers' answers say, given the place and the bytes that they were handed
+abbrev row-read : {A : Type 0} → ℕ → List ℕ → Stop → List A → Read (List A)
 row-read at rest (S.After used) xs = got xs (at + used) (drop used rest)
 row-read at rest (S.Refused e) xs = refused e
+
+abbrev pub items-read : ℕ → List ℕ → ItemsRead → Read (List Item)
+items-read at rest r = row-read at rest (r .stop) (take (r .count) (r .items))
+
+abbrev pub precedences-read : ℕ → List ℕ → PrecedencesRead → Read (List Precedence)
+precedences-read at rest r = row-read at rest (r .stop) (take (r .count) (r .precedences))
 
 -- "Entries of a sheet past its counts are no part of it; reading leaves them 0"
 abbrev pub padded : {A : Type 0} → ℕ → A → List A → List A

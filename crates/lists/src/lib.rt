@@ -8,7 +8,7 @@ ghost use Rattle.parts.specs.Answers.{PlacesFit};
 ghost use Rattle.parts.specs.Precedences.{all-allowed};
 ghost use Rattle.parts.specs.Sizes.{no-item, no-precedence, all-have-size};
 ghost use Rattle.sheet.specs.Sheet.{max-items, max-precedences, item-list, precedence-list};
-ghost use Rattle.lists.specs.Lists.{item-row, precedence-row, row-read, Padded};
+ghost use Rattle.lists.specs.Lists.{item-row, precedence-row, items-read, precedences-read, Padded};
 use parts::FieldRead;
 use parts::Item;
 use parts::ItemRead;
@@ -73,7 +73,7 @@ pub fn no_precedences() -> [Precedence; MAX_PRECEDENCES]
 // n items from byte `from` on: each is read from the rest of the sheet after the item before.
 fn read_item_row(rest: &[u8], at: usize, from: usize, n: usize) -> ItemsRead
     requires { ⌜ PlacesFit at (now rest) × (from ≤ length (now rest)) × (n ≤ max-items) ⌝ }
-    ensures { λ r. ⌜ run (item-row n) (at + from) (drop from (now (rest .entry))) ≡ row-read at (now (rest .entry)) (r .stop) (take (r .count) (r .items)) ⌝ }
+    ensures { λ r. ⌜ run (item-row n) (at + from) (drop from (now (rest .entry))) ≡ items-read at (now (rest .entry)) r ⌝ }
     ensures { λ r. ⌜ Padded max-items no-item (r .count) (r .items) ⌝ }
 {
     let mut items = no_items();
@@ -105,7 +105,7 @@ fn read_item_row(rest: &[u8], at: usize, from: usize, n: usize) -> ItemsRead
 // m precedences from byte `from` on, of a sheet with n items.
 fn read_precedence_row(rest: &[u8], at: usize, from: usize, n: usize, m: usize) -> PrecedencesRead
     requires { ⌜ PlacesFit at (now rest) × (from ≤ length (now rest)) × (m ≤ max-precedences) ⌝ }
-    ensures { λ r. ⌜ run (precedence-row n Previous.Nothing m) (at + from) (drop from (now (rest .entry))) ≡ row-read at (now (rest .entry)) (r .stop) (take (r .count) (r .precedences)) ⌝ }
+    ensures { λ r. ⌜ run (precedence-row n Previous.Nothing m) (at + from) (drop from (now (rest .entry))) ≡ precedences-read at (now (rest .entry)) r ⌝ }
     ensures { λ r. ⌜ Padded max-precedences no-precedence (r .count) (r .precedences) ⌝ }
 {
     let mut precedences = no_precedences();
@@ -139,7 +139,7 @@ fn read_precedence_row(rest: &[u8], at: usize, from: usize, n: usize, m: usize) 
 // The count of items and the items; left out there are none.
 pub fn read_items(rest: &[u8], at: usize, present: bool) -> ItemsRead
     requires { ⌜ PlacesFit at (now rest) ⌝ }
-    ensures { λ r. ⌜ run (optional-reading item-list present) at (now (rest .entry)) ≡ row-read at (now (rest .entry)) (r .stop) (take (r .count) (r .items)) ⌝ }
+    ensures { λ r. ⌜ run (optional-reading item-list present) at (now (rest .entry)) ≡ items-read at (now (rest .entry)) r ⌝ }
     ensures { λ r. ⌜ Padded max-items no-item (r .count) (r .items) ⌝ }
 {
     match parts::read::read_count(rest, at, present, MAX_ITEMS) {
@@ -158,7 +158,7 @@ pub fn read_items(rest: &[u8], at: usize, present: bool) -> ItemsRead
 // The count of precedences and the precedences of a sheet with n items; left out there are none.
 pub fn read_precedences(rest: &[u8], at: usize, n: usize, present: bool) -> PrecedencesRead
     requires { ⌜ PlacesFit at (now rest) ⌝ }
-    ensures { λ r. ⌜ run (optional-reading (precedence-list n) present) at (now (rest .entry)) ≡ row-read at (now (rest .entry)) (r .stop) (take (r .count) (r .precedences)) ⌝ }
+    ensures { λ r. ⌜ run (optional-reading (precedence-list n) present) at (now (rest .entry)) ≡ precedences-read at (now (rest .entry)) r ⌝ }
     ensures { λ r. ⌜ Padded max-precedences no-precedence (r .count) (r .precedences) ⌝ }
 {
     match parts::read::read_count(rest, at, present, MAX_PRECEDENCES) {

@@ -11,8 +11,7 @@ use Rattle.model.specs.Admits.{Sound, Overlaps, Realises, Admits}
 use Rattle.model.proofs.Below.{past-three}
 use Rattle.model.proofs.Slots.{proper-sym, proper-wide, index-of-small}
 use Rattle.model.proofs.Domains.{gone-is}
-use Rattle.model.proofs.Without.{without-well-formed, without-other}
-use Rattle.model.proofs.Removal.{fix-before-well-formed}
+use Rattle.model.proofs.Without.{without-well-formed, without-other, fix-before-well-formed}
 use Rattle.model.proofs.Ends.{ends-asym}
 
 -- seen from the other item, the packing realises the converse
@@ -36,7 +35,8 @@ pub not-both : (p : Problem) → Sound p → (q : Positions) {a u v : ℕ} → P
 not-both p sound q {a} {u} {v} s = ends-asym p q a u v (sound .positive a v (s .axis) (s .item-v))
 
 -- A packing in which u ends before v, and one in which they overlap
-module _ (p : Problem) (sound : Sound p) (q : Positions) (k : Domains) (w : WellFormed k) (admits : Admits p k q) {a u v : ℕ} (s : Proper (p .items) a u v) where
+module _ (p : Problem) (sound : Sound p) (q : Positions) (k : Domains) (w : WellFormed k) (admits : Admits p k q)
+    {a u v : ℕ} (s : Proper (p .items) a u v) where
   -- "v before u" removed, and another relation that it does not realise
   both-admit : (x : ℕ) → x < 3 → (EndsBefore p q a v u → ⊥) → (Realises p q x a u v → ⊥) → Admits p (without (remove-before k a v u) x a u v) q
   unfolding without

@@ -8,11 +8,11 @@ use Rattle.model.specs.Below.{some-below, all-below, most-below, all-in,
 abbrev pub Implies : Bool → Bool → Type 0
 Implies a b = a ≡ true → b ≡ true
 
-pub same : {b : Bool} → Implies b b
-same e = e
+pub implies-refl : {b : Bool} → Implies b b
+implies-refl e = e
 
-pub none : {b : Bool} → Implies false b
-none e = absurd (false≢true e)
+pub implies-false : {b : Bool} → Implies false b
+implies-false e = absurd (false≢true e)
 
 pub clash : {b : Bool} → b ≡ true → b ≡ false → ⊥
 clash p q = false≢true (sym q ∙ p)
@@ -32,7 +32,7 @@ pub refuted : (b : Bool) → (b ≡ true → ⊥) → b ≡ false
 refuted b h = fails {c = false} (λ e. absurd (h e)) refl
 
 pub not-so : {A : Type 0} (b : Bool) → (b ≡ true) ↔ A → (A → ⊥) → b ≡ false
-not-so b so h = refuted b (λ e. h (so .0 e))
+not-so b iff h = refuted b (λ e. h (iff .0 e))
 
 pub and-intro : {a b : Bool} → a ≡ true → b ≡ true → (a && b) ≡ true
 and-intro e f = rw (e, f)
@@ -97,13 +97,13 @@ pub below-three : (P : ℕ → Type 0) → P 0 → P 1 → P 2 → (x : ℕ) →
 below-three P a b c = past-three (λ x. x < 3 → P x) (λ h. a) (λ h. b) (λ h. c) (λ x h. absurd (omega arith))
 
 -- what holds of n and of all below it
-pub up-to : (P : ℕ → Type 0) (n : ℕ) → P n → ((i : ℕ) → i < n → P i) → (i : ℕ) → i < suc n → P i
-up-to P n top below i h = ⊎-elim (λ q. rw q top) (below i) (eq-or-lt-of-le (le-of-suc-le-suc h))
+pub below-suc : (P : ℕ → Type 0) (n : ℕ) → P n → ((i : ℕ) → i < n → P i) → (i : ℕ) → i < suc n → P i
+below-suc P n top below i h = ⊎-elim (λ q. rw q top) (below i) (eq-or-lt-of-le (le-of-suc-le-suc h))
 
 -- what a test over all numbers below n says of one of them, and the other way round
 pub all-at : (n : ℕ) (f : ℕ → Bool) → all-below n f ≡ true → (i : ℕ) → i < n → f i ≡ true
 all-at zero f e i h = absurd (omega arith)
-all-at (suc n) f e i h = let c = all-case (f n) (all-below n f) e in up-to (λ i. f i ≡ true) n (c .0) (all-at n f (c .1)) i h
+all-at (suc n) f e i h = let c = all-case (f n) (all-below n f) e in below-suc (λ i. f i ≡ true) n (c .0) (all-at n f (c .1)) i h
 
 pub all-cons : (b c : Bool) → b ≡ true → c ≡ true → elim b as (λ _. Bool) [ true ↦ c | false ↦ false ] ≡ true
 all-cons b c e d = rw (e, d)
@@ -125,7 +125,7 @@ some-at (suc n) f e =
 pub some-of : (n : ℕ) (f : ℕ → Bool) (i : ℕ) → i < n → f i ≡ true → some-below n f ≡ true
 some-of zero f i h e = absurd (omega arith)
 some-of (suc n) f i h e =
-    or-is (f n) _ ∙ up-to (λ i. f i ≡ true → (f n || some-below n f) ≡ true) n (or-left _) (λ i l e. or-right (f n) (some-of n f i l e)) i h e
+    or-is (f n) _ ∙ below-suc (λ i. f i ≡ true → (f n || some-below n f) ≡ true) n (or-left _) (λ i l e. or-right (f n) (some-of n f i l e)) i h e
 
 pub some-mono : (n : ℕ) {f g : ℕ → Bool} → ((i : ℕ) → Implies (f i) (g i)) → Implies (some-below n f) (some-below n g)
 some-mono n {f} {g} h e = let (i, l, d) = some-at n f e in some-of n g i l (h i d)
@@ -155,7 +155,7 @@ in-of f (y ∷ l) h = all-cons (f y) _ (h y (List·Memᴰ·head refl)) (in-of f 
 -- the greatest below n
 pub most-at : (n : ℕ) (f : ℕ → ℕ) (i : ℕ) → i < n → f i ≤ most-below n f
 most-at zero f i h = absurd (omega arith)
-most-at (suc n) f i h = up-to (λ i. f i ≤ most-below (suc n) f) n (omega arith) (λ i l. omega (arith, most-at n f i l)) i h
+most-at (suc n) f i h = below-suc (λ i. f i ≤ most-below (suc n) f) n (omega arith) (λ i l. omega (arith, most-at n f i l)) i h
 
 pub most-le : (n : ℕ) (f : ℕ → ℕ) (c : ℕ) → ((i : ℕ) → i < n → f i ≤ c) → most-below n f ≤ c
 most-le zero f c h = omega arith

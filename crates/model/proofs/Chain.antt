@@ -7,7 +7,7 @@ use Rattle.model.specs.Domains.{Domains, fixed-before}
 use Rattle.model.specs.Rules.{listed, joined, longest, ending, starting, greatest-ending, greatest-starting}
 use Rattle.model.specs.Chain.{Chain, alone, link, total-from, Starting, starting-total, Ending, ending-total, measure-sum}
 use Rattle.model.proofs.Below.{and-both, or-elim, or-left, or-right, or-neither, neither-or, most-some, refuted, clash, Implies, most-at}
-use Rattle.model.proofs.Below.{most-le, up-to}
+use Rattle.model.proofs.Below.{most-le, below-suc}
 use Rattle.model.proofs.Ends.{joined-mono}
 
 guard-le : (b : Bool) (x c : ℕ) → (b ≡ true → x ≤ c) → elim b as (λ _. ℕ) [ true ↦ x | false ↦ 0 ] ≤ c
@@ -17,6 +17,10 @@ guard-le false x c h = zero-le
 guard-is : (b : Bool) (x m : ℕ) → elim b as (λ _. ℕ) [ true ↦ x | false ↦ 0 ] ≡ m → 1 ≤ m → (b ≡ true) × (x ≡ m)
 guard-is true x m e h = (refl, e)
 guard-is false x m e h = absurd (omega arith)
+
+-- links of items below n compose
+abbrev pub Transitive : ℕ → (ℕ → ℕ → Bool) → Type 0
+Transitive n linked = (x v u : ℕ) → x < n → v < n → u < n → linked x v ≡ true → linked v u ≡ true → linked x u ≡ true
 
 -- How many items below n are not in the list
 abbrev free : ℕ → List ℕ → ℕ
@@ -36,7 +40,7 @@ free-cons-le (suc n) had v = omega (arith, free-cons-le n had v, unlisted-or (eq
 free-cons : (n : ℕ) (had : List ℕ) (v : ℕ) → v < n → listed v had ≡ false → free n (v ∷ had) < free n had
 free-cons zero had v h w = absurd (omega arith)
 free-cons (suc n) had v h w =
-    up-to (λ v. listed v had ≡ false → free (suc n) (v ∷ had) < free (suc n) had) n
+    below-suc (λ v. listed v had ≡ false → free (suc n) (v ∷ had) < free (suc n) had) n
     (λ w. rw (eq-eqb n n refl, w) (omega (arith, free-cons-le n had n)))
     (λ v l w. omega (arith, free-cons n had v l w, unlisted-or (eqb n v) (listed n had))) v h w
 
@@ -154,8 +158,7 @@ module _ (p : Problem) (a : ℕ) (linked : ℕ → ℕ → Bool) (on : ℕ → �
   greatest-bound v c hv s h = let (l, k, e) = longest-attained v hv in rw (← e) (chain-below c k s h)
 
   -- where links are transitive and no item is linked with itself, the greatest chain from v goes on from u
-  module _ (trans : (x v u : ℕ) → x < p .items → v < p .items → u < p .items → linked x v ≡ true → linked v u ≡ true → linked x u ≡ true)
-      (irreflexive : (x : ℕ) → linked x x ≡ true → ⊥) where
+  module _ (trans : Transitive (p .items) linked) (irreflexive : (x : ℕ) → linked x x ≡ true → ⊥) where
     later : {v : ℕ} {l : List ℕ} → Chain p linked (v ∷ l) → (x : ℕ) → listed x l ≡ true → (x < p .items) × (linked v x ≡ true)
     later (alone h) x e = absurd (false≢true e)
     later (link {u = u} {v = v} {l = l} h b d c) x e =

@@ -15,17 +15,17 @@ use Rattle.model.proofs.Domains.{before-distinct, overlap-distinct, fix
 use Rattle.model.proofs.Claims.{forced-after-is}
 use Rattle.model.proofs.Asks.{not-before, not-overlap, rule1-of}
 
--- an order is one of two
-either-order : (P : ℕ → Type 0) → P 2 → P 1 → (x : ℕ) → Order x → P x
-either-order P f g = past-three (λ x. Order x → P x) (λ o. absurd (omega arith)) (λ o. g) (λ o. f) (λ x o. absurd (omega arith))
+-- what holds for both directions
+pub by-direction : (P : ℕ → Type 0) → P 1 → P 2 → (x : ℕ) → Order x → P x
+by-direction P f g = past-three (λ x. Order x → P x) (λ o. absurd (omega arith)) (λ o. f) (λ o. g) (λ x o. absurd (omega arith))
 
 -- What the rules ask for is removed: so the clauses are obeyed
 module _ (p : Problem) (k : Domains) (rest : AtRest p k) where
   module _ (a u v w : ℕ) (t : Three (p .items) a u v w) where
     -- rule 2
-    composed : fixed-before k a u v ≡ true → fixed-before k a v w ≡ true → fixed-before k a u w ≡ true
+    by-rule2 : fixed-before k a u v ≡ true → fixed-before k a v w ≡ true → fixed-before k a u w ≡ true
     unfolding asks-overlap asks-before rule2
-    composed f g =
+    by-rule2 f g =
         let e : rule2 p k a u w ≡ true = some-of (p .items) _ v (t .uv .item-v) (and-intro f g) in
         fixed-before-of k a u w (not-overlap rest a u w (t .uw) (or-right (rule1 p k a u w) (or-left (rule2 p k a w u) e)))
         (not-before rest a w u (proper-sym (t .uw)) (or-left _ e))
@@ -35,24 +35,24 @@ module _ (p : Problem) (k : Domains) (rest : AtRest p k) where
     unfolding asks-before
     by-rule3 e = not-before rest a w u (proper-sym (t .uw)) (or-right (rule2 p k a u w) (or-left _ e))
 
-    far : fixed-before k a u v ≡ true → may-before k a w v ≡ false → may-before k a w u ≡ false
+    by-rule3-far : fixed-before k a u v ≡ true → may-before k a w v ≡ false → may-before k a w u ≡ false
     unfolding rule3
-    far f g = by-rule3 (some-of (p .items) _ v (t .uv .item-v) (or-right (fixed-before k a v w && _) (and-intro f (ap not g))))
+    by-rule3-far f g = by-rule3 (some-of (p .items) _ v (t .uv .item-v) (or-right (fixed-before k a v w && _) (and-intro f (ap not g))))
 
-    near : may-before k a v u ≡ false → fixed-before k a v w ≡ true → may-before k a w u ≡ false
+    by-rule3-near : may-before k a v u ≡ false → fixed-before k a v w ≡ true → may-before k a w u ≡ false
     unfolding rule3
-    near f g = by-rule3 (some-of (p .items) _ v (t .uv .item-v) (or-left _ (and-intro g (ap not f))))
+    by-rule3-near f g = by-rule3 (some-of (p .items) _ v (t .uv .item-v) (or-left _ (and-intro g (ap not f))))
 
   -- the same items the other way round
-  back : {a u v w : ℕ} → Three (p .items) a u v w → Three (p .items) a w v u
-  back t = record { uv = proper-sym (t .vw); vw = proper-sym (t .uv); uw = proper-sym (t .uw) }
+  reversed : {a u v w : ℕ} → Three (p .items) a u v w → Three (p .items) a w v u
+  reversed t = record { uv = proper-sym (t .vw); vw = proper-sym (t .uv); uw = proper-sym (t .uw) }
 
   -- rule 4
-  ring : (a q r s t : ℕ) → Three (p .items) a q r s → Three (p .items) a s t q → Proper (p .items) a r t
+  by-rule4 : (a q r s t : ℕ) → Three (p .items) a q r s → Three (p .items) a s t q → Proper (p .items) a r t
       → fixed-overlap k a q r ≡ true → fixed-overlap k a r s ≡ true → fixed-overlap k a s t ≡ true → fixed-overlap k a t q ≡ true
       → may-overlap k a q s ≡ false → may-before k a r t ≡ false
   unfolding asks-before rule4
-  ring a q r s t x y z qr rs st tq e =
+  by-rule4 a q r s t x y z qr rs st tq e =
       let f : rule4 p k a r t ≡ true = some-of (p .items) _ q (x .uv .item-u) (and-intro (and-intro qr tq)
       (some-of (p .items) _ s (x .vw .item-v) (and-intro (and-intro rs st) (ap not e)))) in
       not-before rest a r t z (or-right (rule2 p k a t r) (or-right (rule3 p k a r t) (or-left _ f)))
@@ -65,20 +65,21 @@ module _ (p : Problem) (k : Domains) (rest : AtRest p k) where
         | no n ↦ (let e : y ≡ b = omega arith in rw e g)
       ]))))
   rest-obeyed _ _ (d2 x a u v w o t) (f, (g, _)) =
-      either-order (λ x. Holds k (of (forced x) a u v) → Holds k (of (forced x) a v w) → Holds k (of (forced x) a u w)) (composed a u v w t)
-      (λ f g. forced-after-is k a u w ∙ composed a w v u (back t) (sym (forced-after-is k a v w) ∙ g) (sym (forced-after-is k a u v) ∙ f)) x o f g
+      by-direction (λ x. Holds k (of (forced x) a u v) → Holds k (of (forced x) a v w) → Holds k (of (forced x) a u w))
+      (λ f g. forced-after-is k a u w ∙ by-rule2 a w v u (reversed t) (sym (forced-after-is k a v w) ∙ g) (sym (forced-after-is k a u v) ∙ f))
+      (by-rule2 a u v w t) x o f g
   rest-obeyed _ _ (d1-far x a u v w o t) (f, (g, _)) =
-      either-order (λ x. Holds k (of (forced x) a u v) → Holds k (of (removed x) a v w) → Holds k (of (removed x) a u w))
-      (λ f g. ap not (far a u v w t f (not-true _ g)))
-      (λ f g. ap not (near a w v u (back t) (not-true _ g) (sym (forced-after-is k a u v) ∙ f))) x o f g
+      by-direction (λ x. Holds k (of (forced x) a u v) → Holds k (of (removed x) a v w) → Holds k (of (removed x) a u w))
+      (λ f g. ap not (by-rule3-near a w v u (reversed t) (not-true _ g) (sym (forced-after-is k a u v) ∙ f)))
+      (λ f g. ap not (by-rule3-far a u v w t f (not-true _ g))) x o f g
   rest-obeyed _ _ (d1-near x a u v w o t) (f, (g, _)) =
-      either-order (λ x. Holds k (of (removed x) a u v) → Holds k (of (forced x) a v w) → Holds k (of (removed x) a u w))
-      (λ f g. ap not (near a u v w t (not-true _ f) g))
-      (λ f g. ap not (far a w v u (back t) (sym (forced-after-is k a v w) ∙ g) (not-true _ f))) x o f g
+      by-direction (λ x. Holds k (of (removed x) a u v) → Holds k (of (forced x) a v w) → Holds k (of (removed x) a u w))
+      (λ f g. ap not (by-rule3-far a w v u (reversed t) (sym (forced-after-is k a v w) ∙ g) (not-true _ f)))
+      (λ f g. ap not (by-rule3-near a u v w t (not-true _ f) g)) x o f g
   rest-obeyed _ _ (g1 a q r s t x y z) (qr, (rs, (st, (tq, (e, _))))) =
       let flip : (u v : ℕ) → fixed-overlap k a u v ≡ true → fixed-overlap k a v u ≡ true = λ u v e. fixed-overlap-sym k a u v ∙ e in
-      fixed-overlap-of k a r t (ring a q r s t x y z qr rs st tq (not-true _ e))
-      (ring a q t s r (back y) (back x) (proper-sym z) (flip t q tq) (flip s t st) (flip r s rs) (flip q r qr) (not-true _ e))
+      fixed-overlap-of k a r t (by-rule4 a q r s t x y z qr rs st tq (not-true _ e))
+      (by-rule4 a q t s r (reversed y) (reversed x) (proper-sym z) (flip t q tq) (flip s t st) (flip r s rs) (flip q r qr) (not-true _ e))
 
 -- And the other way round
 module _ (p : Problem) (k : Domains) (o : Obeyed (p .items) k) (a u v : ℕ) where
@@ -124,7 +125,7 @@ module _ (p : Problem) (k : Domains) (o : Obeyed (p .items) k) (a u v : ℕ) whe
 pub obeyed-at-rest : (p : Problem) (k : Domains) → Obeyed (p .items) k
     → ((a u v : ℕ) → Proper (p .items) a u v → rule5 p k a u v ≡ true → may-before k a u v ≡ false) → AtRest p k
 unfolding asks asks-before asks-overlap gone
-obeyed-at-rest p k o room = record {
+obeyed-at-rest p k o no-c2 = record {
   done = λ x a u v h s. elim x [
     | zero ↦ λ e. ap not (or-elim (rule1 p k a u v) _ (by-c3 p k o a u v s) (or-elim (rule2 p k a u v) _
         (λ e. fixed-before-says k a u v (by-d2 p k o a u v s e) .0) (λ e. may-overlap-sym k a v u ∙ down a u v s e .0)) e)
@@ -139,4 +140,4 @@ obeyed-at-rest p k o room = record {
     before : (a u v : ℕ) → Proper (p .items) a u v → asks-before p k a u v ≡ true → may-before k a u v ≡ false
     before a u v s =
         or-elim (rule2 p k a v u) _ (λ e. down a u v s e .1)
-        (or-elim (rule3 p k a u v) _ (by-d1 p k o a u v s) (or-elim (rule4 p k a u v) _ (by-g1 p k o a u v s) (room a u v s)))
+        (or-elim (rule3 p k a u v) _ (by-d1 p k o a u v s) (or-elim (rule4 p k a u v) _ (by-g1 p k o a u v s) (no-c2 a u v s)))

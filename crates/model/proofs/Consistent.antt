@@ -11,6 +11,7 @@ use Rattle.model.specs.Clauses.{d2, Obeyed}
 use Rattle.model.proofs.Below.{and-intro, or-left, or-neither, neither-or, some-of, none-at, none-of, clash}
 use Rattle.model.proofs.Slots.{lt-or-gt}
 use Rattle.model.proofs.Domains.{may-overlap-sym, fixed-before-says, fixed-distinct}
+use Rattle.model.proofs.Chain.{Transitive}
 
 -- an item that does not fit, or has no relation left with one below it
 abbrev faulty : Problem → Domains → ℕ → ℕ → Bool
@@ -50,8 +51,7 @@ module _ (p : Problem) (k : Domains) (consistent : inconsistent p k ≡ false) (
       let (o, n) = fixed-before-says k a u v b in
       relation-left p k consistent a u v (omega (arith, fixed-distinct k a u v b)) o m n
 
-  pub before-transitive : Obeyed (p .items) k → (x v u : ℕ) → x < p .items → v < p .items → u < p .items
-      → fixed-before k a x v ≡ true → fixed-before k a v u ≡ true → fixed-before k a x u ≡ true
+  pub before-transitive : Obeyed (p .items) k → Transitive (p .items) (fixed-before k a)
   unfolding says gone fixed-before
   before-transitive obeyed x v u hx hv hu f g =
       let apart : x ≢ u = λ q. before-left x v hx hv f (fixed-before-says k a v x (rw (← q) at g) .1) in

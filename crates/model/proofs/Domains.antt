@@ -1,9 +1,9 @@
--- The accessors: where the relations of two items stand, in either order, and what "fixed" says of them.
+-- The accessors: where the relations of two items are, in either order, what "fixed" says of them, and what a removal writes.
 use Rattle.prelude.specs.Names.{true, false, not, cond, and-comm, _≢_, ⊎-elim, _≡_, refl, sym, _∙_, ap, ℕ, zero, suc, _<_, min, compare, Ordering}
-use Rattle.prelude.specs.Names.{Ordering·lt, Ordering·eq, Ordering·gt, arith, ℕ-discrete, getD, eq-eqb, ne-eqb, le-leb, lt-leb, not-true}
+use Rattle.prelude.specs.Names.{Ordering·lt, Ordering·eq, Ordering·gt, arith, ℕ-discrete, getD, set, eq-eqb, ne-eqb, le-leb, lt-leb, not-true}
 use lib.Dec.{isEq, isLe}
-use Rattle.model.specs.Domains.{Domains, overlap-bit, before-bit, after-bit, index, bit, converse, place, left, struck, may-overlap, may-before}
-use Rattle.model.specs.Domains.{remove-overlap, remove-before, gone, without, fixed-before, fixed-overlap}
+use Rattle.model.specs.Domains.{Domains, domain, overlap-bit, before-bit, after-bit, index, bit, converse, place, left, cleared}
+use Rattle.model.specs.Domains.{may-overlap, may-before, remove-overlap, remove-before, gone, without, fixed-before, fixed-overlap}
 use Rattle.model.proofs.Below.{and-intro, and-both, clash}
 use Rattle.model.proofs.Slots.{lt-or-gt, index-sym, index-up}
 
@@ -53,7 +53,7 @@ module _ (k : Domains) (x a u v : ℕ) where
   unfolding gone may-overlap may-before
   gone-is = elim x [ zero ↦ refl | suc zero ↦ refl | suc (suc x) ↦ ap not (left-converse k (suc (suc x)) a u v) ]
 
-  pub without-is : without k x a u v ≡ struck k x a u v
+  pub without-is : without k x a u v ≡ cleared k x a u v
   unfolding without remove-overlap remove-before
   without-is = elim x [ zero ↦ refl | suc zero ↦ refl | suc (suc x) ↦ rw (place-converse k (suc (suc x)) a u v, index-sym a v u) ]
 
@@ -117,3 +117,24 @@ module _ (k : Domains) (a : ℕ) {u v : ℕ} (h : u < v) where
   pub before-down : may-before k a v u ≡ after-bit (getD k (index a u v) 0)
   unfolding may-before
   before-down = left-converse k 2 a u v ∙ left-up k 2 a h
+
+-- A removal writes one number: what it leaves of the domain m of a pair u < v
+module _ (k : Domains) (a : ℕ) {u v : ℕ} (h : u < v) where
+  abbrev m : ℕ
+  m = getD k (index a u v) 0
+
+  pub remove-before-up : remove-before k a u v ≡ set k (index a u v) (domain (overlap-bit m) false (after-bit m))
+  unfolding remove-before
+  remove-before-up = rw (compare-lt u v h, index-up a h) refl
+
+  pub remove-before-down : remove-before k a v u ≡ set k (index a u v) (domain (overlap-bit m) (before-bit m) false)
+  unfolding remove-before
+  remove-before-down = rw (compare-gt u v h, index-sym a v u, index-up a h) refl
+
+  pub remove-overlap-up : remove-overlap k a u v ≡ set k (index a u v) (domain false (before-bit m) (after-bit m))
+  unfolding remove-overlap
+  remove-overlap-up = rw (compare-lt u v h, index-up a h) refl
+
+  pub remove-overlap-down : remove-overlap k a v u ≡ set k (index a u v) (domain false (before-bit m) (after-bit m))
+  unfolding remove-overlap
+  remove-overlap-down = rw (compare-gt u v h, index-sym a v u, index-up a h) refl

@@ -11,10 +11,10 @@ use Rattle.model.specs.Calls.{budget-spent, no-packing}
 use Rattle.model.specs.Run.{run-end}
 use Rattle.model.specs.Trials.{Triple, trial, problem, xyt, unit, with-budget, trial-right}
 use Rattle.model.specs.Admits.{Sound}
-use Rattle.model.proofs.Below.{all-at}
+use Rattle.model.proofs.Feasible.{all-all}
 use Rattle.model.proofs.Theorems.{infeasible-exactly}
 
--- starts told item by item
+-- starts given item by item
 abbrev at-starts : List Triple → Positions
 at-starts s a u = getD (getD s u []) a 0
 
@@ -41,7 +41,7 @@ two-squares-infeasible = refl
 two-squares-sound : Sound two-squares
 two-squares-sound = record {
   limited = omega arith;
-  positive = λ a u la lu. leb-true _ _ (all-at 2 (λ v. leb 1 (two-squares .size a v)) (all-at 3 (λ b. all-below 2 (λ v. leb 1 (two-squares .size b v))) refl a la) u lu);
+  positive = λ a u la lu. leb-true _ _ (all-all 3 2 (λ b v. leb 1 (two-squares .size b v)) .0 refl a u la lu);
   named = λ o m. absurd (List·Memᴰ·not-nil m);
 }
 
@@ -72,7 +72,7 @@ pub four-ask : rule4 four-in-line (fix-overlap three-overlaps 0 3 0) 0 1 3 ≡ t
 unfolding trial-right three-overlaps
 four-ask = refl
 
--- "A piece that overlaps u taken as standing on the far side of v". On x 0 ends before 1, and 2 overlaps 0: it does not stand past 1
+-- "A piece that overlaps u taken as standing on the far side of v". On x 0 ends before 1, and 2 overlaps 0: it is not past 1
 abbrev pub far-side : Problem
 far-side = problem (trial (xyt 4 2 1) (xyt 2 1 1 ∷ unit ∷ xyt 3 1 1 ∷ []) [] [])
 
@@ -101,6 +101,7 @@ near-sides-left = refl
 
 -- "The last allowed step finds a contradiction and 'none' is reported while a second turn is still due": the second of three steps finds one
 pub second-due :
-    trial-right (trial (xyt 2 1 1) (unit ∷ unit ∷ unit ∷ []) [] (with-budget 2 budget-spent 2 ∷ with-budget 1 no-packing 1 ∷ with-budget 1 no-packing 0 ∷ [])) ≡ true
+    trial-right (trial (xyt 2 1 1) (unit ∷ unit ∷ unit ∷ []) []
+    (with-budget 2 budget-spent 2 ∷ with-budget 1 no-packing 1 ∷ with-budget 1 no-packing 0 ∷ [])) ≡ true
 unfolding trial-right
 second-due = refl

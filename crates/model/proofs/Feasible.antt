@@ -6,16 +6,16 @@ use Rattle.model.specs.Problem.{Problem, Precedence, Positions, EndsBefo
 use Rattle.model.specs.Problem.{ordered-test, apart-on-some-axis, time}
 use Rattle.model.proofs.Below.{and-intro, and-both, or-left, or-right, or-case, all-at, all-of, some-at, some-of, in-at, in-of}
 
-all-all : (m n : ℕ) (f : ℕ → ℕ → Bool) → (all-below m (λ i. all-below n (f i)) ≡ true) ↔ ((i j : ℕ) → i < m → j < n → f i j ≡ true)
+pub all-all : (m n : ℕ) (f : ℕ → ℕ → Bool) → (all-below m (λ i. all-below n (f i)) ≡ true) ↔ ((i j : ℕ) → i < m → j < n → f i j ≡ true)
 all-all m n f = (
   λ e i j li lj. all-at n (f i) (all-at m (λ i. all-below n (f i)) e i li) j lj,
   λ h. all-of m (λ i. all-below n (f i)) (λ i li. all-of n (f i) (λ j lj. h i j li lj)),
 )
 
 module _ (p : Problem) (q : Positions) where
-  apart-so : (u v : ℕ) → (apart-on-some-axis p q u v ≡ true) ↔ ((a : ℕ) × (a < 3) × (EndsBefore p q a u v ⊎ EndsBefore p q a v u))
+  apart-exactly : (u v : ℕ) → (apart-on-some-axis p q u v ≡ true) ↔ ((a : ℕ) × (a < 3) × (EndsBefore p q a u v ⊎ EndsBefore p q a v u))
   unfolding apart-on-some-axis ends-before EndsBefore
-  apart-so u v = (
+  apart-exactly u v = (
     λ e.
         let (a, l, d) = some-at 3 (λ a. ends-before p q a u v || ends-before p q a v u) e in
         (a, l, ⊎-map (leb-true _ _) (leb-true _ _) (or-case (ends-before p q a u v) (ends-before p q a v u) d)),
@@ -33,22 +33,22 @@ module _ (p : Problem) (q : Positions) where
   kept o = ends-before p q time (o .predecessor) (o .successor)
 
   -- the test and the record agree
-  pub feasible-so : (feasible p q ≡ true) ↔ Feasible p q
+  pub feasible-exactly : (feasible p q ≡ true) ↔ Feasible p q
   unfolding feasible inside-test apart-test ordered-test ends-before EndsBefore
-  feasible-so = (
+  feasible-exactly = (
     λ e.
         let (i, r) = and-both (inside-test p q) (apart-test p q && ordered-test p q) e in
         let (c, o) = and-both (apart-test p q) (ordered-test p q) r in
         record {
           inside = λ a u la lu. leb-true _ _ (all-all 3 (p .items) inside .0 i a u la lu);
-          apart = λ u v lu lv d. ⊎-elim (λ s. absurd (d (eqb-true u v s))) (apart-so u v .0)
+          apart = λ u v lu lv d. ⊎-elim (λ s. absurd (d (eqb-true u v s))) (apart-exactly u v .0)
               (or-case (eqb u v) (apart-on-some-axis p q u v) (all-all (p .items) (p .items) clear .0 c u v lu lv));
           ordered = λ x m. leb-true _ _ (in-at kept (p .precedences) o x m);
         },
     λ f. and-intro (all-all 3 (p .items) inside .1 (λ a u la lu. le-leb _ _ (f .inside a u la lu)))
         (and-intro (all-all (p .items) (p .items) clear .1 (λ u v lu lv. elim (ℕ-discrete u v) [
           | yes e ↦ or-left (apart-on-some-axis p q u v) (eq-eqb u v e)
-          | no d ↦ or-right (eqb u v) (apart-so u v .1 (f .apart u v lu lv d))
+          | no d ↦ or-right (eqb u v) (apart-exactly u v .1 (f .apart u v lu lv d))
         ]))
         (in-of kept (p .precedences) (λ x m. le-leb _ _ (f .ordered x m)))),
   )

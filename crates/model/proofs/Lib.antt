@@ -1,4 +1,4 @@
--- Each module stands behind those that it cites. Theorems has what it all comes to; Examples tries the definitions.
+-- Each module comes after those that it cites. Theorems has what it all comes to; Examples tries the definitions.
 pub mod Below
 pub mod Feasible
 pub mod Order
@@ -10,10 +10,9 @@ pub mod Monotone
 pub mod Without
 pub mod Pass
 pub mod Propagate
-pub mod Chains
+pub mod GreatestChains
 pub mod Consistent
 pub mod Sound
-pub mod Removal
 pub mod Admits
 pub mod Asks
 pub mod Fork
@@ -28,7 +27,6 @@ pub mod Run
 pub mod Calls
 pub mod Lists
 pub mod Search
-pub mod Written
 pub mod Obeys
 pub mod Untouched
 pub mod Toward

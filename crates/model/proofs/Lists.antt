@@ -62,27 +62,27 @@ module _ {S C X P : Type 0} (M : Machine S) (Follows : S → Type 0) (ι : Invar
   pub held-is : (cs : List C) → held w cs ≡ w .hold (at (budget-sum w cs))
   held-is cs = rw zero-add at (whole cs .checkpoint)
 
-  past : (s : ℕ) → count ≤ s → at s ≡ at count
-  past s = past-count M (M .opening) count s k
+  past-the-count : (s : ℕ) → count ≤ s → at s ≡ at count
+  past-the-count s = past-count M (M .opening) count s k
 
   lesser : (s : ℕ) → at s ≡ at (min s count)
   lesser s = elim (decLt s count) [
     | yes h ↦ let e : min s count ≡ s = omega arith in rw e
-    | no h ↦ let e : min s count ≡ count = omega arith in rw e (past s (omega arith))
+    | no h ↦ let e : min s count ≡ count = omega arith in rw e (past-the-count s (omega arith))
   ]
 
   spent-when : (s : ℕ) → (status-number (M .status (at s)) ≡ 0) ↔ (s < count)
   spent-when s = (
     elim (decLt s count) [
       | yes h ↦ λ e. h
-      | no h ↦ λ e. absurd (ended-not-zero (M .status (at count)) (k .finished) (rw (past s (omega arith)) at e))
+      | no h ↦ λ e. absurd (ended-not-zero (M .status (at count)) (k .finished) (rw (past-the-count s (omega arith)) at e))
     ],
     λ h. ap status-number (running-is (M .status (at s)) (k .before s h)),
   )
 
   -- a call after a list is refused and the note stays, or it answers as the run after so many steps
-  right : (earlier : List C) (c : C) → Right M w count earlier c
-  right earlier c = elim (call-at (budget-sum w earlier) c) [
+  call-right : (earlier : List C) (c : C) → Right M w count earlier c
+  call-right earlier c = elim (call-at (budget-sum w earlier) c) [
     | call-refused a l e ↦
         let r : 100 ≤ returned-code w earlier c = rw (returned-code, held-is earlier) l in
         record {
@@ -103,8 +103,8 @@ module _ {S C X P : Type 0} (M : Machine S) (Follows : S → Type 0) (ι : Invar
           not-refused = ((λ h. a), (λ h. l));
           unchanged = λ h. absurd (omega arith);
           spent = λ h. rw code (spent-when there);
-          answer = λ h g. code ∙ rw (past there g);
-          plan = λ h g. plan ∙ rw (past there g);
+          answer = λ h g. code ∙ rw (past-the-count there g);
+          plan = λ h g. plan ∙ rw (past-the-count there g);
           no-plan = λ h n. plan ∙ unplanned w c (at there) (M .status (at there)) (λ e. n (code ∙ e));
         }
   ]
@@ -114,7 +114,7 @@ module _ {S C X P : Type 0} (M : Machine S) (Follows : S → Type 0) (ι : Invar
   claim calls = record {
     checkpoint = held-is calls ∙ ap (w .hold) (lesser (budget-sum w calls));
     total = omega (arith, whole calls .total);
-    each = λ earlier c later e. right earlier c;
+    each = λ earlier c later e. call-right earlier c;
   }
 
 -- where every call is refused with one number, and leaves the note

@@ -89,22 +89,22 @@ module _ {S : Type 0} (M : Machine S) where
 
 -- i steps, each on an open state
 pub data Way {S : Type 0} (M : Machine S) : ℕ → S → S → Type 0 where
-  here : {κ : S} → Way M zero κ κ
-  on : {i : ℕ} {κ μ : S} → Open M κ → Way M i (M .step κ) μ → Way M (suc i) κ μ
+  no-steps : {κ : S} → Way M zero κ κ
+  step-then : {i : ℕ} {κ μ : S} → Open M κ → Way M i (M .step κ) μ → Way M (suc i) κ μ
 
 module _ {S : Type 0} (M : Machine S) where
   pub join : {i j : ℕ} {κ μ ξ : S} → Way M i κ μ → Way M j μ ξ → Way M (i + j) κ ξ
-  join here q = rw zero-add q
-  join (on e p) q = rw suc-add (on e (join p q))
+  join no-steps q = rw zero-add q
+  join (step-then e p) q = rw suc-add (step-then e (join p q))
 
   pub way-ends : {i : ℕ} {κ μ : S} → Way M i κ μ → steps M i κ ≡ μ
-  way-ends here = refl
-  way-ends (on {i} {κ} {μ} o p) = steps-open M i κ o ∙ way-ends p
+  way-ends no-steps = refl
+  way-ends (step-then {i} {κ} {μ} o p) = steps-open M i κ o ∙ way-ends p
 
   way-open : {i : ℕ} {κ μ : S} → Way M i κ μ → (j : ℕ) → j < i → Open M (steps M j κ)
-  way-open here j h = absurd (not-suc-le-zero h)
-  way-open (on o p) zero h = o
-  way-open (on {i} {κ} {μ} o p) (suc j) h = subst (Open M) (sym (steps-open M j κ o)) (way-open p j (le-of-suc-le-suc h))
+  way-open no-steps j h = absurd (not-suc-le-zero h)
+  way-open (step-then o p) zero h = o
+  way-open (step-then {i} {κ} {μ} o p) (suc j) h = subst (Open M) (sym (steps-open M j κ o)) (way-open p j (le-of-suc-le-suc h))
 
   -- a way to a finished state counts the steps
   pub way-counts : {i : ℕ} {κ μ : S} → Finished M μ → Way M i κ μ → Count M κ i

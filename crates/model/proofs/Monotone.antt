@@ -5,7 +5,7 @@ use Rattle.model.specs.Domains.{Domains, index-of, place, left, gone, ma
 use Rattle.model.specs.Rules.{ending, starting, greatest-ending, greatest-starting, rule1, rule2, rule3, rule4, rule5, asks-overlap}
 use Rattle.model.specs.Rules.{asks-before, asks}
 use Rattle.model.specs.Order.{_⊑_}
-use Rattle.model.proofs.Below.{Implies, same, and-mono, or-mono, not-mono, some-mono, all-mono, ltb-mono}
+use Rattle.model.proofs.Below.{Implies, implies-refl, and-mono, or-mono, not-mono, some-mono, all-mono, ltb-mono}
 use Rattle.model.proofs.Domains.{gone-is}
 use Rattle.model.proofs.Ends.{joined-mono}
 use Rattle.model.proofs.Chain.{longest-mono, back-mono, front-mono}
@@ -44,7 +44,7 @@ module _ (k j : Domains) (h : k ⊑ j) where
 
     overlap-asked : (u v : ℕ) → Implies (asks-overlap p j a u v) (asks-overlap p k a u v)
     unfolding asks-overlap rule1 rule2
-    overlap-asked u v = search (or-mono, all-mono, some-mono, and-mono, same, fixed-before-mono, fixed-overlap-mono) depth 9
+    overlap-asked u v = search (or-mono, all-mono, some-mono, and-mono, implies-refl, fixed-before-mono, fixed-overlap-mono) depth 9
 
     before-asked : (u v : ℕ) → Implies (asks-before p j a u v) (asks-before p k a u v)
     unfolding asks-before rule2 rule3 rule4 rule5

@@ -3,7 +3,7 @@ use Rattle.prelude.specs.Names.{Bool, true, false, cond, _≢_, _≡_, refl, sy
 use Rattle.prelude.specs.Names.{eqb-true}
 use Rattle.model.specs.Domains.{Domains, domain, overlap-bit, before-bit, after-bit, bit, clear}
 use Rattle.model.specs.Order.{WellFormed, Subdomain, _⊑_}
-use Rattle.model.proofs.Below.{Implies, same, none, past-three, below-three, all-at, clash}
+use Rattle.model.proofs.Below.{Implies, implies-refl, implies-false, past-three, below-three, all-at, clash}
 
 -- The three bits of a domain made of three tests, and that it is a small number
 bits-of : (o f b : Bool) → let m = domain o f b in (overlap-bit m ≡ o) × (before-bit m ≡ f) × (after-bit m ≡ b) × (m < 8)
@@ -40,8 +40,8 @@ unfolding domain overlap-bit before-bit after-bit
 domain-le m x y z f g h = omega (arith, bit-le 1 (m % 2) x f, bit-le 2 (m / 2 % 2) y g, bit-le 4 (m / 4 % 2) z h)
 
 -- A domain without one of its bits
-pub cleared : (y m : ℕ) → y < 3 → bit y (clear y m) ≡ false
-cleared y m = below-three (λ y. bit y (clear y m) ≡ false) (overlap-bit-of _ _ _) (before-bit-of _ _ _) (after-bit-of _ _ _) y
+pub clear-same : (y m : ℕ) → y < 3 → bit y (clear y m) ≡ false
+clear-same y m = below-three (λ y. bit y (clear y m) ≡ false) (overlap-bit-of _ _ _) (before-bit-of _ _ _) (after-bit-of _ _ _) y
 
 pub clear-other : (z y m : ℕ) → z ≢ y → bit z (clear y m) ≡ bit z m
 clear-other z y m =
@@ -73,7 +73,7 @@ sub-by {m} {j} ho hf hb = record { bits = past-three (λ y. Implies (bit y m) (b
 
 pub sub-zero : (m : ℕ) → Subdomain 0 m
 unfolding overlap-bit before-bit after-bit
-sub-zero m = sub-by none none none
+sub-zero m = sub-by implies-false implies-false implies-false
 
 pub sub-of : (m : ℕ) {o f b : Bool} → Implies o (overlap-bit m) → Implies f (before-bit m) → Implies b (after-bit m) → Subdomain (domain o f b) m
 sub-of m ho hf hb = sub-by (simp overlap-bit-of ho) (simp before-bit-of hf) (simp after-bit-of hb)
@@ -89,7 +89,8 @@ implies-eq {a = false} {b = false} f g = refl
 -- Clearing a bit takes away no other
 pub clear-less : (y m : ℕ) → Subdomain (clear y m) m
 clear-less y m =
-    past-three (λ y. Subdomain (clear y m) m) (sub-of m none same same) (sub-of m same none same) (sub-of m same same none) (λ y. sub-refl m) y
+    past-three (λ y. Subdomain (clear y m) m) (sub-of m implies-false implies-refl implies-refl)
+    (sub-of m implies-refl implies-false implies-refl) (sub-of m implies-refl implies-refl implies-false) (λ y. sub-refl m) y
 
 pub clear-above : (y : ℕ) {m j : ℕ} → Subdomain j m → bit y j ≡ false → Subdomain j (clear y m)
 clear-above y {m} {j} r e = record { bits = λ z d. clear-other z y m (λ q. clash d (rw q e)) ∙ r .bits z d }

@@ -11,16 +11,16 @@ use Rattle.model.proofs.Asks.{not-before, ask-c2}
 use Rattle.model.proofs.Slots.{lt-or-gt, pairs-at}
 use Rattle.model.proofs.Domains.{fixed-distinct}
 use Rattle.model.proofs.Ends.{joined-mono, joined-ends}
-use Rattle.model.proofs.Chains.{greatest-ending-size, greatest-starting-size, greatest-ending-bound, greatest-starting-bound}
-use Rattle.model.proofs.Chains.{greatest-ending-step}
+use Rattle.model.proofs.GreatestChains.{greatest-ending-size, greatest-starting-size, greatest-ending-bound, greatest-starting-bound}
+use Rattle.model.proofs.GreatestChains.{greatest-ending-step}
 use Rattle.model.proofs.Clauses.{rest-obeyed}
 use Rattle.model.proofs.Consistent.{size-fits, before-irreflexive, before-left, before-transitive}
 
 module _ (p : Problem) (k : Domains) (rest : AtRest p k) (consistent : inconsistent p k ≡ false) where
-  -- two chains where one goes on with the other have room: rule 5 at rest
-  room : (a u v : ℕ) → a < 3 → u < p .items → v < p .items → fixed-before k a u v ≡ true
+  -- two chains where one goes on with the other fit the container: rule 5 at rest
+  joined-fits : (a u v : ℕ) → a < 3 → u < p .items → v < p .items → fixed-before k a u v ≡ true
       → joined p a u v (greatest-ending p k a u) (greatest-starting p k a v) ≤ p .capacity a
-  room a u v ha hu hv b = elim (decLe (joined p a u v (greatest-ending p k a u) (greatest-starting p k a v)) (p .capacity a)) [
+  joined-fits a u v ha hu hv b = elim (decLe (joined p a u v (greatest-ending p k a u) (greatest-starting p k a v)) (p .capacity a)) [
     | yes h ↦ h
     | no h ↦ let s : Proper (p .items) a u v = omega (arith, fixed-distinct k a u v b) in
         absurd (before-left p k consistent a ha u v hu hv b (not-before rest a u v s (ask-c2 p k a u v (omega arith))))
@@ -30,12 +30,12 @@ module _ (p : Problem) (k : Domains) (rest : AtRest p k) (consistent : inconsist
   pub chain-fits : (a v : ℕ) → a < 3 → v < p .items → greatest-ending p k a v ≤ p .capacity a
   chain-fits a v ha hv =
       greatest-ending-bound p k a v (p .capacity a) hv (size-fits p k consistent a v ha hv)
-      (λ u hu b. le-trans (joined-mono p a u v (le-refl _) (greatest-starting-size p k a v)) (room a u v ha hu hv b))
+      (λ u hu b. le-trans (joined-mono p a u v (le-refl _) (greatest-starting-size p k a v)) (joined-fits a u v ha hu hv b))
 
   pub starting-fits : (a v : ℕ) → a < 3 → v < p .items → greatest-starting p k a v ≤ p .capacity a
   starting-fits a v ha hv =
       greatest-starting-bound p k a v (p .capacity a) hv (size-fits p k consistent a v ha hv)
-      (λ u hu b. le-trans (joined-mono p a v u (greatest-ending-size p k a v) (le-refl _)) (room a v u ha hv hu b))
+      (λ u hu b. le-trans (joined-mono p a v u (greatest-ending-size p k a v) (le-refl _)) (joined-fits a v u ha hv hu b))
 
   -- where "before" is fixed, the starts keep it
   pub starts-before : (a u v : ℕ) → a < 3 → u < p .items → v < p .items → fixed-before k a u v ≡ true → EndsBefore p (starts p k) a u v

@@ -13,9 +13,8 @@ use Rattle.model.proofs.Below.{and-intro}
 use Rattle.model.proofs.Slots.{proper-sym, proper-wide}
 use Rattle.model.proofs.Order.{below-refl, below-trans}
 use Rattle.model.proofs.Monotone.{gone-mono, fixed-before-mono}
-use Rattle.model.proofs.Without.{without-less, without-well-formed, without-gone}
+use Rattle.model.proofs.Without.{without-less, without-well-formed, without-gone, fix-before-less, fix-before-well-formed}
 use Rattle.model.proofs.Propagate.{propagate-less, propagate-well-formed, propagate-at-rest}
-use Rattle.model.proofs.Removal.{fix-before-less, fix-before-well-formed}
 use Rattle.model.proofs.Sound.{propagate-admits}
 use Rattle.model.proofs.Admits.{full-well-formed, opening-well-formed, opening-admits}
 use Rattle.model.proofs.Fork.{choice-fork, branched-less, branched-well-formed, fork-split}
@@ -78,24 +77,25 @@ module _ (p : Problem) where
   path-opening (b ∷ path) = below-trans (path-domains p (b ∷ path)) (path-domains p path) (opening-domains p) (path-less b path) (path-opening path)
 
 module _ (p : Problem) (sound : Sound p) (path : List Branch) where
-  pub path-at-rest : AtRest p (path-domains p path)
+  abbrev k : Domains
+  k = path-domains p path
+
+  pub path-at-rest : AtRest p k
   path-at-rest = let (k, w, e) = propagated p path in rw e (propagate-at-rest p (sound .limited) k w)
 
   -- a packed path's plan is feasible
-  pub plan-feasible : inconsistent p (path-domains p path) ≡ false → packed p (path-domains p path) ≡ true → Feasible p (plan p path)
+  pub plan-feasible : inconsistent p k ≡ false → packed p k ≡ true → Feasible p (plan p path)
   unfolding plan opening-domains
-  plan-feasible consistent done = packed-feasible p (path-domains p path) path-at-rest consistent sound done (λ o m.
-      fixed-before-mono (path-domains p path) (opening-domains p) (path-opening p path) time (o .predecessor) (o .successor)
+  plan-feasible consistent done = packed-feasible p k path-at-rest consistent sound done (λ o m.
+      fixed-before-mono k (opening-domains p) (path-opening p path) time (o .predecessor) (o .successor)
       (precedences-fixed (p .precedences) full-domains full-well-formed (λ x n. proper-wide (omega (arith, sound .limited)) (sound .named x n)) o m))
 
   -- a path neither inconsistent nor packed has a place to branch; each branch lowers the weight
-  pub path-fork : inconsistent p (path-domains p path) ≡ false → packed p (path-domains p path) ≡ false → Fork p (path-domains p path) (choice (path-domains p path))
-  path-fork consistent unpacked = choice-fork p (path-domains p path) path-at-rest consistent (sound .limited) unpacked
+  pub path-fork : inconsistent p k ≡ false → packed p k ≡ false → Fork p k (choice k)
+  path-fork consistent unpacked = choice-fork p k path-at-rest consistent (sound .limited) unpacked
 
-  pub path-weight : Fork p (path-domains p path) (choice (path-domains p path)) → (b : Branch)
-      → weight p (path-domains p (b ∷ path)) < weight p (path-domains p path)
+  pub path-weight : Fork p k (choice k) → (b : Branch) → weight p (path-domains p (b ∷ path)) < weight p k
   path-weight f b =
-      let k = path-domains p path in
       rw path-branch (omega (
         arith,
         weight-mono p (propagate p (branched k b)) (branched k b) (propagate-less p (branched k b)),
@@ -104,13 +104,10 @@ module _ (p : Problem) (sound : Sound p) (path : List Branch) where
 
   -- what a path admits one of its branches admits
   module _ (q : Positions) (feasible : Feasible p q) where
-    pub path-split : Fork p (path-domains p path) (choice (path-domains p path)) → Admits p (path-domains p path) q
+    pub path-split : Fork p k (choice k) → Admits p k q
         → Admits p (path-domains p (first ∷ path)) q ⊎ Admits p (path-domains p (second ∷ path)) q
     path-split f α = ⊎-map (on first) (on second) (fork-split p sound q k (path-well-formed p path) α f)
       where
-        k : Domains
-        k = path-domains p path
-
         on : (b : Branch) → Admits p (branched k b) q → Admits p (path-domains p (b ∷ path)) q
         on b β = rw path-branch (propagate-admits p sound q feasible (branched k b) (branched-well-formed k b (path-well-formed p path)) β)
 

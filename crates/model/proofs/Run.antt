@@ -6,7 +6,7 @@ use Rattle.model.specs.Machine.{Open, steps, Count, Invariant}
 use Rattle.model.specs.Search.{Outlook, conflict, complete, fork, Checkpoint, open-at, infeasible, packed-at, backtrack, act, step, searching}
 use Rattle.model.specs.Search.{opening, Forking, Follows, is-fork, is-complete, forking, follows, path-count, Laws}
 use Rattle.model.proofs.Below.{and-intro, and-both}
-use Rattle.model.proofs.Machine.{Way, here, on, join, way-ends, way-counts, steps-keep}
+use Rattle.model.proofs.Machine.{Way, no-steps, step-then, join, way-ends, way-counts, steps-keep}
 
 module _ (look : List Branch → Outlook) where
   -- a checkpoint that follows does so one step on
@@ -32,15 +32,15 @@ module _ (look : List Branch → Outlook) where
   steps-follow = steps-keep (searching look) (Follows look) follows-invariant
 
   -- the tests agree with what they test
-  fork-so : (o : Outlook) → (is-fork o ≡ true) ↔ (o ≡ fork)
-  fork-so o = (
+  fork-exactly : (o : Outlook) → (is-fork o ≡ true) ↔ (o ≡ fork)
+  fork-exactly o = (
     elim o as (λ o. is-fork o ≡ true → o ≡ fork)
         [ conflict ↦ λ e. absurd (false≢true e) | complete ↦ λ e. absurd (false≢true e) | fork ↦ λ e. refl ],
     λ e. ap is-fork e,
   )
 
-  complete-so : (o : Outlook) → (is-complete o ≡ true) ↔ (o ≡ complete)
-  complete-so o = (
+  complete-exactly : (o : Outlook) → (is-complete o ≡ true) ↔ (o ≡ complete)
+  complete-exactly o = (
     elim o as (λ o. is-complete o ≡ true → o ≡ complete)
         [ conflict ↦ λ e. absurd (false≢true e) | complete ↦ λ e. refl | fork ↦ λ e. absurd (false≢true e) ],
     λ e. ap is-complete e,
@@ -49,16 +49,16 @@ module _ (look : List Branch → Outlook) where
   pub forking-so : (path : List Branch) → (forking look path ≡ true) ↔ Forking look path
   forking-so [] = ((λ e. tt), (λ e. refl))
   forking-so (b ∷ path) = (
-    (λ e. let (f, r) = and-both (is-fork (look path)) (forking look path) e in (fork-so (look path) .0 f, forking-so path .0 r)),
-    (λ l. and-intro (fork-so (look path) .1 (l .0)) (forking-so path .1 (l .1))),
+    (λ e. let (f, r) = and-both (is-fork (look path)) (forking look path) e in (fork-exactly (look path) .0 f, forking-so path .0 r)),
+    (λ l. and-intro (fork-exactly (look path) .1 (l .0)) (forking-so path .1 (l .1))),
   )
 
-  pub follows-so : (κ : Checkpoint) → (follows look κ ≡ true) ↔ Follows look κ
-  follows-so (open-at path) = forking-so path
-  follows-so infeasible = ((λ e. tt), (λ e. refl))
-  follows-so (packed-at path) = (
-    (λ e. let (r, f) = and-both (forking look path) (is-complete (look path)) e in (forking-so path .0 r, complete-so (look path) .0 f)),
-    (λ l. and-intro (forking-so path .1 (l .0)) (complete-so (look path) .1 (l .1))),
+  pub follows-exactly : (κ : Checkpoint) → (follows look κ ≡ true) ↔ Follows look κ
+  follows-exactly (open-at path) = forking-so path
+  follows-exactly infeasible = ((λ e. tt), (λ e. refl))
+  follows-exactly (packed-at path) = (
+    (λ e. let (r, f) = and-both (forking look path) (is-complete (look path)) e in (forking-so path .0 r, complete-exactly (look path) .0 f)),
+    (λ l. and-intro (forking-so path .1 (l .0)) (complete-exactly (look path) .1 (l .1))),
   )
 
 -- i steps of the search
@@ -68,7 +68,7 @@ Goes look i κ μ = Way (searching look) i κ μ
 module _ (look : List Branch → Outlook) where
   -- one step more in front, by what the path shows
   ahead : (o : Outlook) {i : ℕ} {path : List Branch} {κ : Checkpoint} → look path ≡ o → Goes look i (act o path) κ → Goes look (suc i) (open-at path) κ
-  ahead o {i} {path} {κ} e w = on tt (subst (λ (x : Outlook). Goes look i (act x path) κ) (sym e) w)
+  ahead o {i} {path} {κ} e w = step-then tt (subst (λ (x : Outlook). Goes look i (act x path) κ) (sym e) w)
 
   module _ {X : Type 0} {Admits : List Branch → X → Type 0} {weight : List Branch → ℕ} (L : Laws look X Admits weight) where
     -- in at most c steps the search leaves the path behind with nothing in it, or ends in it
@@ -80,11 +80,12 @@ module _ (look : List Branch → Outlook) where
       forked : look path ≡ fork → Leaves d (first ∷ path) → Leaves d (second ∷ path) → Leaves c path
       forked e (found p m) _ = found (ahead fork e p) (omega arith)
       forked e (empty p m f) (found p′ m′) = found (ahead fork e (join (searching look) p p′)) (omega arith)
-      forked e (empty p m f) (empty p′ m′ g) = empty (ahead fork e (join (searching look) p p′)) (omega arith) (λ x a. ⊎-elim (f x) (g x) (L .fork-splits path l e x a))
+      forked e (empty p m f) (empty p′ m′ g) =
+          empty (ahead fork e (join (searching look) p p′)) (omega arith) (λ x a. ⊎-elim (f x) (g x) (L .fork-splits path l e x a))
 
       leave-by : (o : Outlook) → look path ≡ o → (look path ≡ fork → (b : Branch) → Leaves d (b ∷ path)) → Leaves c path
-      leave-by conflict e ih = empty (ahead conflict e here) (omega arith) (L .conflict-admits-none path l e)
-      leave-by complete e ih = found (ahead complete e here) (omega arith)
+      leave-by conflict e ih = empty (ahead conflict e no-steps) (omega arith) (L .conflict-admits-none path l e)
+      leave-by complete e ih = found (ahead complete e no-steps) (omega arith)
       leave-by fork e ih = forked e (ih e first) (ih e second)
 
     leave : (w : ℕ) (path : List Branch) → Forking look path → weight path ≤ w → Leaves (path-count w) path

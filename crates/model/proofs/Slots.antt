@@ -1,4 +1,4 @@
--- Where each pair and axis stands: the table's number of a pair, and the index of a domain.
+-- Where each pair and axis is: the table's number of a pair, and the index of a domain.
 use Rattle.prelude.specs.Names.{Bool, true, _&&_, List, _⊎_, inl, inr, _≢_, _≡_, refl, sym, _∙_, ap, ap₂, ℕ, suc, _+_, _*_, _/_, _%_, _≤_, _<_, min}
 use Rattle.prelude.specs.Names.{max, decLt, arith, ltb, leb, eqb, getD, length, set-getD, getD-set-same, eqb-true, ltb-true, leb-true}
 use Rattle.model.specs.Below.{all-below}

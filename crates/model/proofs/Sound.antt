@@ -14,7 +14,7 @@ use Rattle.model.proofs.Slots.{proper-sym, proper-up}
 use Rattle.model.proofs.Consistent.{consistent-of}
 use Rattle.model.proofs.Domains.{gone-is, fixed-before-says, fixed-overlap-says, before-distinct, overlap-distinct}
 use Rattle.model.proofs.Ends.{ends?, ends-trans, ends-asym, ends-cross, joined-room, joined-from}
-use Rattle.model.proofs.Chains.{greatest-ending-within, greatest-starting-within}
+use Rattle.model.proofs.GreatestChains.{greatest-ending-within, greatest-starting-within}
 use Rattle.model.proofs.Pass.{pass-well-formed, left-pass}
 use Rattle.model.proofs.Propagate.{propagate-keeps}
 
@@ -104,7 +104,8 @@ module _ (p : Problem) (sound : Sound p) (q : Positions) (feasible : Feasible p 
   starting-room : (a u : ℕ) → a < 3 → u < p .items → greatest-starting p k a u ≤ p .capacity a - q a u
   starting-room a u ha hu =
       greatest-starting-within p k a (λ x. p .capacity a - q a x) (λ x hx. omega (arith, feasible .inside a x ha hx))
-      (λ v w y hv hw b h. omega (arith, joined-from p q a v w y (p .capacity a) (fixed-before-holds ha hv hw b) (omega (arith, feasible .inside a w ha hw)))) u hu
+      (λ v w y hv hw b h.
+      omega (arith, joined-from p q a v w y (p .capacity a) (fixed-before-holds ha hv hw b) (omega (arith, feasible .inside a w ha hw)))) u hu
 
   rule5-sound : (a u v : ℕ) → Proper (p .items) a u v → rule5 p k a u v ≡ true → EndsBefore p q a u v → ⊥
   unfolding rule5

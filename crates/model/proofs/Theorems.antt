@@ -12,23 +12,24 @@ use Rattle.model.specs.Search.{fork, Checkpoint, open-at, infeasible, pa
 use Rattle.model.specs.Calls.{budget-spent, packing, answer-at}
 use Rattle.model.specs.Lists.{Service, Serves, Claim}
 use Rattle.model.specs.Run.{look, machine, plan-at, search, path-limit, run-end, step-count}
-use Rattle.model.proofs.Feasible.{feasible-so}
+use Rattle.model.proofs.Feasible.{feasible-exactly}
 use Rattle.model.proofs.Propagate.{propagate-at-rest, between-rest}
 use Rattle.model.proofs.Sound.{propagate-admits}
 use Rattle.model.proofs.Weight.{weight-bound}
 use Rattle.model.proofs.Path.{plan-feasible}
 use Rattle.model.proofs.Removals.{any-order, one-propagation}
 use Rattle.model.proofs.Machine.{steps-add, taken-add, finished-stays, finished-takes-none, past-count, count-unique}
-use Rattle.model.proofs.Run.{follows-invariant, steps-follow, follows-so, path-bound, fork-bound}
+use Rattle.model.proofs.Run.{follows-invariant, steps-follow, path-bound, fork-bound}
 use Rattle.model.proofs.Calls.{spent-takes-all}
 use Rattle.model.proofs.Lists.{claim}
 use Rattle.model.proofs.Search.{look-complete, search-laws, limit-270, ended, count-is}
+use Rattle.model.proofs.Run as Run
 
 -- Document 01, "Fit"
 
 -- the test of a plan says yes exactly when it fits
 pub feasible-test : (p : Problem) (q : Positions) → (feasible p q ≡ true) ↔ Feasible p q
-feasible-test = feasible-so
+feasible-test = feasible-exactly
 
 -- the starts of a plan that fits lie in the container
 pub starts-within : (p : Problem) → Sound p → (q : Positions) → Feasible p q → (a u : ℕ) → a < 3 → u < p .items → q a u < p .capacity a
@@ -81,7 +82,7 @@ module _ (p : Problem) (σ : Sound p) where
   pub one-count : (c : ℕ) → Count (machine p) opening c → c ≡ step-count p
   one-count c k = count-unique (machine p) opening c (step-count p) k counted
 
-  -- "takes steps from the opening note until the note is finished": the run is where the search stands after so many steps, or more
+  -- "takes steps from the opening note until the note is finished": the run is where the search is after that many steps, or more
   pub run-after : (i : ℕ) → step-count p ≤ i → steps (machine p) i opening ≡ run-end p
   unfolding run-end
   run-after i h =
@@ -118,7 +119,8 @@ module _ (p : Problem) (σ : Sound p) where
       go (packed-at path) f e = let z : plan p path ≡ q = cc in subst (Feasible p) z (packed-feasible path f)
 
   -- the claim about a whole list of calls, for whoever serves each call by the search: "After every list on a sheet that isn't refused"
-  pub every-list : {C X P : Type 0} (w : Service Checkpoint C X P) → Serves (machine p) w (Follows (look p)) → (calls : List C) → Claim (machine p) w (step-count p) calls
+  pub every-list : {C X P : Type 0} (w : Service Checkpoint C X P) → Serves (machine p) w (Follows (look p)) → (calls : List C)
+      → Claim (machine p) w (step-count p) calls
   every-list w υ = claim (machine p) (Follows (look p)) (follows-invariant (look p)) w υ (step-count p) counted
 
 module _ (p : Problem) where
@@ -144,4 +146,4 @@ module _ (p : Problem) where
 
   -- the test of a checkpoint says yes exactly when it follows
   pub follows-exactly : (κ : Checkpoint) → (follows (look p) κ ≡ true) ↔ Follows (look p) κ
-  follows-exactly = follows-so (look p)
+  follows-exactly = Run.follows-exactly (look p)

@@ -1,6 +1,6 @@
--- Rule 5 inside the event loop. A table under the chains of every goal stays so as its numbers go on along links, and what it finds too long no
+-- Rule 5 inside the event loop. A table under the chains of every goal stays under them as its numbers go on along links, and what it finds too long no
 -- goal has. Where nothing is pending, the domains are the propagation and the table is exact.
-use Rattle.prelude.specs.Names.{true, false, _⊎_, inl, inr, ⊎-elim, ⊎-map, _≡_, sym, _∙_, ℕ, zero, suc, _≤_, _<_, le-refl, le-trans, arith, ltb-true}
+use Rattle.prelude.specs.Names.{true, false, _⊎_, inl, inr, ⊎-elim, ⊎-map, _≡_, sym, _∙_, ℕ, _≤_, _<_, le-refl, le-trans, arith, ltb-true}
 use Rattle.prelude.specs.Names.{not-true}
 use Rattle.model.specs.Problem.{Problem}
 use Rattle.model.specs.Domains.{Domains, may-before}
@@ -16,8 +16,8 @@ use Rattle.model.proofs.Below.{stays, clash}
 use Rattle.model.proofs.Order.{implies-eq, below-eq}
 use Rattle.model.proofs.Ends.{joined-mono}
 use Rattle.model.proofs.Monotone.{greatest-ending-mono, greatest-starting-mono}
-use Rattle.model.proofs.Chains.{greatest-ending-size, greatest-starting-size, greatest-ending-step, greatest-starting-step}
-use Rattle.model.proofs.Chains.{greatest-ending-within, greatest-starting-within}
+use Rattle.model.proofs.GreatestChains.{greatest-ending-size, greatest-starting-size, greatest-ending-step, greatest-starting-step}
+use Rattle.model.proofs.GreatestChains.{greatest-ending-within, greatest-starting-within}
 use Rattle.model.proofs.Pass.{at-rest-rests}
 use Rattle.model.proofs.Propagate.{propagate-well-formed, propagate-at-rest, propagate-less, propagate-greatest, inconsistent-mono}
 use Rattle.model.proofs.Asks.{ask-c2}
@@ -26,13 +26,7 @@ use Rattle.model.proofs.Clauses.{rest-obeyed, obeyed-at-rest}
 use Rattle.model.proofs.Untouched.{propagate-untouched, linked-proper}
 use Rattle.model.proofs.Consistent.{before-irreflexive, before-transitive}
 use Rattle.model.proofs.Packed.{chain-fits, starting-fits}
-
--- what holds for both directions
-pub by-direction : (P : ℕ → Type 0) → P 1 → P 2 → (x : ℕ) → Direction x → P x
-by-direction P f g zero d = absurd (omega (arith, d .least))
-by-direction P f g (suc zero) d = f
-by-direction P f g (suc (suc zero)) d = g
-by-direction P f g (suc (suc (suc x))) d = absurd (omega (arith, d .most))
+pub use Rattle.model.proofs.Clauses.{by-direction}
 
 -- a longer chain makes a longer one
 extended-mono : (p : Problem) (a x v z : ℕ) → Direction x → {m n : ℕ} → m ≤ n → extended x p a v z m ≤ extended x p a v z n
@@ -70,10 +64,6 @@ module _ (p : Problem) (f : Domains) (goal : Goal p f) where
         (λ l. greatest-ending-step p f a trans irreflexive v z hv hz (sym (forced-before-is f a v z) ∙ l)) x d
         (holds-mono f k h (of (forced x) a v z) l))
 
-    pub under-link-fit : (k : Domains) → f ⊑ k → (x a v z : ℕ) → Direction x → a < 3 → v < p .items → z < p .items → Linked x k a v z
-        → extended x p a v z (t x a v) ≤ p .capacity a
-    under-link-fit k h x a v z d ha hv hz l = le-trans (under-link k h x a v z d ha hv hz l) (goal-fits x a z d ha hz)
-
     -- what the table finds too long is not in the goal
     pub under-cut : (a u v : ℕ) → Proper (p .items) a u v → p .capacity a < joined p a u v (t 2 a u) (t 1 a v) → gone f 1 a u v ≡ true
     unfolding gone
@@ -98,20 +88,20 @@ module _ (p : Problem) (limited : p .items ≤ 10) (k : Domains) (w : WellFormed
 
 -- A table closed along every link bounds the greatest chains, in any domains: no strict order, no consistency
 module _ (p : Problem) (k : Domains) (t : Table) (c : Closed p k t) where
-  sure : {A : Type 0} → A ⊎ ⊥ → A
-  sure = ⊎-elim (λ x. x) (λ x. absurd x)
+  without-⊥ : {A : Type 0} → A ⊎ ⊥ → A
+  without-⊥ = ⊎-elim (λ x. x) (λ x. absurd x)
 
-  on : (x a v z m : ℕ) → Direction x → a < 3 → v < p .items → z < p .items → Linked x k a v z → m ≤ t x a v → extended x p a v z m ≤ t x a z
-  on x a v z m d ha hv hz l h =
-      le-trans (extended-mono p a x v z d h) (sure (c .on x a v z d (linked-proper (p .items) x k a v z ha hv hz l) l))
+  extended-under : (x a v z m : ℕ) → Direction x → a < 3 → v < p .items → z < p .items → Linked x k a v z → m ≤ t x a v → extended x p a v z m ≤ t x a z
+  extended-under x a v z m d ha hv hz l h =
+      le-trans (extended-mono p a x v z d h) (without-⊥ (c .on x a v z d (linked-proper (p .items) x k a v z ha hv hz l) l))
 
   pub closed-greatest : (x a u : ℕ) → Direction x → a < 3 → u < p .items → greatest x p k a u ≤ t x a u
   closed-greatest x a u d ha hu =
       by-direction (λ x. greatest x p k a u ≤ t x a u)
       (greatest-starting-within p k a (t 1 a) (λ v hv. c .size 1 a v (omega arith) ha hv)
-      (λ z v m hz hv b. on 1 a v z m (omega arith) ha hv hz (forced-after-is k a v z ∙ b)) u hu)
+      (λ z v m hz hv b. extended-under 1 a v z m (omega arith) ha hv hz (forced-after-is k a v z ∙ b)) u hu)
       (greatest-ending-within p k a (t 2 a) (λ v hv. c .size 2 a v (omega arith) ha hv)
-      (λ v z m hv hz b. on 2 a v z m (omega arith) ha hv hz (forced-before-is k a v z ∙ b)) u hu) x d
+      (λ v z m hv hz b. extended-under 2 a v z m (omega arith) ha hv hz (forced-before-is k a v z ∙ b)) u hu) x d
 
   -- so rule 5 asks for nothing that is left
   closed-rests : Obeyed (p .items) k → AtRest p k
@@ -119,7 +109,7 @@ module _ (p : Problem) (k : Domains) (t : Table) (c : Closed p k t) where
   closed-rests o = obeyed-at-rest p k o λ a u v s e.
       let ends = closed-greatest 2 a u (omega arith) (s .axis) (s .item-u) in
       let starts = closed-greatest 1 a v (omega arith) (s .axis) (s .item-v) in
-      not-true (may-before k a u v) (sure (c .cut a u v s (le-trans (ltb-true _ _ e) (joined-mono p a u v ends starts))))
+      not-true (may-before k a u v) (without-⊥ (c .cut a u v s (le-trans (ltb-true _ _ e) (joined-mono p a u v ends starts))))
 
 -- What is pending. Exceptions may be more, but for links that are followed after all
 pub closed-wider : {L L′ : Links} {C C′ : Cuts} {p : Problem} {k : Domains} {t : Table}

@@ -13,7 +13,7 @@ use Rattle.model.specs.Toward.{Goal, Direction, greatest}
 use Rattle.model.specs.Wide.{wide}
 use Rattle.model.proofs.Below.{stays, clash}
 use Rattle.model.proofs.Order.{implies-eq}
-use Rattle.model.proofs.Chains.{greatest-starting-bound, greatest-ending-bound}
+use Rattle.model.proofs.GreatestChains.{greatest-starting-bound, greatest-ending-bound}
 use Rattle.model.proofs.Chain.{first-item, ending-total-measures, starting-total-measures, greatest-ending-greatest, greatest-ending-attained}
 use Rattle.model.proofs.Chain.{greatest-starting-greatest, greatest-starting-attained}
 use Rattle.model.proofs.Pass.{at-rest-rests}
@@ -39,7 +39,7 @@ record Greatest (p : Problem) (linked : ℕ → ℕ → Bool) (a u m : ℕ) : Ty
   most : (l : List ℕ) → Chain p linked (u ∷ l) → measure-sum p a (u ∷ l) ≤ m
   attained : (l : List ℕ) × Chain p linked (u ∷ l) × (measure-sum p a (u ∷ l) ≡ m)
 
--- what may stand next to u in a chain, followed in the direction x
+-- what may be next to u in a chain, followed in the direction x
 abbrev linked : ℕ → Domains → ℕ → ℕ → ℕ → Bool
 linked zero k a u v = fixed-before k a u v
 linked (suc zero) k a u v = fixed-before k a u v

@@ -1,12 +1,14 @@
--- Removing a relation by its number: it is gone, every other stays, and the numbers add up to less.
+-- Removing a relation by its number: it is gone, every other stays, and the numbers add up to less; and removing all but one.
 use Rattle.prelude.specs.Names.{true, false, not, [], _∷_, _≢_, _⊎_, inl, inr, eq-or-lt-of-le, _≡_, refl, sym, _∙_, ap, ℕ, zero, suc, _≤_, _<_, min}
 use Rattle.prelude.specs.Names.{max, compare, ℕ-discrete, decLt, arith, getD, length, set, length-set, not-true}
-use Rattle.model.specs.Domains.{Domains, index-of, bit, clear, converse, place, left, struck, gone, without}
+use Rattle.model.specs.Domains.{Domains, index-of, bit, clear, converse, place, left, cleared, gone, without, remove-overlap, remove-before}
+use Rattle.model.specs.Domains.{fix-before}
 use Rattle.model.specs.Propagate.{sum}
 use Rattle.model.specs.Order.{Proper, WellFormed, Subdomain, _⊑_}
 use Rattle.model.specs.Facts.{Saying, overlaps, nothing, removed, forced, says}
 use Rattle.model.proofs.Below.{clash, fails}
-use Rattle.model.proofs.Order.{sub-le, cleared, clear-other, clear-small, clear-less, clear-above, clear-none, sub-refl, sub-zero, sub-trans}
+use Rattle.model.proofs.Order.{sub-le, clear-same, clear-other, clear-small, clear-less, clear-above, clear-none, sub-refl, sub-zero}
+use Rattle.model.proofs.Order.{sub-trans, below-trans}
 use Rattle.model.proofs.Slots.{proper-sym, index-of-same}
 use Rattle.model.proofs.Domains.{converse-small, place-small, place-same, place-converse, gone-is, without-is}
 
@@ -44,7 +46,7 @@ module _ (k : Domains) (x a u v : ℕ) where
   without-alike f j h g =
       let lacks = sub-trans (rw (without-is j x a u v) at (h i)) (at-written j i (clear y (getD j i 0))) in
       let last : Subdomain (getD f i 0) (clear y (getD k i 0)) = elim (decLt y 3) [
-        | yes l ↦ clear-above y (g i) (fails (lacks .bits y) (cleared y (getD j i 0) l))
+        | yes l ↦ clear-above y (g i) (fails (lacks .bits y) (clear-same y (getD j i 0) l))
         | no l ↦ rw (clear-none y (getD k i 0) l) (g i)
       ] in
       rw (without-is k x a u v) (written (λ n m. Subdomain (getD f n 0) m) k i _ last g)
@@ -54,23 +56,33 @@ module _ (k : Domains) (x a u v : ℕ) where
       rw (without-is k x a u v)
       (record { long = length-set k _ _ ∙ w .long; small = written (λ n m. m < 8) k i _ (clear-small y _ (w .small i)) (w .small) })
 
+-- All but "u before v" removed
+module _ (k : Domains) (a u v : ℕ) where
+  pub fix-before-less : fix-before k a u v ⊑ k
+  unfolding fix-before without
+  fix-before-less = let j = remove-before k a v u in below-trans (remove-overlap j a u v) j k (without-less j 0 a u v) (without-less k 1 a v u)
+
+  pub fix-before-well-formed : WellFormed k → WellFormed (fix-before k a u v)
+  unfolding fix-before without
+  fix-before-well-formed w = without-well-formed (remove-before k a v u) 0 a u v (without-well-formed k 1 a v u w)
+
 pub without-gone : (k : Domains) (x : ℕ) {a u v : ℕ} → WellFormed k → Proper 10 a u v → gone (without k x a u v) x a u v ≡ true
 without-gone k x {a} {u} {v} f w =
     let (y, i) : ℕ × ℕ = (place (compare u v) x, index-of a u v) in
     rw (gone-is (without k x a u v) x a u v, without-is k x a u v)
-    (ap not (fails (at-written k i (clear y (getD k i 0)) .bits y) (cleared y (getD k i 0) (place-small (w .distinct) x))))
+    (ap not (fails (at-written k i (clear y (getD k i 0)) .bits y) (clear-same y (getD k i 0) (place-small (w .distinct) x))))
 
 -- the relation y of s and t on the axis b is not the relation x of u and v on the axis a, seen from either item
 pub record Other (x a u v y b s t : ℕ) : Type 0 where
   pub near : y ≡ x → b ≡ a → s ≡ u → t ≡ v → ⊥
   pub far : y ≡ converse x → b ≡ a → s ≡ v → t ≡ u → ⊥
 
--- A relation stays that has another bit, or stands in another domain
+-- A relation stays that has another bit, or is in another domain
 stored-apart : (k : Domains) (x a u v y b s t : ℕ) → (index-of b s t ≡ index-of a u v → place (compare s t) y ≢ place (compare u v) x)
     → gone (without k x a u v) y b s t ≡ gone k y b s t
 stored-apart k x a u v y b s t h =
     let (i, z) : ℕ × ℕ = (index-of b s t, place (compare s t) y) in
-    let stays : left (struck k x a u v) y b s t ≡ left k y b s t =
+    let stays : left (cleared k x a u v) y b s t ≡ left k y b s t =
     written (λ n m. n ≡ i → bit z m ≡ bit z (getD k n 0)) k (index-of a u v) _ (λ e. clear-other z _ _ (h (sym e))) (λ n _. refl) i refl in
     rw (gone-is (without k x a u v) y b s t, gone-is k y b s t, without-is k x a u v) (ap not stays)
 

@@ -26,7 +26,7 @@ pairs = pairs-below 10 []
 unfoldable pub pair-number : ℕ → ℕ → ℕ
 pair-number u v = v * (v - 1) / 2 + u
 
--- 135 numbers from 0 to 7: the domain of a pair on an axis stands at pair number × 3 + axis
+-- 135 numbers from 0 to 7: the domain of a pair on an axis is at pair number × 3 + axis
 abbrev pub Domains : Type 0
 Domains = List ℕ
 
@@ -46,7 +46,7 @@ before-bit m = odd (m / 2)
 unfoldable pub after-bit : ℕ → Bool
 after-bit m = odd (m / 4)
 
--- where the domain of the pair u, v stands, with u < v
+-- where the domain of the pair u, v is, with u < v
 unfoldable pub index : ℕ → ℕ → ℕ → ℕ
 index a u v = pair-number u v * 3 + a
 
@@ -85,8 +85,8 @@ abbrev pub left : Domains → ℕ → ℕ → ℕ → ℕ → Bool
 left k x a u v = bit (place (compare u v) x) (getD k (index-of a u v) 0)
 
 -- "Striking removes words": the domains without it
-abbrev pub struck : Domains → ℕ → ℕ → ℕ → ℕ → Domains
-struck k x a u v = set k (index-of a u v) (clear (place (compare u v) x) (getD k (index-of a u v) 0))
+abbrev pub cleared : Domains → ℕ → ℕ → ℕ → ℕ → Domains
+cleared k x a u v = set k (index-of a u v) (clear (place (compare u v) x) (getD k (index-of a u v) 0))
 
 -- From here on nothing asks whether u < v: "u and v overlap" and "u before v", left and removed
 unfoldable pub may-overlap : Domains → ℕ → ℕ → ℕ → Bool
@@ -96,10 +96,10 @@ unfoldable pub may-before : Domains → ℕ → ℕ → ℕ → Bool
 may-before k a u v = left k 1 a u v
 
 unfoldable pub remove-overlap : Domains → ℕ → ℕ → ℕ → Domains
-remove-overlap k a u v = struck k 0 a u v
+remove-overlap k a u v = cleared k 0 a u v
 
 unfoldable pub remove-before : Domains → ℕ → ℕ → ℕ → Domains
-remove-before k a u v = struck k 1 a u v
+remove-before k a u v = cleared k 1 a u v
 
 -- any relation by its number (2 is 1 of v and u): whether it is removed, and the domains without it
 unfoldable pub gone : Domains → ℕ → ℕ → ℕ → ℕ → Bool

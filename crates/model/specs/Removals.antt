@@ -15,14 +15,14 @@ pub data Removed (p : Problem) (k : Domains) : Domains → Type 0 where
   then : {j : Domains} → Removed p k j → (x a u v : ℕ) → x < 3 → Proper (p .items) a u v
       → asks p j x a u v ≡ true → Removed p k (without j x a u v)
 
--- the relations that the branch b removes where the search stands at k, removed from j
+-- the relations that the branch b removes where the search is at k, removed from j
 unfoldable pub branch-removals : Domains → Branch → Domains → Domains
 branch-removals k b j =
     let c = choice k in
     branch-at (may-overlap k (c .axis) (c .u) (c .v)) b j (c .axis) (c .u) (c .v)
 
 -- "A row stands for the opening knowledge with its turns struck and everything above applied": here
--- only with its turns struck. At each branch the search stands at the domains of the path before it
+-- only with its turns struck. At each branch the search is at the domains of the path before it
 unfoldable pub path-removals : Problem → List Branch → Domains
 path-removals p [] = opening-domains p
 path-removals p (b ∷ path) = branch-removals (path-domains p path) b (path-removals p path)

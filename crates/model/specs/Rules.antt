@@ -15,7 +15,8 @@ unfoldable pub joined : Problem → ℕ → ℕ → ℕ → ℕ → ℕ → ℕ
 joined p a u v front back = front + back
 
 -- "A chain is a row of distinct pieces, each known before the next": the greatest total of u and at most f further items, none of them in `had`.
--- v may follow u where `linked u v`; `on u v rest` is the total of u followed by what has the total `rest` from v on. proofs/Chain shows that it is the greatest
+-- v may follow u where `linked u v`; `on u v rest` is the total of u followed by what has the total `rest` from v on. proofs/Chain shows that
+-- it is the greatest
 module _ (p : Problem) (a : ℕ) (linked : ℕ → ℕ → Bool) (on : ℕ → ℕ → ℕ → ℕ) where
   unfoldable pub longest : ℕ → List ℕ → ℕ → ℕ
   longest zero had u = p .size a u

@@ -1,5 +1,5 @@
 -- Rule 5 inside the event loop: chain totals that are kept while rules 1 to 4 are not yet at rest, where "before" need not be a strict order.
--- All of it stands once for both directions x: 1 is of the chains that start in an item, 2 of those that end in it.
+-- All of it is stated once for both directions x: 1 is of the chains that start in an item, 2 of those that end in it.
 use Rattle.prelude.specs.Names.{true, false, _⊎_, _≡_, ℕ, zero, suc, _≤_, _<_}
 use Rattle.model.specs.Problem.{Problem}
 use Rattle.model.specs.Domains.{Domains}

@@ -11,7 +11,7 @@ use Rattle.model.specs.Computing.{search-computing}
 abbrev pub Triple : Type 0
 Triple = List ℕ
 
--- a call with its budget, and what it has to answer after how many steps; a packing is told by the starts of each item
+-- a call with its budget, and what it has to answer after how many steps; a packing is given by the starts of each item
 pub record TrialCall : Type 0 where
   pub budget : ℕ
   pub answer : Answer (List Triple)

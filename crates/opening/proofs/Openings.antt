@@ -12,7 +12,7 @@ use Rattle.model.specs.Branching.{fix-precedences}
 use Rattle.model.specs.Order.{Proper, _⊑_}
 use Rattle.model.specs.Relations.{without}
 use Rattle.model.proofs.Order.{below-refl, below-trans}
-use Rattle.model.proofs.Removal.{fix-before-less}
+use Rattle.model.proofs.Without.{fix-before-less}
 use Rattle.domains.specs.Queue.{queue-end, Good, Long}
 use Rattle.domains.specs.Narrowed.{Grown, Narrowed, Refuted, Outcome, All, Asked, Askable}
 use Rattle.opening.specs.Openings.{first-fixed, FixedIf}

@@ -27,19 +27,19 @@ module _ (i : Instance) (q : Packing) (u v a : ℕ) where
       rw (w, lt-ltb u n hu, lt-ltb v n hv, le-ltb a 3 (omega arith)) (ClearanceFault.eight w hu hv (omega arith) refl, refl)
   grounds true w (yes hu) (yes hv) (yes l) = rw (w, lt-ltb u n hu, lt-ltb v n hv, lt-ltb a 3 l) (w, hu, hv, l, refl)
 
-  ends-so : (x : ℤ ⊎ (ℕ × ℕ)) → Grounds x → clearance-values (clearance-answer i q u v a) ≡ x
+  from-grounds : (x : ℤ ⊎ (ℕ × ℕ)) → Grounds x → clearance-values (clearance-answer i q u v a) ≡ x
   unfolding clearance-answer
-  ends-so (inl y) (w, lu, lv, l, k) = rw (w, lt-ltb u n lu, lt-ltb v n lv, lt-ltb a 3 l, k)
-  ends-so (inr (m, place)) (ClearanceFault.nine w k, z) = rw (w, k, z)
-  ends-so (inr (m, place)) (ClearanceFault.five w (inl h) k, z) = rw (w, le-ltb u n h, k, z)
-  ends-so (inr (m, place)) (ClearanceFault.five w (inr h) k, z) = rw (w, le-ltb v n h, and-false, k, z)
-  ends-so (inr (m, place)) (ClearanceFault.eight w lu lv l k, z) = rw (w, lt-ltb u n lu, lt-ltb v n lv, le-ltb a 3 l, k, z)
+  from-grounds (inl y) (w, lu, lv, l, k) = rw (w, lt-ltb u n lu, lt-ltb v n lv, lt-ltb a 3 l, k)
+  from-grounds (inr (m, place)) (ClearanceFault.nine w k, z) = rw (w, k, z)
+  from-grounds (inr (m, place)) (ClearanceFault.five w (inl h) k, z) = rw (w, le-ltb u n h, k, z)
+  from-grounds (inr (m, place)) (ClearanceFault.five w (inr h) k, z) = rw (w, le-ltb v n h, and-false, k, z)
+  from-grounds (inr (m, place)) (ClearanceFault.eight w lu lv l k, z) = rw (w, lt-ltb u n lu, lt-ltb v n lv, le-ltb a 3 l, k, z)
 
-  told : (x : ℤ ⊎ (ℕ × ℕ)) → (clearance-values (clearance-answer i q u v a) ≡ x) ↔ Grounds x
-  told x = ((λ k. subst Grounds k (grounds (valid i) refl (decLt u n) (decLt v n) (decLt a 3))), ends-so x)
+  exactly : (x : ℤ ⊎ (ℕ × ℕ)) → (clearance-values (clearance-answer i q u v a) ≡ x) ↔ Grounds x
+  exactly x = ((λ k. subst Grounds k (grounds (valid i) refl (decLt u n) (decLt v n) (decLt a 3))), from-grounds x)
 
   pub answers : Answers i q u v a (clearance-answer i q u v a)
-  answers = record { refused = λ m place. told (inr (m, place)); value = λ z. told (inl z) }
+  answers = record { refused = λ m place. exactly (inr (m, place)); value = λ z. exactly (inl z) }
 
   -- both promises of the clearance, from the first
   pub answered : (r : ClearanceAnswer) → r ≡ clearance-answer i q u v a

@@ -1,6 +1,6 @@
 -- The check's answer says whether the packing is feasible.
 use Rattle.prelude.specs.Names.{Bool, true, false, not, false≢true, _↔_, _≡_, refl, sym, subst, _∙_, ℕ, _+_, arith, not-true, not-false}
-use Rattle.model.proofs.Feasible.{feasible-so}
+use Rattle.model.proofs.Feasible.{feasible-exactly}
 use Rattle.instance.specs.declared.Instance.{Instance}
 use Rattle.instance.specs.declared.Packing.{Packing}
 use Rattle.instance.specs.Valid.{valid}
@@ -10,23 +10,23 @@ use Rattle.packing.specs.Check.{check-answer-if, check-answer, check-num
 use Rattle.model.specs.Problem as M
 
 -- a test that was made
-pub passes : {t b : Bool} → t ≡ b → not t ≡ false → b ≡ true
-passes {t} e h = sym e ∙ not-false t h
+pub test-passed : {t b : Bool} → t ≡ b → not t ≡ false → b ≡ true
+test-passed {t} e h = sym e ∙ not-false t h
 
-pub failed : {t b : Bool} → t ≡ b → not t ≡ true → b ≡ false
-failed {t} e h = sym e ∙ not-true t h
+pub test-failed : {t b : Bool} → t ≡ b → not t ≡ true → b ≡ false
+test-failed {t} e h = sym e ∙ not-true t h
 
 -- the numbers by the two tests: v, that the value is an instance, and f, that the packing is feasible
 module _ (F : Type 0) where
   yes-by : (v f : Bool) → (f ≡ true) ↔ F → (check-number (check-answer-if v f) ≡ 1) ↔ ((v ≡ true) × F)
-  yes-by false f so = ((λ e. absurd (omega arith)), (λ (v, g). absurd (false≢true v)))
-  yes-by true true so = ((λ e. (refl, so .0 refl)), (λ _. refl))
-  yes-by true false so = ((λ e. absurd (omega arith)), (λ (v, g). absurd (false≢true (so .1 g))))
+  yes-by false f exact = ((λ e. absurd (omega arith)), (λ (v, g). absurd (false≢true v)))
+  yes-by true true exact = ((λ e. (refl, exact .0 refl)), (λ _. refl))
+  yes-by true false exact = ((λ e. absurd (omega arith)), (λ (v, g). absurd (false≢true (exact .1 g))))
 
   no-by : (v f : Bool) → (f ≡ true) ↔ F → (check-number (check-answer-if v f) ≡ 0) ↔ ((v ≡ true) × (F → ⊥))
-  no-by false f so = ((λ e. absurd (omega arith)), (λ (v, g). absurd (false≢true v)))
-  no-by true true so = ((λ e. absurd (omega arith)), (λ (v, g). absurd (g (so .0 refl))))
-  no-by true false so = ((λ e. (refl, λ g. false≢true (so .1 g))), (λ _. refl))
+  no-by false f exact = ((λ e. absurd (omega arith)), (λ (v, g). absurd (false≢true v)))
+  no-by true true exact = ((λ e. absurd (omega arith)), (λ (v, g). absurd (g (exact .0 refl))))
+  no-by true false exact = ((λ e. (refl, λ g. false≢true (exact .1 g))), (λ _. refl))
 
 refused-by : (v f : Bool) (n : ℕ) → (check-number (check-answer-if v f) ≡ 100 + n) ↔ ((v ≡ false) × (n ≡ 9))
 refused-by false f n = ((λ e. (refl, omega arith)), (λ (v, k). omega arith))
@@ -40,8 +40,8 @@ module _ (i : Instance) (q : Packing) where
   pub decides : Decides i q (check-answer i q)
   unfolding check-answer
   decides =
-      let so = feasible-so (problem-of i) (positions-of q) in
-      record { yes = yes-by _ (valid i) fits so; no = no-by _ (valid i) fits so; refused = refused-by (valid i) fits }
+      let exact = feasible-exactly (problem-of i) (positions-of q) in
+      record { yes = yes-by _ (valid i) fits exact; no = no-by _ (valid i) fits exact; refused = refused-by (valid i) fits }
 
   -- both promises of the check, from the first
   pub decided : (r : CheckAnswer) → r ≡ check-answer i q → (r ≡ check-answer i q) × Decides i q r

@@ -25,11 +25,11 @@ same-integer (pos x) (negsuc y) e = absurd (omega arith)
 same-integer (negsuc x) (pos y) e = absurd (omega arith)
 same-integer (negsuc x) (negsuc y) e = ap negsuc (omega arith)
 
-order-so : (x y : ℤ) → (x ≤ℤ y) ↔ (up x + down y ≤ up y + down x)
-order-so (pos x) (pos y) = omega (arith, leb→le, le→leb)
-order-so (pos x) (negsuc y) = ((λ h. absurd (h .le)), (λ h. absurd (omega arith)))
-order-so (negsuc x) (pos y) = omega arith
-order-so (negsuc x) (negsuc y) = omega (arith, leb→le, le→leb)
+order-exactly : (x y : ℤ) → (x ≤ℤ y) ↔ (up x + down y ≤ up y + down x)
+order-exactly (pos x) (pos y) = omega (arith, leb→le, le→leb)
+order-exactly (pos x) (negsuc y) = ((λ h. absurd (h .le)), (λ h. absurd (omega arith)))
+order-exactly (negsuc x) (pos y) = omega arith
+order-exactly (negsuc x) (negsuc y) = omega (arith, leb→le, le→leb)
 
 negated : (x : ℤ) → (up (negℤ x) ≡ down x) × (down (negℤ x) ≡ up x)
 negated (pos zero) = omega arith
@@ -74,8 +74,8 @@ diff-fits a b ha hb = let n = negated (pos b) in go (pos a -ℤ pos b) (omega (a
     go (negsuc n) e = record { sfits = omega arith }
 
 -- an i32 that a call gives is the integer that it was
-pub as-told : {x y : ℤ} → mag x < 2 ^ 31 → x ≡ y → toZ w32 (ofZ w32 x) ≡ y
-as-told {x} h e = toZ-ofZ w32 x (record { sfits = h }) ∙ e
+pub i32-value : {x y : ℤ} → mag x < 2 ^ 31 → x ≡ y → toZ w32 (ofZ w32 x) ≡ y
+i32-value {x} h e = toZ-ofZ w32 x (record { sfits = h }) ∙ e
 
 module _ (p : Problem) (q : Positions) (a : ℕ) where
   abbrev end : ℕ → ℕ
@@ -99,17 +99,17 @@ module _ (p : Problem) (q : Positions) (a : ℕ) where
     where
       parts : (m : ℤ) × (natAbs m ≡ suc d) × PartedByMove p q a u v m
       parts = by-lt (q a v + end v) (q a u + end u)
-          (λ h. (negsuc d, refl, inr (simp order-so (omega (arith, difference (q a v) (suc d), sum (subℕ (q a v) (suc d)) (pos (p .size a v)))))))
-          (λ h. (pos (suc d), refl, inl (simp order-so (omega arith))))
+          (λ h. (negsuc d, refl, inr (simp order-exactly (omega (arith, difference (q a v) (suc d), sum (subℕ (q a v) (suc d)) (pos (p .size a v)))))))
+          (λ h. (pos (suc d), refl, inl (simp order-exactly (omega arith))))
 
       least : (m : ℤ) → PartedByMove p q a u v m → suc d ≤ natAbs m
-      least m (inl w) = omega (arith, absolute m, sum (pos (q a v)) m, simp order-so at w)
-      least m (inr w) = omega (arith, absolute m, sum (pos (q a v)) m, sum (pos (q a v) +ℤ m) (pos (p .size a v)), simp order-so at w)
+      least m (inl w) = omega (arith, absolute m, sum (pos (q a v)) m, simp order-exactly at w)
+      least m (inr w) = omega (arith, absolute m, sum (pos (q a v)) m, sum (pos (q a v) +ℤ m) (pos (p .size a v)), simp order-exactly at w)
 
   module _ (u v : ℕ) where
     -- "The clearance of u and v": it is that of v and u
-    pub clearance-turned : clearance-between p q a u v ≡ clearance-between p q a v u
-    clearance-turned = same-integer _ _ (omega (arith, measured u v, measured v u))
+    pub clearance-symmetric : clearance-between p q a u v ≡ clearance-between p q a v u
+    clearance-symmetric = same-integer _ _ (omega (arith, measured u v, measured v u))
 
     -- "above 0 a gap, 0 touching": where the clearance is g modules, they are apart by a gap of g modules
     pub clearance-gap : (g : ℕ) → clearance-between p q a u v ≡ pos g → Gap p q a u v g
@@ -129,9 +129,9 @@ module _ (p : Problem) (q : Positions) (a : ℕ) where
     unfolding EndsBefore
     clearance-apart = (
       (λ w.
-          let k = simp order-so at w in let m = measured u v in
+          let k = simp order-exactly at w in let m = measured u v in
           by-lt (q a v + end v) (q a u + end u) (λ h. inr (omega arith)) (λ h. inl (omega arith))),
-      ⊎-elim (λ w. simp order-so (omega (arith, measured u v))) (λ w. simp order-so (omega (arith, measured u v))),
+      ⊎-elim (λ w. simp order-exactly (omega (arith, measured u v))) (λ w. simp order-exactly (omega (arith, measured u v))),
     )
 
     overlap-of : (d : ℕ) → clearance-between p q a u v ≡ negsuc d → Overlap p q a u v (suc d)
@@ -144,7 +144,7 @@ module _ (p : Problem) (q : Positions) (a : ℕ) where
     clearance-overlap d = (overlap-of d, from (clearance-between p q a u v) refl)
       where
         from : (z : ℤ) → clearance-between p q a u v ≡ z → Overlap p q a u v (suc d) → z ≡ negsuc d
-        from (pos g) e o = absurd (o .not-apart (clearance-apart .0 (rw e (simp order-so (omega arith)))))
+        from (pos g) e o = absurd (o .not-apart (clearance-apart .0 (rw e (simp order-exactly (omega arith)))))
         from (negsuc h) e o =
             let own = overlap-of h e .of-second in
             let (m, s, t) = o .of-second .parts in

@@ -5,6 +5,7 @@ use mathlib.Core.Path.{fun-ext}
 use Rattle.model.specs.Below.{some-below, all-below, all-in}
 use Rattle.model.specs.Problem.{Problem, Positions, ends-before, inside-test, apart-on-some-axis, apart-test, ordered-test, time}
 use Rattle.model.proofs.Below.{all-at, all-of, all-cons, some-of, fails, or-left, or-right}
+use Rattle.model.proofs.Order.{implies-eq}
 use Rattle.parts.specs.declared.Precedence.{Precedence}
 use Rattle.parts.specs.declared.Item.{Item}
 use Rattle.parts.specs.Sizes.{no-precedence}
@@ -22,12 +23,6 @@ pub last-axis : (P : ℕ → Type 0) → ((a : ℕ) → P (suc (suc a))) → (a 
 last-axis P f zero h k = absurd (h refl)
 last-axis P f (suc zero) h k = absurd (k refl)
 last-axis P f (suc (suc a)) h k = f a
-
--- two tests of which each passes where the other does
-same-test : (a b : Bool) → (a ≡ true → b ≡ true) → (b ≡ true → a ≡ true) → a ≡ b
-same-test true b f g = sym (f refl)
-same-test false true f g = g refl
-same-test false false f g = refl
 
 both-pass : (b : Bool) {c d : Bool} → c ≡ d → elim b as (λ _. Bool) [ true ↦ c | false ↦ false ] ≡ (b && d)
 both-pass true e = e
@@ -59,14 +54,14 @@ module _ (p : Problem) (q : Positions) where
   unfolding inside-test inside-on within
   inside-loop = refl
 
-  apart-turned : (u v : ℕ) → apart-on-some-axis p q u v ≡ apart-on-some-axis p q v u
+  apart-symmetric : (u v : ℕ) → apart-on-some-axis p q u v ≡ apart-on-some-axis p q v u
   unfolding apart-on-some-axis
-  apart-turned u v = ap (some-below 3) (fun-ext λ a. or-comm (ends-before p q a u v) (ends-before p q a v u))
+  apart-symmetric u v = ap (some-below 3) (fun-ext λ a. or-comm (ends-before p q a u v) (ends-before p q a v u))
 
   -- it is enough to try each two items once, the higher number first
   apart-loop : apart-test p q ≡ all-below (p .items) (apart-from-lower p q)
   unfolding apart-test apart-from-lower
-  apart-loop = same-test _ _
+  apart-loop = implies-eq
       (λ e. all-of (p .items) (apart-from-lower p q) λ u lu. all-of u (apart-on-some-axis p q u) λ v lv.
       rw (ne-eqb u v (omega arith)) at (all-at (p .items) (clear u) (all-at (p .items) (λ x. all-below (p .items) (clear x)) e u lu) v (omega arith)))
       (λ e. all-of (p .items) (λ x. all-below (p .items) (clear x)) λ u lu. all-of (p .items) (clear u) λ v lv.
@@ -80,7 +75,7 @@ module _ (p : Problem) (q : Positions) where
 
       to : all-below (p .items) (apart-from-lower p q) ≡ true → (u v : ℕ) → u < p .items → v < p .items → Dec (v < u) → Dec (u < v) → clear u v ≡ true
       to e u v lu lv (yes l) d = or-right (eqb u v) (at e u v lu l)
-      to e u v lu lv (no k) (yes l) = or-right (eqb u v) (rw (apart-turned u v) (at e v u lv l))
+      to e u v lu lv (no k) (yes l) = or-right (eqb u v) (rw (apart-symmetric u v) (at e v u lv l))
       to e u v lu lv (no k) (no l) = or-left _ (eq-eqb u v (omega arith))
 
 -- The same tests over the arrays that the code reads.
@@ -110,7 +105,8 @@ module _ (items : List Item) (positions : List Position) where
       → all-kept items positions (take m os) ≡ all-below m (λ k. precedence-kept items positions (getD os k no-precedence))
   unfolding all-kept
   kept-loop os zero h = refl
-  kept-loop os (suc m) h = rw (take-suc os m no-precedence, kept-last) (sym (both-pass (precedence-kept items positions _) (sym (kept-loop os m (omega arith)))))
+  kept-loop os (suc m) h =
+      rw (take-suc os m no-precedence, kept-last) (sym (both-pass (precedence-kept items positions _) (sym (kept-loop os m (omega arith)))))
 
 -- two items are parted on an axis
 unfoldable pub parted-on : Placed → Placed → ℕ → Bool

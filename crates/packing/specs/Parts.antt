@@ -37,7 +37,10 @@ end-of a i = start a (i .position) + measure-on a (i .size)
 
 -- "u's end in t is at most v's start", over the arrays of items and positions
 unfoldable pub precedence-kept : List Item → List Position → Precedence → Bool
-precedence-kept items positions o = leb (end-of time (placed-at items positions (o .predecessor))) (start time (placed-at items positions (o .successor) .position))
+precedence-kept items positions o =
+    let u = placed-at items positions (o .predecessor) in
+    let v = placed-at items positions (o .successor) in
+    leb (end-of time u) (start time (v .position))
 
 unfoldable pub all-kept : List Item → List Position → List Precedence → Bool
 all-kept items positions [] = true

@@ -48,7 +48,7 @@ pub item-valid : (i : Item) → item .valid i ≡ positive (i .size)
 unfolding item item-fields measures measure fields-valid positive
 item-valid i = with-map-valid item-fields i ∙ simp (number-valid, and-true)
 
--- a precedence may stand where it passes its tests
+-- a precedence is allowed where it passes its tests
 pub precedence-valid : (n : ℕ) (last : Previous) (o : Precedence)
     → tested precedence (precedence-tests n last) .valid o ≡ (names-items n o && rises last o)
 unfolding precedence tested passes-all converted pair byte

@@ -2,10 +2,11 @@
 use Rattle.prelude.specs.Names.{_≡_, refl, _∙_, Bool, true, false, cond, not, _||_, List, [], _∷_, ℕ, _+_, _*_, arith, eqb, leb, ltb, length, getD}
 use Rattle.prelude.specs.Names.{drop, le-ltb}
 use Rattle.refusal.specs.declared.Refusal.the-variants.{EndsEarly, UnknownBit, WrittenDefault, BadCount, BadItem, NotRising}
-use Rattle.formats.specs.Reading.{Reading, due, got, refused, run, _>>=_}
+use Rattle.formats.specs.Reading.{Reading, Read, due, got, refused, run, _>>=_}
 use Rattle.formats.specs.Formats.{byte, word, pair, converted, testing, tested, keyed, count}
 use Rattle.formats.specs.Fields.{optional-reading, is-set, fields-reading, fields, map-byte, with-map}
 use Rattle.formats.proofs.Run.{after, after-after, run-then}
+use Rattle.parts.specs.declared.Size.{Size}
 use Rattle.parts.specs.declared.Precedence.{Precedence}
 use Rattle.parts.specs.declared.Previous.{Previous}
 use Rattle.parts.specs.Precedences.{names-items, rises}
@@ -40,12 +41,16 @@ unfolding count-field count tested testing byte run _>>=_
 count-run limit at true rest = one-due _ at rest
 count-run limit at false rest = refl
 
--- three measures in turn
+-- three measures in turn: the shifts after width and depth, the depth and the shifts after the width, all
+abbrev pub from-shifts : ℕ → ℕ → ℕ → ℕ → List ℕ → Read Size
+from-shifts map w d at rest =
+    after (run (optional-reading measure (is-set map 4)) at rest) λ t at₁ rest₁. got (record { width = w; depth = d; shifts = t }) at₁ rest₁
+
+abbrev pub from-depth : ℕ → ℕ → ℕ → List ℕ → Read Size
+from-depth map w at rest = after (run (optional-reading measure (is-set map 2)) at rest) (from-shifts map w)
+
 pub size-run : (map at : ℕ) (rest : List ℕ) → run (fields-reading size-fields map 1) at rest
-    ≡ after (run (optional-reading measure (is-set map 1)) at rest) λ w at₁ rest₁.
-    after (run (optional-reading measure (is-set map 2)) at₁ rest₁) λ d at₂ rest₂.
-    after (run (optional-reading measure (is-set map 4)) at₂ rest₂) λ t at₃ rest₃.
-    got (record { width = w; depth = d; shifts = t }) at₃ rest₃
+    ≡ after (run (optional-reading measure (is-set map 1)) at rest) (from-depth map)
 unfolding size-fields measures fields-reading run
 size-run map at rest = simp run-then
 

@@ -1,4 +1,4 @@
--- When a precedence may stand on a sheet (document 01, "Sheet bytes" and the refusals 5 and 6).
+-- Which precedences a sheet may have (document 01, "Sheet bytes" and the refusals 5 and 6).
 use Rattle.prelude.specs.Names.{Bool, true, not, _&&_, _||_, List, [], _∷_, ℕ, ltb, eqb}
 use Rattle.parts.specs.declared.Precedence.{Precedence}
 use Rattle.parts.specs.declared.Previous.{Previous}
@@ -19,7 +19,7 @@ abbrev pub rises : Previous → Precedence → Bool
 rises Nothing o = true
 rises (Was p) o = above p o
 
--- every precedence of a list may stand there, one after the other
+-- each precedence of a list is allowed after the one before
 unfoldable pub all-allowed : ℕ → Previous → List Precedence → Bool
 all-allowed n last [] = true
 all-allowed n last (o ∷ os) = (names-items n o && rises last o) && all-allowed n (Was o) os

@@ -1,4 +1,4 @@
--- Number and place tell the refusal.
+-- Number and place say which refusal it is.
 use Rattle.prelude.specs.Names.{List, [], _∷_, _≡_, refl, sym, ap, ap₂, _∙_, ℕ, _≤_, arith, getD}
 use Rattle.refusal.specs.declared.Refusal.{Refusal}
 use Rattle.refusal.specs.declared.Refusal.the-variants.{EndsEarly, UnknownBit, WrittenDefault, BadCount, BadItem, NotRising, TrailingBytes}

@@ -1,6 +1,6 @@
 -- The packing of a complete path.
 use Rattle.prelude.specs.Names.{List, _≡_, sym, ap₂, _∙_, ℕ, _-_, _≤_, _<_, arith, length}
-use Rattle.model.proofs.Chains.{greatest-ending-size}
+use Rattle.model.proofs.GreatestChains.{greatest-ending-size}
 use Rattle.model.proofs.Wide.{wide-size, wide-ending}
 use Rattle.model.proofs.Outside.{path-untouched}
 use Rattle.model.specs.Admits.{Sound}

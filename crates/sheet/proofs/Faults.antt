@@ -68,7 +68,8 @@ module _ (s : List ℕ) where
   unfolding number word
   spans-number default true at =
       let σ = spans-two-bytes s (λ low high. low + 256 * high) at in
-      spans-as s (spans-one-test s word (λ v. leb v default) WrittenDefault (omega arith) refl (leb-true _ _, le-leb _ _) σ) (λ e. (λ w. (refl, w), λ (_, w). w))
+      spans-as s (spans-one-test s word (λ v. leb v default) WrittenDefault (omega arith) refl (leb-true _ _, le-leb _ _) σ)
+      (λ e. (λ w. (refl, w), λ (_, w). w))
   spans-number default false at =
       rw add-zero (spans-as s (spans-done s default at) (λ e. (λ w. absurd w, λ (q, _). absurd (false≢true q))))
 
@@ -136,7 +137,7 @@ module _ (s : List ℕ) where
       (gives-test s (not (rises (previous k) (nth k))) Iff·rfl (λ f w. absurd w) (reads l (λ e w. w))))
       (rw p at (spans-two-bytes s {A = Precedence} (λ u v. record { predecessor = u; successor = v }) (precedence-place s k)))
 
-  -- a counted row where its bit stands
+  -- a counted row where its bit is set
   spans-list : {P A : Type 0} {part : Format A} {tests : P → A → List Test} {next : P → A → P} {state : ℕ → P} {place : ℕ → ℕ} {x : ℕ → A}
       {W : ℕ → Refusal → Type 0} (limit : ℕ) (bit : Bool) (at : ℕ) → at + 1 ≡ place 0 → Parts s part tests next state place x W
       → Spans s (optional-reading (list-of part tests next (state 0) limit) bit) at (up-to (cond bit (byte-at s at) 0) x)
@@ -176,47 +177,47 @@ module _ (s : List ℕ) where
       (spans-then s _ _ (spans-precedences (length (items-at s)) (length-up-to (items-on s) _))
       (spans-then s _ _ (spans-number 0 (has s 32) (precedences-end s)) (spans-done s (sheet-at s) (sheet-end s))))))
 
-  -- what is met in reading are the faults
-  item-told : (k : ℕ) → k < items-on s → {e : Refusal} → ItemFault (item-place s k) e → Fault s e
-  item-told k l (inl (a, c, q)) = rw q (item-unknown-bit k l (omega arith) c)
-  item-told k l (inr (inl (p, m, (a, c, q)))) = rw q (item-measure k l p m a c)
-  item-told k l (inr (inr w)) = absurd w
+  -- what reading meets are the faults of the table
+  item-to-fault : (k : ℕ) → k < items-on s → {e : Refusal} → ItemFault (item-place s k) e → Fault s e
+  item-to-fault k l (inl (a, c, q)) = rw q (item-unknown-bit k l (omega arith) c)
+  item-to-fault k l (inr (inl (p, m, (a, c, q)))) = rw q (item-measure k l p m a c)
+  item-to-fault k l (inr (inr w)) = absurd w
 
-  precedence-told : (k : ℕ) → k < precedences-on s → {e : Refusal} → PrecedenceFault k e → Fault s e
+  precedence-to-fault : (k : ℕ) → k < precedences-on s → {e : Refusal} → PrecedenceFault k e → Fault s e
   unfolding precedence-place
-  precedence-told k l (a, inl (c, q)) = rw q (bad-item k l (omega arith) c)
-  precedence-told zero l (a, inr (inl (c, q))) = absurd (false≢true c)
-  precedence-told (suc k) l (a, inr (inl (c, q))) = rw q (not-rising k l (omega arith) (not-above _ _ _ _ .0 c))
-  precedence-told k l (a, inr (inr w)) = absurd w
+  precedence-to-fault k l (a, inl (c, q)) = rw q (bad-item k l (omega arith) c)
+  precedence-to-fault zero l (a, inr (inl (c, q))) = absurd (false≢true c)
+  precedence-to-fault (suc k) l (a, inr (inl (c, q))) = rw q (not-rising k l (omega arith) (not-above _ _ _ _ .0 c))
+  precedence-to-fault k l (a, inr (inr w)) = absurd w
 
-  told : {e : Refusal} → OrTrailing s sheet spans-sheet e → Fault s e
-  told (inr (l, q)) = rw q (trailing-bytes l)
-  told (inl (inr (l, q))) = rw q (ends-early l)
-  told (inl (inl (inl (l, c, q)))) = rw q (unknown-bit (omega arith) c)
-  told (inl (inl (inr (inl (p, m, (l, c, q)))))) = rw q (container-measure p m l c)
-  told (inl (inl (inr (inr (inl (inl (t, (l, c, q)))))))) = rw q (item-count t (omega arith) c)
-  told (inl (inl (inr (inr (inl (inr (k, l, w))))))) = item-told k l w
-  told (inl (inl (inr (inr (inr (inl (inl (t, (l, c, q))))))))) = rw q (precedence-count t (omega arith) c)
-  told (inl (inl (inr (inr (inr (inl (inr (k, l, w)))))))) = precedence-told k l w
-  told (inl (inl (inr (inr (inr (inr (inl (t, (l, c, q))))))))) = rw q (yard-number t l (omega arith))
-  told (inl (inl (inr (inr (inr (inr (inr w))))))) = absurd w
+  to-fault : {e : Refusal} → OrTrailing s sheet spans-sheet e → Fault s e
+  to-fault (inr (l, q)) = rw q (trailing-bytes l)
+  to-fault (inl (inr (l, q))) = rw q (ends-early l)
+  to-fault (inl (inl (inl (l, c, q)))) = rw q (unknown-bit (omega arith) c)
+  to-fault (inl (inl (inr (inl (p, m, (l, c, q)))))) = rw q (container-measure p m l c)
+  to-fault (inl (inl (inr (inr (inl (inl (t, (l, c, q)))))))) = rw q (item-count t (omega arith) c)
+  to-fault (inl (inl (inr (inr (inl (inr (k, l, w))))))) = item-to-fault k l w
+  to-fault (inl (inl (inr (inr (inr (inl (inl (t, (l, c, q))))))))) = rw q (precedence-count t (omega arith) c)
+  to-fault (inl (inl (inr (inr (inr (inl (inr (k, l, w)))))))) = precedence-to-fault k l w
+  to-fault (inl (inl (inr (inr (inr (inr (inl (t, (l, c, q))))))))) = rw q (yard-number t l (omega arith))
+  to-fault (inl (inl (inr (inr (inr (inr (inr w))))))) = absurd w
 
-  met : {e : Refusal} → Fault s e → OrTrailing s sheet spans-sheet e
+  from-fault : {e : Refusal} → Fault s e → OrTrailing s sheet spans-sheet e
   unfolding precedence-place
-  met (ends-early l) = inl (inr (l, refl))
-  met (unknown-bit l c) = inl (inl (inl (omega arith, c, refl)))
-  met (item-unknown-bit k l a c) = inl (inl (inr (inr (inl (inr (k, l, inl (omega arith, c, refl)))))))
-  met (container-measure p m l c) = inl (inl (inr (inl (p, m, (l, c, refl)))))
-  met (item-measure k l p m a c) = inl (inl (inr (inr (inl (inr (k, l, inr (inl (p, m, (a, c, refl)))))))))
-  met (yard-number t l q) = inl (inl (inr (inr (inr (inr (inl (t, (l, omega arith, refl))))))))
-  met (item-count t l c) = inl (inl (inr (inr (inl (inl (t, (omega arith, c, refl)))))))
-  met (precedence-count t l c) = inl (inl (inr (inr (inr (inl (inl (t, (omega arith, c, refl))))))))
-  met (bad-item i l a c) = inl (inl (inr (inr (inr (inl (inr (i, l, (omega arith, inl (c, refl)))))))))
-  met (not-rising i l a c) = inl (inl (inr (inr (inr (inl (inr (suc i, l, (omega arith, inr (inl (not-above _ _ _ _ .1 c, refl))))))))))
-  met (trailing-bytes l) = inr (l, refl)
+  from-fault (ends-early l) = inl (inr (l, refl))
+  from-fault (unknown-bit l c) = inl (inl (inl (omega arith, c, refl)))
+  from-fault (item-unknown-bit k l a c) = inl (inl (inr (inr (inl (inr (k, l, inl (omega arith, c, refl)))))))
+  from-fault (container-measure p m l c) = inl (inl (inr (inl (p, m, (l, c, refl)))))
+  from-fault (item-measure k l p m a c) = inl (inl (inr (inr (inl (inr (k, l, inr (inl (p, m, (a, c, refl)))))))))
+  from-fault (yard-number t l q) = inl (inl (inr (inr (inr (inr (inl (t, (l, omega arith, refl))))))))
+  from-fault (item-count t l c) = inl (inl (inr (inr (inl (inl (t, (omega arith, c, refl)))))))
+  from-fault (precedence-count t l c) = inl (inl (inr (inr (inr (inl (inl (t, (omega arith, c, refl))))))))
+  from-fault (bad-item i l a c) = inl (inl (inr (inr (inr (inl (inr (i, l, (omega arith, inl (c, refl)))))))))
+  from-fault (not-rising i l a c) = inl (inl (inr (inr (inr (inl (inr (suc i, l, (omega arith, inr (inl (not-above _ _ _ _ .1 c, refl))))))))))
+  from-fault (trailing-bytes l) = inr (l, refl)
 
   sheet-gives : Gives s (sheet-at s) (sheet-end s) (Fault s) (run (whole sheet) 0 s)
-  sheet-gives = gives-as s (gives-whole s sheet spans-sheet) (λ e. (told, met))
+  sheet-gives = gives-as s (gives-whole s sheet spans-sheet) (λ e. (to-fault, from-fault))
 
   -- "Reading goes left to right and gives the first fault; at one place the lower number"
   pub refused-first : (e : Refusal) → (run (whole sheet) 0 s ≡ refused e) ↔ FirstFault s e
@@ -225,14 +226,14 @@ module _ (s : List ℕ) where
       (λ h. record { fault = to h .0; first = to h .1 }, λ φ. from (φ .fault, φ .first))
 
   -- a sheet with no fault ends after its last field
-  ends : ((e : Refusal) → Fault s e → ⊥) → sheet-end s ≡ length s
-  ends none =
+  faultless-ends : ((e : Refusal) → Fault s e → ⊥) → sheet-end s ≡ length s
+  faultless-ends none =
       let a : ¬ (length s < sheet-end s) = λ l. none _ (ends-early l) in
       let b : ¬ (sheet-end s < length s) = λ l. none _ (trailing-bytes l) in omega arith
 
-  -- and reads as its bytes tell
+  -- and reads as its bytes say
   pub faultless-got : ((e : Refusal) → Fault s e → ⊥) → run (whole sheet) 0 s ≡ got (sheet-at s) (length s) []
-  faultless-got none = let q = ends none in none-given s sheet-gives none ∙ rw (q, drop-length)
+  faultless-got none = let q = faultless-ends none in none-given s sheet-gives none ∙ rw (q, drop-length)
 
   -- what has no fault is read
   pub faultless-reads : ((x : Sheet) × (run (whole sheet) 0 s ≡ got x (length s) [])) ↔ ((e : Refusal) → Fault s e → ⊥)
@@ -266,6 +267,6 @@ module _ (s : List ℕ) where
       length-up-to (items-on s) _,
       λ k l.
           let σ = spans-item (item-place s k) in
-          let i : item-place s (suc k) ≤ length s = omega (arith, item-inside k l, spans-precedences (items-on s) refl .onward, ends none) in
-          (i, rw getD-up-to (none-given s (σ .gives (omega arith)) (λ e. elim [ inl w ↦ none e (item-told k l w) | inr (m, _) ↦ omega arith ]))),
+          let i : item-place s (suc k) ≤ length s = omega (arith, item-inside k l, spans-precedences (items-on s) refl .onward, faultless-ends none) in
+          (i, rw getD-up-to (none-given s (σ .gives (omega arith)) (λ e. elim [ inl w ↦ none e (item-to-fault k l w) | inr (m, _) ↦ omega arith ]))),
     )

@@ -9,22 +9,22 @@ use Rattle.parts.proofs.Laws.{number-laws, item-lawful, precedence-lawful}
 use Rattle.sheet.specs.Sheet.{Sheet, list-of, item-list, precedence-list, yard-number, sheet-fields, sheet}
 
 module _ {P A : Type 0} (part : Format A) (tests : P → A → List Test) (next : P → A → P) (φ : Lawful part) where
-  none : (xs : List A) → eqb (length xs) 0 ≡ true → [] ≡ xs
-  none [] h = refl
-  none (x ∷ xs) h = absurd (omega (arith, eqb-true (length (x ∷ xs)) 0 h))
+  empty-list : (xs : List A) → eqb (length xs) 0 ≡ true → [] ≡ xs
+  empty-list [] h = refl
+  empty-list (x ∷ xs) h = absurd (omega (arith, eqb-true (length (x ∷ xs)) 0 h))
 
   -- a count of 0 is refused
-  some : (a b : Bool) → (not (a || b) && true) ≡ true → a ≡ false
-  some true b h = absurd (false≢true h)
-  some false b h = refl
+  count-not-zero : (a b : Bool) → (not (a || b) && true) ≡ true → a ≡ false
+  count-not-zero true b h = absurd (false≢true h)
+  count-not-zero false b h = refl
 
   pub list-laws : (p : P) (limit : ℕ) → OptionalLaws (list-of part tests next p limit)
   unfolding list-of counted count keyed tested passes-all byte
   list-laws p limit = record {
     lawful = counted-lawful part tests next φ p limit;
     out = refl;
-    only = none;
-    apart = λ xs h. some _ _ (both-true _ _ h .0);
+    only = empty-list;
+    apart = λ xs h. count-not-zero _ _ (both-true _ _ h .0);
   }
 
 pub sheet-fields-laws : FieldsLaws sheet-fields

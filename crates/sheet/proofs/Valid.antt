@@ -1,4 +1,4 @@
--- What may stand on a sheet, part by part.
+-- Which sheets may be written, part by part.
 use Rattle.prelude.specs.Names.{_≡_, refl, sym, _∙_, Bool, true, false, not, _&&_, and-true, and-false, and-assoc, List, [], _∷_, ℕ, decLe, arith}
 use Rattle.prelude.specs.Names.{leb, ltb, eqb·suc-zero, length, le-leb, lt-leb, lt-ltb, le-ltb}
 use lib.Dec.{leb·zero}
@@ -15,9 +15,9 @@ use Rattle.parts.specs.Parts.{measure, measures, item, precedence, precedence-t
 use Rattle.parts.proofs.Laws.{number-valid, item-valid, precedence-valid}
 use Rattle.sheet.specs.Sheet.{Sheet, max-items, max-precedences, list-of, item-list, precedence-list, yard-number, sheet-fields, sheet}
 
--- not above a is at most a
-not-above : (a b : ℕ) → not (ltb a b) ≡ leb b a
-not-above a b = elim (decLe b a)
+-- not below is at least
+not-ltb : (a b : ℕ) → not (ltb a b) ≡ leb b a
+not-ltb a b = elim (decLe b a)
     [ yes l ↦ rw (le-ltb a b l, le-leb b a l) | no k ↦ rw (lt-ltb a b (omega arith), lt-leb b a (omega arith)) ]
 
 -- a list has at most so many parts, each as its row asks
@@ -25,7 +25,7 @@ pub list-valid : {P A : Type 0} (part : Format A) (tests : P → A → List Test
     → optional-valid (list-of part tests next p limit) xs ≡ (leb (length xs) limit && row-valid part tests next p (length xs) xs)
 unfolding optional-valid list-of counted count keyed tested passes-all byte row row-valid
 list-valid part tests next p limit [] = rw leb·zero
-list-valid part tests next p limit (x ∷ xs) = simp (eqb·suc-zero, not-above, and-true)
+list-valid part tests next p limit (x ∷ xs) = simp (eqb·suc-zero, not-ltb, and-true)
 
 items-valid : (is : List Item) → row-valid item (λ (_ : Unit {0}) _. []) (λ p _. p) tt (length is) is ≡ all-have-size is
 unfolding row-valid all-have-size tested passes-all

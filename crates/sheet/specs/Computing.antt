@@ -1,7 +1,7 @@
 -- To compute with a sheet and its bytes: `unfolding sheet-computing` opens all that reading and writing go through.
 use Rattle.formats.specs.Reading.{run, _>>=_}
-use Rattle.formats.specs.Formats.{byte, word, pair, converted, testing, passes-all, tested, keyed, row-reading, row-bytes, row-valid, row, count, counted}
-use Rattle.formats.specs.Formats.{whole}
+use Rattle.formats.specs.Formats.{byte, word, pair, converted, testing, passes-all, tested, keyed, row-reading, row-bytes, row-valid, row, count}
+use Rattle.formats.specs.Formats.{counted, whole}
 use Rattle.formats.specs.Fields.{optional-bytes, optional-valid, flag, flags, fields-reading, fields-bytes, fields-valid, fields, map-byte, with-map}
 use Rattle.parts.specs.Precedences.{names-items, above}
 use Rattle.parts.specs.Parts.{number, measure, measures, item-fields, item, precedence}

@@ -1,4 +1,4 @@
--- What a sheet says, told from its bytes and the places of its parts alone. This is a second account of the format, beside `Sheet`: that
+-- What a sheet says, by its bytes and the places of its parts alone. This is a second account of the format, beside `Sheet`: that
 -- a sheet without a fault reads as it is a theorem (proofs/Faults).
 use Rattle.prelude.specs.Names.{ℕ, _+_, cond, List}
 use Rattle.formats.specs.Fields.{is-set}

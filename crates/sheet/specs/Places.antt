@@ -1,4 +1,4 @@
--- Where the parts of a sheet are, told from its bytes alone (document 01, "Sheet bytes"). Bytes past the end count as 0.
+-- Where the parts of a sheet are, by its bytes alone (document 01, "Sheet bytes"). Bytes past the end count as 0.
 use Rattle.prelude.specs.Names.{ℕ, zero, suc, _+_, _*_, Bool, cond, List, getD}
 use Rattle.formats.specs.Fields.{is-set}
 use Rattle.parts.specs.declared.Precedence.{Precedence}
@@ -7,7 +7,7 @@ use Rattle.parts.specs.declared.Precedence.{Precedence}
 abbrev pub two-if : Bool → ℕ
 two-if bit = cond bit 2 0
 
--- how many bytes the measures have whose bits 0, 1, 2 stand
+-- how many bytes the measures have whose bits 0, 1, 2 are set
 unfoldable pub measures-length : ℕ → ℕ
 measures-length map = two-if (is-set map 1) + two-if (is-set map 2) + two-if (is-set map 4)
 
@@ -23,11 +23,11 @@ module _ (s : List ℕ) where
   abbrev pub precedence-at : ℕ → Precedence
   precedence-at p = record { predecessor = byte-at p; successor = byte-at (p + 1) }
 
-  -- whether a bit of the first map byte stands, by its weight
+  -- whether a bit of the first map byte is set, by its weight
   abbrev pub has : ℕ → Bool
   has weight = is-set (byte-at 0) weight
 
-  -- the place after the hall's measures: of the count of pieces, where they stand
+  -- the place after the hall's measures: of the count of pieces, where there is one
   unfoldable pub container-end : ℕ
   container-end = 1 + measures-length (byte-at 0)
 
@@ -44,7 +44,7 @@ module _ (s : List ℕ) where
   item-place zero = container-end + 1
   item-place (suc k) = after-item (item-place k)
 
-  -- the place after the pieces: of the count of orders, where they stand
+  -- the place after the pieces: of the count of orders, where there is one
   unfoldable pub items-end : ℕ
   items-end = cond (has 8) (item-place items-on) container-end
 
@@ -56,7 +56,7 @@ module _ (s : List ℕ) where
   unfoldable pub precedence-place : ℕ → ℕ
   precedence-place i = items-end + 1 + 2 * i
 
-  -- the place after the orders: of the yard number, where it stands
+  -- the place after the orders: of the yard number, where it is written
   unfoldable pub precedences-end : ℕ
   precedences-end = cond (has 16) (precedence-place precedences-on) items-end
 

@@ -24,23 +24,23 @@ module _ (i : Instance) (room : ℕ) where
   grounds true v (yes l) = rw (v, lt-ltb room (length (encode i)) l) (WriteFault.eight v l refl, refl)
   grounds true v (no l) = rw (v, le-ltb room (length (encode i)) (omega arith)) (v, omega arith, refl)
 
-  ends-so : (a : ℕ ⊎ (ℕ × ℕ)) → Grounds a → write-values (write-answer i room) ≡ a
+  from-grounds : (a : ℕ ⊎ (ℕ × ℕ)) → Grounds a → write-values (write-answer i room) ≡ a
   unfolding write-answer
-  ends-so (inl n) (v, l, k) = rw (v, le-ltb room (length (encode i)) l, k)
-  ends-so (inr (n, place)) (WriteFault.nine v k, z) = rw (v, k, z)
-  ends-so (inr (n, place)) (WriteFault.eight v l k, z) = rw (v, lt-ltb room (length (encode i)) l, k, z)
+  from-grounds (inl n) (v, l, k) = rw (v, le-ltb room (length (encode i)) l, k)
+  from-grounds (inr (n, place)) (WriteFault.nine v k, z) = rw (v, k, z)
+  from-grounds (inr (n, place)) (WriteFault.eight v l k, z) = rw (v, lt-ltb room (length (encode i)) l, k, z)
 
-  told : (a : ℕ ⊎ (ℕ × ℕ)) → (write-values (write-answer i room) ≡ a) ↔ Grounds a
-  told a = ((λ k. subst Grounds k (grounds (valid i) refl (decLt room (length (encode i))))), ends-so a)
+  exactly : (a : ℕ ⊎ (ℕ × ℕ)) → (write-values (write-answer i room) ≡ a) ↔ Grounds a
+  exactly a = ((λ k. subst Grounds k (grounds (valid i) refl (decLt room (length (encode i))))), from-grounds a)
 
   -- 9, then 8, each with place 0
   pub write-refuses : (n place : ℕ) → (write-values (write-answer i room) ≡ inr (n, place)) ↔ (WriteFault i room n × (place ≡ 0))
-  write-refuses n place = told (inr (n, place))
+  write-refuses n place = exactly (inr (n, place))
 
   -- "Writing returns the sheet's length"
   pub write-writes : (n : ℕ) → (write-values (write-answer i room) ≡ inl n)
       ↔ ((valid i ≡ true) × (length (encode i) ≤ room) × (n ≡ length (encode i)))
-  write-writes n = told (inl n)
+  write-writes n = exactly (inl n)
 
 -- "Every refusal leaves lent buffers untouched"
 pub room-untouched : (i : Instance) (room : List ℕ) (n place : ℕ)
@@ -52,10 +52,10 @@ room-untouched i room n place k = go (write-refuses i (length room) n place .0 k
     go (WriteFault.nine v k) = rw v
     go (WriteFault.eight v l k) = rw (v, lt-leb (length (encode i)) (length room) l)
 
-fills : (i : Instance) (room : List ℕ) → valid i ≡ true → length (encode i) ≤ length room
+room-filled : (i : Instance) (room : List ℕ) → valid i ≡ true → length (encode i) ≤ length room
     → written-room i room ≡ encode i ++ drop (length (encode i)) room
 unfolding written-room
-fills i room v l = rw (v, le-leb (length (encode i)) (length room) l)
+room-filled i room v l = rw (v, le-leb (length (encode i)) (length room) l)
 
 -- "A written sheet reads back as the same sheet"
 pub written-read-back : (i : Instance) → Full i → (room : List ℕ) (n : ℕ)
@@ -66,7 +66,7 @@ pub written-read-back : (i : Instance) → Full i → (room : List ℕ) (n : ℕ
 written-read-back i full room n e =
     let (v, l, m) = write-writes i (length room) n .0 e in
     let back = encode-decodes i v full in
-    (blanked i, rw (m, fills i room v l, take-append-seam, back), same-blanked i v full)
+    (blanked i, rw (m, room-filled i room v l, take-append-seam, back), same-blanked i v full)
 
 -- "bytes that read as a sheet are written again as those bytes"; the room past them stays
 pub read-written-again : (s : List ℕ) → Bytes s → (i : Instance)
@@ -79,4 +79,4 @@ read-written-again s bytes i e room l =
     let v = read-valid s h bytes in
     let same = decode-encodes s h bytes in
     let k : length (encode i) ≤ length room = rw same l in
-    rw (← same) (write-writes i (length room) _ .1 (v, k, refl), fills i room v k)
+    rw (← same) (write-writes i (length room) _ .1 (v, k, refl), room-filled i room v k)

@@ -49,8 +49,8 @@ module _ (i : Instance) (h : valid i ≡ true) (full : Full i) where
       item-list precedence-list yard-number
   encode-is = simp (list-bytes, items-counted i h full, precedences-counted i h full, append-assoc, append-nil)
 
-  pub precedences-two : length (precedences-bytes (i .«precedence_count») (i .precedences)) ≡ length (count-bytes (i .«precedence_count»)) + 2 * i .«precedence_count»
-  precedences-two = simp (length-append, precedences-length, precedences-counted i h full)
+  pub precedences-bytes-length : let m = i .«precedence_count» in length (precedences-bytes m (i .precedences)) ≡ length (count-bytes m) + 2 * m
+  precedences-bytes-length = simp (length-append, precedences-length, precedences-counted i h full)
 
   pub encode-length : Lengths i
   encode-length = rw encode-is (simp (length-append, precedences-length, precedences-counted i h full) (omega arith))

@@ -1,4 +1,4 @@
--- `item_record::place_of` meets its contract.
+-- `item_record::place_of` meets its contract. Invariant: `place` is that of item i. Measure: the items left up to item k.
 use Rattle.prelude.specs.Names.{needs, add-one, arith, _≡_, _≤_, _-_}
 use Rattle.sheet.specs.Places.{container-end, item-place}
 use Rattle.sheet.proofs.Faults.{item-before}

@@ -1,5 +1,5 @@
--- `lists::all_positive` meets its contract.
-use Rattle.prelude.specs.Names.{needs, not-true, not-false, arith, _-_, _≤_, _≡_, refl, length, take, drop}
+-- `lists::all_positive` meets its contract. Invariant: the first n items have a size exactly where those from i on have. Measure: the items left.
+use Rattle.prelude.specs.Names.{needs, not-true, not-false, arith, _&&_, _+_, _-_, _≤_, _≡_, refl, length, take, drop}
 use Rattle.formats.proofs.Entries.{part-next, part-done}
 use Rattle.parts.specs.Sizes.{all-have-size, no-item}
 use Rattle.lists.proofs.all_positive.Tie as tie
@@ -10,24 +10,19 @@ Inv-loop n items i₀ i = (i ≤ n) × (all-have-size (take n items) ≡ all-hav
 abbrev μ-loop : tie.MeasureT-loop
 μ-loop n items i₀ i = n - i
 
+-- item i is tested, and then those after it
+next-tested : (c : tie.After-is-positive Inv-loop μ-loop) →
+    let l = c .before .before .before .before in let a = l .before .args in
+    all-have-size (take (a .n) (a .t1)) ≡ (c .is-positive .result && all-have-size (drop (l .loop .i + 1) (take (a .n) (a .t1))))
+unfolding all-have-size
+next-tested c =
+    let l = c .before .before .before .before in let a = l .before .args in let h : length (a .t1) ≡ 10 = search needs in
+    rw (l .loop .inv .1, part-next (a .n) (l .loop .i) (a .t1) (omega arith) no-item (omega arith), ← (c .is-positive .ensures))
+
 pub all-positive-spec : {M : Type 1} → Rattle.lists.proofs.all_positive.Statement.statement M
 unfolding all-have-size
 all-positive-spec = tie.close (tie.spec Inv-loop μ-loop (λ c. (omega arith, refl)) (λ c. search needs) (λ c. search needs) (λ c κs. search needs)
-    (λ c. let d = c .before .before .before .before .before in let a = d .before .args in let h : length (a .t1) ≡ 10 = search needs in
-    rw (
-      d .loop .inv .1,
-      part-next (a .n) (d .loop .i) (a .t1) (omega arith) no-item (omega arith),
-      ← (c .before .is-positive .ensures),
-      not-true (c .before .is-positive .result) (c .if1 .taken),
-    )) (λ c. search needs) (λ c. search needs)
-    (λ c. let d = c .before .before .before .before .before in let a = d .before .args in let h : length (a .t1) ≡ 10 = search needs in (
-      omega arith,
-      rw (
-        d .loop .inv .1,
-        part-next (a .n) (d .loop .i) (a .t1) (omega arith) no-item (omega arith),
-        ← (c .before .is-positive .ensures),
-        not-false (c .before .is-positive .result) (c .if1 .left),
-      ),
-    ))
+    (λ c. rw (next-tested (c .before), not-true (c .before .is-positive .result) (c .if1 .taken))) (λ c. search needs) (λ c. search needs)
+    (λ c. (omega arith, rw (next-tested (c .before), not-false (c .before .is-positive .result) (c .if1 .left))))
     (λ c. let d = c .before in let a = d .before .args in let h : length (a .t1) ≡ 10 = search needs in
     rw (d .loop .inv .1, part-done (a .n) (d .loop .i) (a .t1) (omega arith) (omega arith))))

@@ -1,4 +1,5 @@
--- `lists::read_item_row` meets its contract.
+-- `lists::read_item_row` meets its contract. Invariant: i items are read and stored, and the row reads as they do, followed by what is left of it
+-- after `used` bytes. Measure: the items left.
 use Rattle.prelude.specs.Names.{needs, arith, _-_, length-drop, _∙_, []}
 use Rattle.formats.proofs.Entries.{rest-of}
 use Rattle.formats.proofs.Laws.{untested}

@@ -1,4 +1,5 @@
--- `lists::read_precedence_row` meets its contract.
+-- `lists::read_precedence_row` meets its contract. Invariant: i precedences are read and stored, and the row reads as they do, followed by what is
+-- left of it after `used` bytes and the precedence `last`. Measure: the precedences left.
 use Rattle.prelude.specs.Names.{needs, arith, _-_, length-drop}
 use Rattle.formats.proofs.Entries.{rest-of}
 use Rattle.formats.specs.Formats.{tested}

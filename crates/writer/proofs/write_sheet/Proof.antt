@@ -3,7 +3,7 @@ use Rattle.prelude.specs.Names.{arith, length-set}
 use Rattle.instance.specs.Reads.{Full}
 use Rattle.instance.proofs.Arrays.{length-mapped}
 use Rattle.instance.proofs.Sheets.{valid-says}
-use Rattle.writer.proofs.Sheets.{Lengths, encode-length, encode-stored, precedences-two}
+use Rattle.writer.proofs.Sheets.{Lengths, encode-length, encode-stored, precedences-bytes-length}
 use Rattle.writer.proofs.write_sheet.Tie as tie
 
 -- as every value of the type
@@ -24,7 +24,7 @@ returns c =
     let y = d .write-precedences .ensures in
     let x = e .write-items .ensures in
     let w = f .write-size .ensures in
-    let p = rw (← (precedences-two (s .args .instance) (s .pre .0) (full s))) at (y .0) in (
+    let p = rw (← (precedences-bytes-length (s .args .instance) (s .pre .0) (full s))) at (y .0) in (
       omega (arith, long s, w .0, x .0, y .0, z .0),
       rw (z .1, y .1, x .1, w .1, f .before .before .map-of .ensures, p, x .0, w .0)
           (encode-stored (s .args .instance) (s .pre .0) (full s) (s .args .out .now)),

@@ -1,6 +1,6 @@
 -- `domains::access::remove_before` meets its contract.
 use Rattle.prelude.specs.Names.{arith, needs}
-use Rattle.model.proofs.Written.{remove-before-up, remove-before-down}
+use Rattle.model.proofs.Domains.{remove-before-up, remove-before-down}
 use Rattle.domains.proofs.access.remove_before.Tie as tie
 
 pub remove-before-spec : {M : Type 1} → Rattle.domains.proofs.access.remove_before.Statement.statement M

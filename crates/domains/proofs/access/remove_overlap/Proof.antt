@@ -1,6 +1,6 @@
 -- `domains::access::remove_overlap` meets its contract.
 use Rattle.prelude.specs.Names.{arith, needs}
-use Rattle.model.proofs.Written.{remove-overlap-up, remove-overlap-down}
+use Rattle.model.proofs.Domains.{remove-overlap-up, remove-overlap-down}
 use Rattle.domains.proofs.access.remove_overlap.Tie as tie
 
 pub remove-overlap-spec : {M : Type 1} → Rattle.domains.proofs.access.remove_overlap.Statement.statement M

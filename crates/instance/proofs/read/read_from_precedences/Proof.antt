@@ -2,7 +2,7 @@
 use Rattle.prelude.specs.Names.{_≤_, arith, _∙_, length, length-drop, needs}
 use Rattle.formats.proofs.Entries.{rest-of}
 use Rattle.formats.proofs.Run.{run-took}
-use Rattle.instance.proofs.Readers.{precedences-run, items-many}
+use Rattle.instance.proofs.Readers.{precedences-run, items-count}
 use Rattle.instance.proofs.read.read_from_precedences.Tie as tie
 
 -- the bytes that the list took are there
@@ -19,7 +19,7 @@ read-from-precedences-spec = tie.close (tie.spec (λ c κs. search needs) (λ c 
     (λ c. let b = c .before .before in let r = b .before .before in let s = r .before .before .before in
     c .refuse .ensures ∙ simp (
       precedences-run,
-      items-many (s .args .draft) (s .pre .1),
+      items-count (s .args .draft) (s .pre .1),
       ← (r .before .bit-is-set .ensures),
       rw (b .stop .given .1) at (r .read-precedences .ensures .0),
     ))
@@ -27,7 +27,7 @@ read-from-precedences-spec = tie.close (tie.spec (λ c κs. search needs) (λ c 
     rw rest-of at (c .read-from-yard-number .ensures)
     ∙ simp (
       precedences-run,
-      items-many (s .args .draft) (s .pre .1),
+      items-count (s .args .draft) (s .pre .1),
       ← (r .before .bit-is-set .ensures),
       rw (b .stop2 .given .1) at (r .read-precedences .ensures .0),
     )))

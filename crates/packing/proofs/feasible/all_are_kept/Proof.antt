@@ -1,4 +1,4 @@
--- `packing::feasible::all_are_kept` meets its contract.
+-- `packing::feasible::all_are_kept` meets its contract. Invariant: the first i precedences are kept. Measure: the precedences left.
 use Rattle.prelude.specs.Names.{needs, not-true, not-false, arith, _≡_, _-_, _≤_, length, getD}
 use Rattle.parts.specs.Sizes.{no-precedence}
 use Rattle.packing.specs.Parts.{precedence-kept}

@@ -1,4 +1,4 @@
--- `packing::feasible::apart` meets its contract.
+-- `packing::feasible::apart` meets its contract. Invariant: each item below u is apart from every item of a lower number. Measure: the items left.
 use Rattle.prelude.specs.Names.{needs, not-true, not-false, _-_}
 use Rattle.instance.specs.Meaning.{problem-of, positions-of}
 use Rattle.packing.specs.Parts.{apart-from-lower}

@@ -1,4 +1,5 @@
--- `packing::feasible::apart_from_lower_items` meets its contract.
+-- `packing::feasible::apart_from_lower_items` meets its contract. Invariant: item u is apart from each item below v. Measure: the lower items
+-- left.
 use Rattle.prelude.specs.Names.{needs, not-true, not-false, _-_}
 use Rattle.instance.specs.Meaning.{problem-of, positions-of}
 use Rattle.model.specs.Problem.{apart-on-some-axis}

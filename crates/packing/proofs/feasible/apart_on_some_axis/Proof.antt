@@ -1,4 +1,4 @@
--- `packing::feasible::apart_on_some_axis` meets its contract.
+-- `packing::feasible::apart_on_some_axis` meets its contract. Invariant: on no axis so far are the two items parted. Measure: the axes left.
 use Rattle.prelude.specs.Names.{needs, _-_}
 use Rattle.packing.proofs.Loops.{Failed, parted-on, parted-left, parted-right, parted-more, parted, not-parted}
 use Rattle.packing.proofs.feasible.apart_on_some_axis.Tie as tie

@@ -1,4 +1,4 @@
--- `packing::feasible::inside` meets its contract.
+-- `packing::feasible::inside` meets its contract. Invariant: on the axes so far every item is inside. Measure: the axes left.
 use Rattle.prelude.specs.Names.{needs, not-true, not-false, _-_}
 use Rattle.instance.specs.Meaning.{problem-of, positions-of}
 use Rattle.packing.specs.Parts.{inside-on}

@@ -1,4 +1,4 @@
--- `packing::feasible::inside_on_axis` meets its contract.
+-- `packing::feasible::inside_on_axis` meets its contract. Invariant: on the axis the first u items are inside. Measure: the items left.
 use Rattle.prelude.specs.Names.{needs, le-leb, lt-leb, _-_}
 use Rattle.packing.proofs.Loops.{Passed, all-more, all-fails, all-done, within-limit, within-limit-is, inside-by}
 use Rattle.packing.proofs.feasible.inside_on_axis.Tie as tie

@@ -1,4 +1,5 @@
--- `writer::counted::items_len` meets its contract.
+-- `writer::counted::items_len` meets its contract. Invariant: the sum is the length of the count and the first i items, of at
+-- most 7 bytes each. Measure: the items left.
 use Rattle.prelude.specs.Names.{arith, _+_, _-_, _*_, _≤_, _≡_, length, take, length-append, needs}
 use Rattle.formats.specs.Formats.{row-bytes}
 use Rattle.formats.proofs.Stores.{row-none, row-next}
@@ -6,7 +7,6 @@ use Rattle.parts.specs.Parts.{count-bytes, item}
 use Rattle.parts.specs.Sizes.{no-item}
 use Rattle.writer.proofs.counted.items_len.Tie as tie
 
--- the count and the first i items are summed up
 abbrev Inv-loop : tie.InvT-loop
 Inv-loop n items sum₀ i₀ sum i = (i ≤ n) × (sum ≡ length (count-bytes n) + length (row-bytes (item .bytes) (take i items))) × (sum ≤ 1 + 7 * i)
 

@@ -1,11 +1,10 @@
--- `writer::counted::write_items` meets its contract.
+-- `writer::counted::write_items` meets its contract. Invariant: after the count the first i items are written. Measure: the items left.
 use Rattle.prelude.specs.Names.{arith, _≡_, _∙_, _-_, length, length-append, needs}
 use Rattle.parts.specs.Parts.{item}
 use Rattle.parts.specs.Sizes.{no-item}
 use Rattle.writer.proofs.Rows.{Row, row-start, row-fits, row-more, row-written}
 use Rattle.writer.proofs.counted.write_items.Tie as tie
 
--- after the count the first i items are written
 abbrev Inv-loop : tie.InvT-loop
 Inv-loop out₀ at n items k₀ i₀ out k i = Row (item .bytes) items out₀ k₀ n i out k
 

@@ -1,4 +1,5 @@
--- `writer::counted::write_precedences` meets its contract.
+-- `writer::counted::write_precedences` meets its contract. Invariant: after the count the first i precedences are written. Measure: the
+-- precedences left.
 use Rattle.prelude.specs.Names.{arith, _≡_, _∙_, _-_, _≤_, length, length-append, needs}
 use Rattle.parts.specs.Parts.{precedence}
 use Rattle.parts.specs.Sizes.{no-precedence}
@@ -6,7 +7,6 @@ use Rattle.parts.proofs.Writers.{precedence-bytes}
 use Rattle.writer.proofs.Rows.{Row, row-start, row-fits, row-more, row-written, precedences-many}
 use Rattle.writer.proofs.counted.write_precedences.Tie as tie
 
--- after the count the first i precedences are written
 abbrev Inv-loop : tie.InvT-loop
 Inv-loop out₀ at m precedences k₀ i₀ out k i = Row (precedence .bytes) precedences out₀ k₀ m i out k
 

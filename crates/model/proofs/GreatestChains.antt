@@ -3,7 +3,7 @@ use Rattle.prelude.specs.Names.{true, [], _∷_, _≡_, ℕ, _≤_, _<_}
 use Rattle.model.specs.Problem.{Problem}
 use Rattle.model.specs.Domains.{Domains, fixed-before}
 use Rattle.model.specs.Rules.{joined, ending, starting, greatest-ending, greatest-starting}
-use Rattle.model.proofs.Chain.{most-size, back-mono, front-mono, greatest-within, greatest-bound, greatest-step}
+use Rattle.model.proofs.Chain.{Transitive, most-size, back-mono, front-mono, greatest-within, greatest-bound, greatest-step}
 
 module _ (p : Problem) (k : Domains) (a : ℕ) where
   pub greatest-ending-size : (u : ℕ) → p .size a u ≤ greatest-ending p k a u
@@ -19,7 +19,8 @@ module _ (p : Problem) (k : Domains) (a : ℕ) where
     pub greatest-ending-within : ((v u x : ℕ) → v < p .items → u < p .items → fixed-before k a v u ≡ true → x ≤ c v → joined p a v u x (p .size a u) ≤ c u)
         → (u : ℕ) → u < p .items → greatest-ending p k a u ≤ c u
     unfolding greatest-ending ending
-    greatest-ending-within step u hu = greatest-within p a (λ u v. fixed-before k a v u) _ (back-mono p a) c alone (λ u v x hu hv b h. step v u x hv hu b h) u hu
+    greatest-ending-within step u hu =
+        greatest-within p a (λ u v. fixed-before k a v u) _ (back-mono p a) c alone (λ u v x hu hv b h. step v u x hv hu b h) u hu
 
     pub greatest-starting-within : ((u v y : ℕ) → u < p .items → v < p .items → fixed-before k a u v ≡ true → y ≤ c v → joined p a u v (p .size a u) y ≤ c u)
         → (u : ℕ) → u < p .items → greatest-starting p k a u ≤ c u
@@ -38,7 +39,7 @@ module _ (p : Problem) (k : Domains) (a : ℕ) where
   greatest-starting-bound v c hv s h = greatest-bound p a (λ u v. fixed-before k a u v) _ (front-mono p a) v c hv s h
 
   -- where "before" is a strict order, greatest chains go on
-  module _ (trans : (x v u : ℕ) → x < p .items → v < p .items → u < p .items → fixed-before k a x v ≡ true → fixed-before k a v u ≡ true → fixed-before k a x u ≡ true)
+  module _ (trans : Transitive (p .items) (fixed-before k a))
       (irreflexive : (x : ℕ) → fixed-before k a x x ≡ true → ⊥) (u v : ℕ) (hu : u < p .items) (hv : v < p .items) (b : fixed-before k a u v ≡ true) where
     pub greatest-ending-step : joined p a u v (greatest-ending p k a u) (p .size a v) ≤ greatest-ending p k a v
     unfolding greatest-ending ending
