@@ -18,7 +18,8 @@ module _ (o a : ℕ) (t s : List ℕ) (same : capacity-at s a ≡ capacity-at t 
   unfolding room
   room-lt zero u l less small = absurd (omega arith)
   room-lt (suc n) u l less small = ⊎-elim
-      (λ e. let b : total-at t o a n < total-at s o a n = rw e at less in let c : total-at s o a n ≤ capacity-at s a = rw e at small in omega (arith, room-le n))
+      (λ e. let grown : total-at t o a n < total-at s o a n = rw e at less in
+      let within : total-at s o a n ≤ capacity-at s a = rw e at small in omega (arith, room-le n))
       (λ b. omega (arith, room-lt n u b less small, up (o + a * 10 + n))) (eq-or-lt-of-le {n = u} {m = n} (omega arith))
 
   -- items grow, and the set may gain all of them; or none grows, and it loses one

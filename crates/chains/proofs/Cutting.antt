@@ -1,7 +1,7 @@
 -- What the totals find too long: the set of items, and removing it for the items of a set.
 use Rattle.prelude.specs.Names.{Bool, true, false, not, _&&_, or-false, and-false, List, ⊎-elim, _≢_, _≡_, refl, sym, _∙_, ap, ℕ, _+_, _-_, _*_, _/_}
 use Rattle.prelude.specs.Names.{_%_, _^_, _≤_, _<_, eq-or-lt-of-le, arith, bitAnd, bitOr, bitXor, or-lt, eqb, ltb, pow-lt, eqb-true, lt-ltb, le-ltb}
-use Rattle.prelude.specs.Names.{ltb-true, ltb-false, eq-eqb, ne-eqb, eqb-false, not-true}
+use Rattle.prelude.specs.Names.{ltb-true, ltb-false, eq-eqb, ne-eqb, eqb-false, not-true, not-false}
 use Rattle.model.specs.Domains.{Domains}
 use Rattle.model.specs.Order.{Proper, _⊑_}
 use Rattle.model.specs.Relations.{gone, converse}
@@ -10,16 +10,16 @@ use Rattle.model.proofs.Below.{and-both, and-intro, clash, fails, stays}
 use Rattle.model.proofs.Claims.{gone-mono}
 use Rattle.model.proofs.Order.{below-refl}
 use Rattle.model.proofs.Toward.{by-direction}
-use Rattle.domains.specs.Bits.{bit-at, Gives, lowest-bit, TakenOut}
+use Rattle.domains.specs.Bits.{bit-at, Gives, lowest-bit, Lowest, TakenOut}
 use Rattle.domains.specs.Rows.{row-at}
-use Rattle.domains.specs.Queue.{queue-end, Good}
-use Rattle.domains.specs.Narrowed.{Grown, Narrowed, Refuted, Each, Spares, All, Askable}
+use Rattle.domains.specs.Queue.{queue-end, Good, Long}
+use Rattle.domains.specs.Narrowed.{Narrowed, Refuted, FilledWith, RemovedOnly, RemovedIf, Each, Spares, All, Askable}
 use Rattle.chains.specs.Totals.{table-start, capacity-at, Tabled}
 use Rattle.chains.specs.Links.{total-at}
-use Rattle.chains.specs.Cuts.{above-both, exceeds, Comparable, EachAsked, Roomy, CutOf}
+use Rattle.chains.specs.Cuts.{above-both, exceeds, Comparable, CutFrom, CutAll, CutOf}
 use Rattle.domains.proofs.BitLaws.{bit-and, bit-or, bit-not, bit-power, bit-above, bit-below, bit-zero, bit-shr, bit-shl, shl-small, and-small}
-use Rattle.domains.proofs.Narrowed.{grown-none, grown-then, narrowed-none, narrowed-as}
-use Rattle.domains.proofs.Each.{Emptied, nothing-left, next-spares}
+use Rattle.domains.proofs.Narrowed.{narrowed-none, narrowed-as, narrowed-then, refuted-later}
+use Rattle.domains.proofs.RemoveSet.{Emptied, nothing-left, next-spares}
 use Rattle.domains.proofs.Through.{Through, through-none, through-one, through-all}
 use Rattle.chains.proofs.Relaxing.{total-within}
 
@@ -52,7 +52,7 @@ module _ (f : ℕ → Bool) (n m : ℕ) (g : Gives n m f) where
 -- the items too long with u
 pub compared : {t : List ℕ} {o r a u : ℕ} → Comparable t o r a u → total-at t o a u ≤ capacity-at t a
 compared {t} {o} {r} {a} {u} c =
-    total-within {t = t} {o = o} {a = a} (record { tabled = c .tabled; table = c .table; most = omega (arith, c .other); axis = c .axis }) u (c .item)
+    total-within {t = t} {o = o} {a = a} (record { tabled = c .tabled; aligned = c .aligned; most = omega (arith, c .other); axis = c .axis }) u (c .item)
 
 pub too-long : {t : List ℕ} {o r a u m : ℕ} → Comparable t o r a u
     → Gives 10 m (λ v. ltb (capacity-at t a - total-at t o a u) (total-at t r a v))
@@ -108,19 +108,19 @@ module _ {k : Domains} {rows q : List ℕ} (g : Good k rows q) {x a u items : �
   each-left j b h v hv e =
       stays (gone j x a u v) (λ n. clash (h v hv (left-at v hv ∙ rw (e, fails (gone-mono j k b x a u v) n) refl)) n)
 
-  pub cut-none : left-of ≡ 0 → Narrowed (EachAsked x a u items) (Each x a u items) k q k rows q
+  pub cut-none : left-of ≡ 0 → Narrowed (FilledWith (Each x a u items)) (Each x a u items) k q k rows q
   cut-none z = narrowed-none g (each-left k (below-refl k) (λ v hv e. absurd (clash e (rw z (bit-zero v)))))
 
-  pub cut-done : {j : Domains} {rows′ r : List ℕ} → Narrowed (Each x a u left-of) (Each x a u left-of) k q j rows′ r
-      → Narrowed (EachAsked x a u items) (Each x a u items) k q j rows′ r
-  cut-done {j} = narrowed-as (λ f h b v hv e. h .each v hv (left-in v hv e .0)) (λ b h. each-left j b h)
+  pub cut-done : {j : Domains} {rows′ r : List ℕ} → RemovedOnly (Each x a u left-of) k q j rows′ r
+      → Narrowed (FilledWith (Each x a u items)) (Each x a u items) k q j rows′ r
+  cut-done {j} = narrowed-as (λ f h b v hv e. h .all v hv (left-in v hv e .0)) (λ b h. each-left j b h)
 
   module _ {e : ℕ} (em : Emptied g askable e) where
-    pub cut-refuted : e ≢ 0 → Refuted (EachAsked x a u items) k
+    pub cut-refuted : e ≢ 0 → Refuted (FilledWith (Each x a u items)) k
     cut-refuted ne f h = nothing-left g askable em ne f (record { all = all; filled = h .filled })
       where
         all : All a u asked-of f
-        all y v hy hv i = let (s, l) = asked-in y v hv i in rw s (h .each v hv (left-in v hv l .0))
+        all y v hy hv i = let (s, l) = asked-in y v hv i in rw s (h .all v hv (left-in v hv l .0))
 
     pub cut-spares : e ≡ 0 → Spares k x a u left-of
     cut-spares z =
@@ -135,59 +135,57 @@ pub record Cutting (t : List ℕ) (x a items : ℕ) (k : Domains) (q : List ℕ)
   pub direction : Direction x
   pub axis : a < 3
   pub first : 1 ≤ queue-end q
-  pub grown : Grown k q j rows r
-  pub low : (f : Domains) → Roomy t x a f → f ⊑ k → f ⊑ j
-  pub through : Through 10 items left (λ u. (v : ℕ) → Proper 10 a u v → exceeds t x a u v ≡ true → gone j x a u v ≡ true)
+  pub narrowed : Narrowed (FilledWith (CutAll t x a)) (λ f. Through 10 items left (CutFrom t x a f)) k q j rows r
 
 module _ {t : List ℕ} {x a items : ℕ} {k : Domains} {q : List ℕ} where
   pub cutting-start : {rows : List ℕ} → Direction x → Good k rows q × Tabled t × (a < 3) × (items < 2 ^ 10) → Cutting t x a items k q k rows q items
   cutting-start d (g, s, ha, h) =
-      record { tabled = s; direction = d; axis = ha; first = g .least; grown = grown-none g; low = λ f w b. b; through = through-none h }
+      record { tabled = s; direction = d; axis = ha; first = g .least; narrowed = narrowed-none g (through-none h) }
 
   pub cutting-end : {j : Domains} {rows r : List ℕ} {left : ℕ} → Cutting t x a items k q j rows r left → left ≡ 0
-      → Narrowed (Roomy t x a) (CutOf t x a items) k q j rows r
-  cutting-end h z = record { grown = h .grown; low = h .low; done = λ u v w i e. through-all (h .through) z u i v w e }
+      → Narrowed (FilledWith (CutAll t x a)) (CutOf t x a items) k q j rows r
+  cutting-end {j} h z = narrowed-as (λ f w b. w) (λ _ p. through-all {P = CutFrom t x a j} p z) (h .narrowed)
 
   -- u, the lowest of `left`, is taken out, and the relation removed with the items that are too long with it
   module _ {j : Domains} {rows r : List ℕ} {left : ℕ} (h : Cutting t x a items k q j rows r left)
-      {u : ℕ} (low : (u ≡ lowest-bit left) × (u < 30) × (bit-at left u ≡ true)) where
+      {u : ℕ} (low : Lowest left u) where
     item : u < 10
-    item = bit-below 10 left u (h .through .small) (low .2)
+    item = bit-below 10 left u (h .narrowed .done .small) (low .2)
 
     pub cutting-compared : Comparable t (table-start (converse x)) (table-start x) a u
     cutting-compared = record {
       tabled = h .tabled;
-      table = by-direction (λ x. table-start (converse x) % 30 ≡ 0) refl refl x (h .direction);
+      aligned = by-direction (λ x. table-start (converse x) % 30 ≡ 0) refl refl x (h .direction);
       other = by-direction (λ x. table-start (converse x) + table-start x ≡ 30) refl refl x (h .direction);
       axis = h .axis;
       item = item;
     }
 
     module _ {m : ℕ} (g : Gives 10 m (λ v. exceeds t x a u v && not (eqb v u))) where
-      pub cutting-given : Good j rows r × Direction x × (a < 3) × (u < 10) × (m < 2 ^ 10) × (bit-at m u ≡ false)
-      cutting-given = (h .grown .good, h .direction, h .axis, item, g .small, g .is u item ∙ rw (eq-eqb u u refl, and-false) refl)
+      pub cutting-given : (Good j rows r × Direction x) × ((a < 3) × (u < 10) × (m < 2 ^ 10) × (bit-at m u ≡ false))
+      cutting-given = ((h .narrowed .grown .good, h .direction), (h .axis, item, g .small, g .is u item ∙ rw (eq-eqb u u refl, and-false) refl))
 
-      asked : (f : Domains) → Roomy t x a f → EachAsked x a u m f
-      asked f w = record { each = each; filled = w .filled }
+      asked : (f : Domains) → FilledWith (CutAll t x a) f → FilledWith (Each x a u m) f
+      asked f w = record { all = each; filled = w .filled }
         where
           each : Each x a u m f
           each v hv i =
               let (b, c) = and-both (exceeds t x a u v) (not (eqb v u)) (sym (g .is v hv) ∙ i) in
               let ne = eqb-false v u (not-true (eqb v u) c) in
-              w .cut u v (record { axis = h .axis; item-u = item; item-v = hv; distinct = λ e. ne (sym e) }) b
+              w .all u v (record { axis = h .axis; item-u = item; item-v = hv; distinct = λ e. ne (sym e) }) b
 
-      pub cutting-refuted : Refuted (EachAsked x a u m) j → Refuted (Roomy t x a) k
-      cutting-refuted none f w b = none f (asked f w) (h .low f w b)
+      pub cutting-refuted : {l : Domains} {rows′ s : List ℕ} (b : Bool) → not b ≡ true → RemovedIf (Each x a u m) j r l rows′ s b
+          → Long l rows′ s × Refuted (FilledWith (CutAll t x a)) k
+      cutting-refuted b e n = let (long, none) = rw (not-true b e) at n in (long, refuted-later (h .narrowed) (λ f w. none f (asked f w)))
 
-      pub cutting-next : {l : Domains} {rows′ s : List ℕ} {rest : ℕ} → TakenOut left (lowest-bit left) rest
-          → Narrowed (EachAsked x a u m) (Each x a u m) j r l rows′ s → Cutting t x a items k q l rows′ s rest
-      cutting-next {l} w n = record {
+      pub cutting-next : {l : Domains} {rows′ s : List ℕ} {rest : ℕ} → TakenOut left (lowest-bit left) rest → (b : Bool) → not b ≡ false
+          → RemovedIf (Each x a u m) j r l rows′ s b → Cutting t x a items k q l rows′ s rest
+      cutting-next {l} w b o n = record {
         tabled = h .tabled;
         direction = h .direction;
         axis = h .axis;
         first = h .first;
-        grown = grown-then (h .first) (h .grown) (n .grown);
-        low = λ f y b. n .low f (asked f y) (h .low f y b);
-        through = through-one (h .through) (rw (low .0) w) (λ v i p z y e. gone-mono l j (n .grown .less) x a v z (p z y e))
-            (λ v y e. n .done v (y .item-v) (g .is v (y .item-v) ∙ and-intro e (ap not (ne-eqb v u (λ b. y .distinct (sym b))))));
+        narrowed = narrowed-then {E = Each x a u m} (h .first) (h .narrowed) (narrowed-as (λ f y _. asked f y) (λ _ e. e) (rw (not-false b o) at n))
+            (λ less p each. through-one p (rw (low .0) w) (λ v i p z y e. gone-mono l j less x a v z (p z y e))
+            (λ v y e. each v (y .item-v) (g .is v (y .item-v) ∙ and-intro e (ap not (ne-eqb v u (λ b. y .distinct (sym b)))))));
       }

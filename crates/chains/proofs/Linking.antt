@@ -1,6 +1,6 @@
 -- Rule 5 where a link is new: totals raised along the links of the domains stay under every goal's chains, and with the cuts around the items that
 -- grew nothing is left open but the links of pairs on the queue.
-use Rattle.prelude.specs.Names.{Bool, true, false, _&&_, List, _⊎_, inl, inr, ⊎-elim, ⊎-map, _≡_, refl, sym, _∙_, ap₂, ℕ, _+_, _-_, _*_, _^_, _≤_}
+use Rattle.prelude.specs.Names.{Bool, true, false, _&&_, List, _⊎_, inl, inr, ⊎-elim, ⊎-map, _≡_, refl, sym, _∙_, ap₂, ℕ, _+_, _*_, _^_, _≤_}
 use Rattle.prelude.specs.Names.{_<_, ℕ-discrete, arith, getD, set, getD-set-other, ltb-true, lt-ltb}
 use Rattle.model.specs.Problem.{Problem}
 use Rattle.model.specs.Domains.{Domains, fixed-before}
@@ -17,32 +17,32 @@ use Rattle.model.proofs.Toward.{by-direction, goal-fits, under-link, under-cut,
 use Rattle.model.proofs.Untouched.{goal-lawful}
 use Rattle.domains.specs.Bits.{bit-at}
 use Rattle.domains.specs.Rows.{row-at, Mirror}
-use Rattle.domains.specs.Queue.{queue-end, Queued, Good, Long}
-use Rattle.domains.specs.Narrowed.{Grown, Narrowed, Refuted, Outcome}
+use Rattle.domains.specs.Queue.{SamePair, queue-end, Queued, Good, Long}
+use Rattle.domains.specs.Narrowed.{Grown, Narrowed, Refuted, Outcome, FilledWith}
 use Rattle.chains.specs.Totals.{table-start, table, capacity-at, Tabled, Measured, SameMeasures, Fitting}
-use Rattle.chains.specs.Links.{total-at, onward, LinkSet, Raised, none, more, Raises, Bursts, Linkable, Only, InRows, On, Plain}
-use Rattle.chains.specs.Cuts.{exceeds, Roomy, CutOf}
-use Rattle.chains.specs.NewLinks.{SamePair, Charted, ExtendedIf, KeptIf}
+use Rattle.chains.specs.Links.{onward, LinkSet, Raised, none, more, Raises, Bursts, Linkable, Only, InRows, On, Plain}
+use Rattle.chains.specs.Cuts.{CutAll, CutOf}
+use Rattle.chains.specs.NewLinks.{Charted, ExtendedAlong, KeptIf}
 use Rattle.domains.proofs.Narrowed.{good-long, grown-then, queued-on}
 use Rattle.domains.proofs.Mirror.{row-first}
-use Rattle.chains.proofs.Relaxing.{own-is, grows, grows-far, stored-same}
+use Rattle.chains.proofs.Relaxing.{table-start-is, grows, grows-far, stored-same}
 
 -- a chain that goes on
 extended-is : (p : Problem) (a v z m : ℕ) (x : ℕ) → Direction x → extended x p a v z m ≡ m + p .size a z
 unfolding joined
 extended-is p a v z m = by-direction (λ x. extended x p a v z m ≡ m + p .size a z) (omega arith) refl
 
--- The rows tell the links of the domains
+-- The rows have the links of the domains
 module _ {k : Domains} {rows : List ℕ} (m : Mirror k rows) {x a v z : ℕ} (d : Direction x) (ha : a < 3) where
-  told-is : v < 10 → z < 10 → (bit-at (row-at rows a v) z && bit-at (row-at rows a v) (x * 10 + z)) ≡ says (forced x) k a v z
+  row-forced : v < 10 → z < 10 → (bit-at (row-at rows a v) z && bit-at (row-at rows a v) (x * 10 + z)) ≡ says (forced x) k a v z
   unfolding says
-  told-is hv hz = ap₂ _&&_ (row-first m ha hv hz) (m .is x a v z (omega (arith, d .most)) ha hv hz)
+  row-forced hv hz = ap₂ _&&_ (row-first m ha hv hz) (m .is x a v z (omega (arith, d .most)) ha hv hz)
 
-  linked-told : v < 10 → z < 10 → Linked x k a v z → InRows rows x a v z
-  linked-told hv hz l = record { item-v = hv; item-z = hz; bits = told-is hv hz ∙ l }
+  linked-in-rows : v < 10 → z < 10 → Linked x k a v z → InRows rows x a v z
+  linked-in-rows hv hz l = record { item-v = hv; item-z = hz; bits = row-forced hv hz ∙ l }
 
-  told-linked : InRows rows x a v z → Linked x k a v z
-  told-linked t = sym (told-is (t .item-v) (t .item-z)) ∙ t .bits
+  in-rows-linked : InRows rows x a v z → Linked x k a v z
+  in-rows-linked t = sym (row-forced (t .item-v) (t .item-z)) ∙ t .bits
 
 -- The measures stay
 pub same-none : {t : List ℕ} → SameMeasures t t
@@ -67,7 +67,7 @@ module _ {p : Problem} {k : Domains} {rows : List ℕ} (m : Mirror k rows) {x a 
       → onward s (table-start x) a v z ≤ greatest x p f a z
   link-under {s} l w under v z t =
       let hz : z < p .items = omega (arith, w .ten, t .item-z) in
-      let most = under-link p f goal (table s) under k b x a v z d (l .axis) (omega (arith, w .ten, t .item-v)) hz (told-linked m d (l .axis) t) in
+      let most = under-link p f goal (table s) under k b x a v z d (l .axis) (omega (arith, w .ten, t .item-v)) hz (in-rows-linked m d (l .axis) t) in
       omega (arith, most, extended-is p a v z (table s x a v) x d, w .size a z (l .axis) hz)
 
   raised-under : {t s : List ℕ} {g : ℕ} → Linkable t (table-start x) a → Measured p t → Raised (InRows rows x a) (table-start x) a t s g
@@ -83,7 +83,7 @@ module _ {p : Problem} {k : Domains} {rows : List ℕ} (m : Mirror k rows) {x a 
           → getD (set s (table-start x + a * 10 + z) total) (table-start y + c * 10 + i) 0 ≤ greatest y p f c i
       go under (yes q) =
           let lk = grows l r .linkable in
-          let same : (y ≡ x) × (c ≡ a) × (i ≡ z) = omega (arith, own-is x d, own-is y e, w .ten, longer .item-z) in
+          let same : (y ≡ x) × (c ≡ a) × (i ≡ z) = omega (arith, table-start-is x d, table-start-is y e, w .ten, longer .item-z) in
           rw (q, stored-same lk (longer .item-z) total, same .0, same .1, same .2)
           (link-under lk (measured-same (same-measures l r) w) under v z link)
       go under (no q) = rw (getD-set-other s (table-start x + a * 10 + z) (table-start y + c * 10 + i) total 0 q) (under y c i e hc hi)
@@ -95,17 +95,17 @@ module _ {p : Problem} {k : Domains} {rows : List ℕ} (m : Mirror k rows) {x a 
       let fits = goal-fits p f goal x a (burst .to) d (l .axis) (omega (arith, w .ten, burst .item-to)) in
       omega (arith, most, fits, ws .capacity a (l .axis), burst .over)
 
--- what is too long has no room in a goal
-fitting-roomy : {p : Problem} {s : List ℕ} → Measured p s → (x a : ℕ) → Direction x → a < 3 → (f : Domains) → Fitting p s f → Roomy s x a f
+-- what is too long is removed in a goal
+fitting-cut : {p : Problem} {s : List ℕ} → Measured p s → (x a : ℕ) → Direction x → a < 3 → (f : Domains) → Fitting p s f → FilledWith (CutAll s x a) f
 unfolding joined
-fitting-roomy {p} {s} w x a d ha f fit = record {
-  cut = by-direction (λ x. (u v : ℕ) → Proper 10 a u v → exceeds s x a u v ≡ true → gone f x a u v ≡ true) before
+fitting-cut {p} {s} w x a d ha f fit = record {
+  all = by-direction (λ x. CutAll s x a f) before
       (λ u v c e. let q : table s 2 a v + table s 1 a u ≡ table s 1 a u + table s 2 a v = omega arith in
       sym (gone-converse f 2 a u v (omega arith)) ∙ before v u (proper-sym c) (rw q e)) x d;
   filled = goal-lawful p f (fit .goal) .filled;
 }
   where
-    before : (u v : ℕ) → Proper 10 a u v → exceeds s 1 a u v ≡ true → gone f 1 a u v ≡ true
+    before : CutAll s 1 a f
     before u v c e =
         under-cut p f (fit .goal) (table s) (fit .under) a u v (rw (w .ten) c)
         (omega (arith, ltb-true (capacity-at s a) (table s 2 a u + table s 1 a v) e, w .capacity a ha))
@@ -141,22 +141,22 @@ module _ {k : Domains} {rows q : List ℕ} (good : Good k rows q) {t : List ℕ}
   mirror = good .laid .mirror
 
   linkable : Linkable t (table-start x) a
-  linkable = record { tabled = tabled; table = omega (arith, own-is x d); most = omega (arith, own-is x d); axis = pair .axis }
+  linkable = record { tabled = tabled; aligned = omega (arith, table-start-is x d); most = omega (arith, table-start-is x d); axis = pair .axis }
 
   link-asked : Plain rows × Linkable t (table-start x) a × Direction x × InRows rows x a u v
   link-asked = (
     record { long = mirror .long; small = mirror .small; self = λ a u ha hu. row-first mirror ha hu hu ∙ gone-self k 0 a u },
     linkable,
     d,
-    linked-told mirror d (pair .axis) (pair .item-u) (pair .item-v) link,
+    linked-in-rows mirror d (pair .axis) (pair .item-u) (pair .item-v) link,
   )
 
-  link-bursts : {s : List ℕ} → Bursts (InRows rows x a) (table-start x) a t s → SameMeasures t s × ((p : Problem) → Measured p t → Refuted (Fitting p t) k)
-  link-bursts b =
+  link-refuted : {s : List ℕ} → Bursts (InRows rows x a) (table-start x) a t s → SameMeasures t s × ((p : Problem) → Measured p t → Refuted (Fitting p t) k)
+  link-refuted b =
       (same-measures linkable (b .raised), λ p w f fit h. never-bursts mirror d f (fit .goal) h linkable w (fit .under) b)
 
-  link-moves : {s : List ℕ} {g : ℕ} → Raises (InRows rows x a) (On (InRows rows x a) u v g) (table-start x) a t s g → Moved k x a u v g t s
-  link-moves {s} {g} r = let gr = grows linkable (r .raised) in record {
+  link-moved : {s : List ℕ} {g : ℕ} → Raises (InRows rows x a) (On (InRows rows x a) u v g) (table-start x) a t s g → Moved k x a u v g t s
+  link-moved {s} {g} r = let gr = grows linkable (r .raised) in record {
     tabled = gr .linkable .tabled;
     small = gr .small;
     same = same-measures linkable (r .raised);
@@ -164,16 +164,16 @@ module _ {k : Domains} {rows q : List ℕ} (good : Good k rows q) {t : List ℕ}
     closed = λ p w L M C out c.
         closed-wider (λ y b i z e h n o. settled p w y b i z h n (⊎-map (out y b i z e) (λ c. c) o)) (λ b i z h. h)
         (closed-grown L C p k (table t) c (Grew x a g) (table s) (λ y b i e hb hi. gr .up (table-start y + b * 10 + i)) (λ y b i e hb hi. ⊎-map (λ h. h)
-        (λ (z, hz, h, c). let same-place : (y ≡ x) × (b ≡ a) × (i ≡ z) = omega (arith, own-is x d, own-is y e, pair .axis, w .ten) in
+        (λ (z, hz, h, c). let same-place : (y ≡ x) × (b ≡ a) × (i ≡ z) = omega (arith, table-start-is x d, table-start-is y e, pair .axis, w .ten) in
         (same-place .0, same-place .1, rw (same-place .2) c)) (gr .kept (table-start y + b * 10 + i))));
   }
     where
       on : (p : Problem) → Measured p t → (y b i z : ℕ) → y ≡ x → b ≡ a → Proper (p .items) b i z → Linked y k b i z
           → Only u v i z ⊎ (bit-at g i ≡ true) → extended y p b i z (table s y b i) ≤ table s y b z
       on p w y b i z e f h n c = rw (e, f)
-          (let told = linked-told mirror d (pair .axis) (omega (arith, w .ten, h .item-u)) (omega (arith, w .ten, h .item-v)) (rw (e, f) at n) in
+          (let link = linked-in-rows mirror d (pair .axis) (omega (arith, w .ten, h .item-u)) (omega (arith, w .ten, h .item-v)) (rw (e, f) at n) in
           let size = measured-same (same-measures linkable (r .raised)) w .size a z (pair .axis) (h .item-v) in
-          omega (arith, r .on i z (told, c), extended-is p a i z (table s x a i) x d, size))
+          omega (arith, r .on i z (link, c), extended-is p a i z (table s x a i) x d, size))
 
       settled : (p : Problem) → Measured p t → {A : Type 0} (y b i z : ℕ) → Proper (p .items) b i z → Linked y k b i z
           → (A ⊎ ((y ≡ x) × SamePair a u v b i z)) ⊎ Grew x a g y b i → (extended y p b i z (table s y b i) ≤ table s y b z) ⊎ A
@@ -184,72 +184,75 @@ module _ {k : Domains} {rows q : List ℕ} (good : Good k rows q) {t : List ℕ}
 
 -- a link is new only where its pair is on the queue
 pub closed-on : {k : Domains} {q : List ℕ} {j : Domains} {rows r : List ℕ} → Grown k q j rows r → {C : Cuts} {p : Problem} {t : Table} → p .items ≤ 10
-    → (from : ℕ) → 1 ≤ from → from ≤ queue-end q → ClosedBut (λ x. Queued q from (queue-end q)) C p k t → ClosedBut (λ x. Queued r from (queue-end r)) C p j t
+    → (from : ℕ) → 1 ≤ from → from ≤ queue-end q → ClosedBut (λ x. Queued q from (queue-end q)) C p k t
+    → ClosedBut (λ x. Queued r from (queue-end r)) C p j t
 closed-on {k} {q} {j} {rows} {r} g {C} {p} {t} limited from first within c =
     closed-wider (λ x a v z d w l h. inr (⊎-elim (queued-on g from a v z first) (λ (i, low, high, e). (i, omega arith, high, e)) h)) (λ a u v h. h)
     (closed-less (λ x. Queued q from (queue-end q)) C p k t c j (g .less) (λ x. Queued r (queue-end q) (queue-end r))
     (λ x a v z d w l. g .new (of (forced x) a v z) (omega arith) l))
 
--- The function: the link is told by the rows, from either end
-module _ {k : Domains} {rows q t : List ℕ} {a u v : ℕ} (pre : Good k rows q × Tabled t × Proper 10 a u v × (fixed-before k a u v ≡ true)) where
+-- The function: the rows have the link, from either end
+module _ {k : Domains} {rows q t : List ℕ} {a u v : ℕ} (pre : (Good k rows q × Tabled t) × (Proper 10 a u v × (fixed-before k a u v ≡ true))) where
+  ends-link : Linked 2 k a u v
+  ends-link = forced-before-is k a u v ∙ pre .1 .1
+
+  starts-link : Linked 1 k a v u
+  starts-link = forced-after-is k a v u ∙ pre .1 .1
+
   pub ends-asked : Plain rows × Linkable t 0 a × Direction 2 × InRows rows 2 a u v
-  ends-asked = let (g, s, pair, fixed) = pre in link-asked g s {x = 2} (omega arith) pair (forced-before-is k a u v ∙ fixed)
+  ends-asked = link-asked (pre .0 .0) (pre .0 .1) {x = 2} (omega arith) (pre .1 .0) ends-link
 
   -- what it answers
   abbrev pub Answer : Domains → List ℕ → List ℕ → List ℕ → Bool → Type 0
-  Answer j rows′ r s b =
-      (Long j rows′ r × SameMeasures t s × KeptIf j rows′ r s b)
-      × ((p : Problem) (from : ℕ) → Charted p k q t from a u v → ExtendedIf p k q t from j rows′ r s b)
+  Answer j rows′ r s b = KeptIf t j rows′ r s b × ExtendedAlong a u v k q t j rows′ r s b
 
   pub ends-burst : {s : List ℕ} → Bursts (InRows rows 2 a) 0 a t s → Answer k rows q s false
   ends-burst b =
-      let (g, t, pair, fixed) = pre in
-      let (same, nil) = link-bursts g t {x = 2} (omega arith) pair (forced-before-is k a u v ∙ fixed) b in
-      ((good-long g, same, tt), λ p from c. nil p (c .measured))
+      let (same, nil) = link-refuted (pre .0 .0) (pre .0 .1) {x = 2} (omega arith) (pre .1 .0) ends-link b in
+      ((good-long (pre .0 .0), same, tt), λ p from c. nil p (c .measured))
 
   module _ {t₁ : List ℕ} {ends : ℕ} (r : Raises (InRows rows 2 a) (On (InRows rows 2 a) u v ends) 0 a t t₁ ends) where
-    e : Moved k 2 a u v ends t t₁
-    e = let (g, t, pair, fixed) = pre in link-moves g t {x = 2} (omega arith) pair (forced-before-is k a u v ∙ fixed) r
+    ends-moved : Moved k 2 a u v ends t t₁
+    ends-moved = link-moved (pre .0 .0) (pre .0 .1) {x = 2} (omega arith) (pre .1 .0) ends-link r
 
     pub starts-asked : Plain rows × Linkable t₁ 30 a × Direction 1 × InRows rows 1 a v u
-    starts-asked = let (g, t, pair, fixed) = pre in link-asked g (e .tabled) {x = 1} (omega arith) (proper-sym pair) (forced-after-is k a v u ∙ fixed)
+    starts-asked = link-asked (pre .0 .0) (ends-moved .tabled) {x = 1} (omega arith) (proper-sym (pre .1 .0)) starts-link
 
     pub starts-burst : {s : List ℕ} → Bursts (InRows rows 1 a) 30 a t₁ s → Answer k rows q s false
     starts-burst b =
-        let (g, t, pair, fixed) = pre in
-        let (same, nil) = link-bursts g (e .tabled) {x = 1} (omega arith) (proper-sym pair) (forced-after-is k a v u ∙ fixed) b in (
-          (good-long g, same-then (e .same) same, tt),
-          λ p from c f fit l. nil p (measured-same (e .same) (c .measured)) f (e .fitting p (c .measured) f fit l) l,
+        let (same, nil) = link-refuted (pre .0 .0) (ends-moved .tabled) {x = 1} (omega arith) (proper-sym (pre .1 .0)) starts-link b in (
+          (good-long (pre .0 .0), same-then (ends-moved .same) same, tt),
+          λ p from c f fit l. nil p (measured-same (ends-moved .same) (c .measured)) f (ends-moved .fitting p (c .measured) f fit l) l,
         )
 
     module _ {s : List ℕ} {starts : ℕ} (r₁ : Raises (InRows rows 1 a) (On (InRows rows 1 a) v u starts) 30 a t₁ s starts) where
-      h : Moved k 1 a v u starts t₁ s
-      h = let (g, t, pair, fixed) = pre in link-moves g (e .tabled) {x = 1} (omega arith) (proper-sym pair) (forced-after-is k a v u ∙ fixed) r₁
+      starts-moved : Moved k 1 a v u starts t₁ s
+      starts-moved = link-moved (pre .0 .0) (ends-moved .tabled) {x = 1} (omega arith) (proper-sym (pre .1 .0)) starts-link r₁
 
       pub cut-asked : Good k rows q × Tabled s × (a < 3) × (ends < 2 ^ 10)
-      cut-asked = (pre .0, h .tabled, pre .2 .axis, e .small)
+      cut-asked = (pre .0 .0, starts-moved .tabled, pre .1 .0 .axis, ends-moved .small)
 
       same : SameMeasures t s
-      same = same-then (e .same) (h .same)
+      same = same-then (ends-moved .same) (starts-moved .same)
 
       fitting : (p : Problem) → Measured p t → (f : Domains) → Fitting p t f → f ⊑ k → Fitting p s f
-      fitting p w f fit b = h .fitting p (measured-same (e .same) w) f (e .fitting p w f fit b) b
+      fitting p w f fit b = starts-moved .fitting p (measured-same (ends-moved .same) w) f (ends-moved .fitting p w f fit b) b
 
-      roomy : (p : Problem) → Measured p t → (x : ℕ) → Direction x → (f : Domains) → Fitting p t f → f ⊑ k → Roomy s x a f
-      roomy p w x d f fit b = fitting-roomy (measured-same same w) x a d (pre .2 .axis) f (fitting p w f fit b)
+      cut : (p : Problem) → Measured p t → (x : ℕ) → Direction x → (f : Domains) → Fitting p t f → f ⊑ k → FilledWith (CutAll s x a) f
+      cut p w x d f fit b = fitting-cut (measured-same same w) x a d (pre .1 .0 .axis) f (fitting p w f fit b)
 
-      pub cut-refused : {j : Domains} {rows′ r : List ℕ} → Long j rows′ r × Refuted (Roomy s 1 a) k → Answer j rows′ r s false
-      cut-refused (long, nil) = ((long, same, tt), λ p from c f fit b. nil f (roomy p (c .measured) 1 (omega arith) f fit b) b)
+      pub cut-refused : {j : Domains} {rows′ r : List ℕ} → Long j rows′ r × Refuted (FilledWith (CutAll s 1 a)) k → Answer j rows′ r s false
+      cut-refused (long, nil) = ((long, same, tt), λ p from c f fit b. nil f (cut p (c .measured) 1 (omega arith) f fit b) b)
 
-      module _ {i : Domains} {rows₁ q₁ : List ℕ} (n₁ : Narrowed (Roomy s 1 a) (CutOf s 1 a ends) k q i rows₁ q₁) where
+      module _ {i : Domains} {rows₁ q₁ : List ℕ} (n₁ : Narrowed (FilledWith (CutAll s 1 a)) (CutOf s 1 a ends) k q i rows₁ q₁) where
         pub cut-asked-2 : Good i rows₁ q₁ × Tabled s × (a < 3) × (starts < 2 ^ 10)
-        cut-asked-2 = (n₁ .grown .good, h .tabled, pre .2 .axis, h .small)
+        cut-asked-2 = (n₁ .grown .good, starts-moved .tabled, pre .1 .0 .axis, starts-moved .small)
 
-        below : (p : Problem) → Measured p t → (f : Domains) → Fitting p t f → f ⊑ k → Roomy s 2 a f × (f ⊑ i)
-        below p w f fit l = (roomy p w 2 (omega arith) f fit l, n₁ .low f (roomy p w 1 (omega arith) f fit l) l)
+        below : (p : Problem) → Measured p t → (f : Domains) → Fitting p t f → f ⊑ k → FilledWith (CutAll s 2 a) f × (f ⊑ i)
+        below p w f fit l = (cut p w 2 (omega arith) f fit l, n₁ .low f (cut p w 1 (omega arith) f fit l) l)
 
         -- both directions followed, and the cuts made around the items that grew
-        all-closed : {j : Domains} {rows₂ r : List ℕ} → Narrowed (Roomy s 2 a) (CutOf s 2 a starts) i q₁ j rows₂ r
+        all-closed : {j : Domains} {rows₂ r : List ℕ} → Narrowed (FilledWith (CutAll s 2 a)) (CutOf s 2 a starts) i q₁ j rows₂ r
             → (p : Problem) (from : ℕ) → Charted p k q t from a u v → ClosedBut (λ x. Queued r from (queue-end r)) NoPair p j (table s)
         unfolding joined
         all-closed {j} {rows₂} {r} n₂ p from c =
@@ -269,9 +272,9 @@ module _ {k : Domains} {rows q t : List ℕ} {a u v : ℕ} (pre : Good k rows q 
 
             closed : ClosedBut (λ x. Queued r from (queue-end r)) Cut p j (table s)
             closed =
-                closed-on (grown-then (pre .0 .least) (n₁ .grown) (n₂ .grown)) (omega (arith, c .measured .ten)) from (c .first) (c .within)
-                (h .closed p (measured-same (e .same) (c .measured)) Left (λ x. Queued q from (queue-end q)) _ (λ y b w z d o. o)
-                (e .closed p (c .measured) _ Left NoPair
+                closed-on (grown-then (pre .0 .0 .least) (n₁ .grown) (n₂ .grown)) (omega (arith, c .measured .ten)) from (c .first) (c .within)
+                (starts-moved .closed p (measured-same (ends-moved .same) (c .measured)) Left (λ x. Queued q from (queue-end q)) _ (λ y b w z d o. o)
+                (ends-moved .closed p (c .measured) _ Left NoPair
                 (λ y b w z d o. ⊎-elim (λ o. inl (inl o)) (λ (f, o). by-direction (λ y. Left y b w z ⊎ ((y ≡ 2) × SamePair a u v b w z))
                 (inl (inr (refl, (f, ⊎-elim inr inl o)))) (inr (refl, (f, o))) y d) o) (c .closed)))
 
@@ -281,27 +284,27 @@ module _ {k : Domains} {rows q t : List ℕ} {a u v : ℕ} (pre : Good k rows q 
             made b w z c l (inr (inl (inl o))) = inr o
             made b w z c l (inr (inl (inr (inl (_, e, h))))) =
                 let f = lt-ltb (capacity-at s a) (table s 2 a w + table s 1 a z) (rw e at l) in
-                inl (rw e (gone-mono j i (n₂ .grown .less) 1 a w z (n₁ .done w z (rw e at c) h f)))
+                inl (rw e (gone-mono j i (n₂ .grown .less) 1 a w z (n₁ .done w h z (rw e at c) f)))
             made b w z c l (inr (inl (inr (inr (o, _, _))))) = absurd (omega arith)
             made b w z c l (inr (inr (inl (o, _, _)))) = absurd (omega arith)
             made b w z c l (inr (inr (inr (_, e, h)))) =
                 let f = lt-ltb (capacity-at s a) (table s 1 a z + table s 2 a w) (omega (arith, rw e at l)) in
-                inl (rw e (sym (gone-converse j 1 a w z (omega arith)) ∙ n₂ .done z w (proper-sym (rw e at c)) h f))
+                inl (rw e (sym (gone-converse j 1 a w z (omega arith)) ∙ n₂ .done z h w (proper-sym (rw e at c)) f))
 
-        pub cuts-answer : (j : Domains) (rows₂ r : List ℕ) (b : Bool) → Outcome (Roomy s 2 a) (CutOf s 2 a starts) i q₁ j rows₂ r b
+        pub cuts-answer : (j : Domains) (rows₂ r : List ℕ) (b : Bool) → Outcome (FilledWith (CutAll s 2 a)) (CutOf s 2 a starts) i q₁ j rows₂ r b
             → Answer j rows₂ r s b
         cuts-answer j rows₂ r false (long, nil) =
             ((long, same, tt), λ p from c f fit l. let (o, d) = below p (c .measured) f fit l in nil f o d)
         cuts-answer j rows₂ r true n₂ = (
-          (good-long (n₂ .grown .good), same, (n₂ .grown .good, h .tabled)),
+          (good-long (n₂ .grown .good), same, (n₂ .grown .good, starts-moved .tabled)),
           λ p from c. record {
             narrowed = record {
-              grown = grown-then (pre .0 .least) (n₁ .grown) (n₂ .grown);
+              grown = grown-then (pre .0 .0 .least) (n₁ .grown) (n₂ .grown);
               low = λ f fit l. let (o, d) = below p (c .measured) f fit l in n₂ .low f o d;
               done = all-closed n₂ p from c;
             };
             measured = measured-same same (c .measured);
-            tabled = h .tabled;
+            tabled = starts-moved .tabled;
             under = λ f fit l. fitting p (c .measured) f fit l .under;
           },
         )

@@ -6,7 +6,7 @@ use lib.Arith.{bin-ind}
 use Rattle.model.specs.Toward.{Direction}
 use Rattle.model.proofs.Toward.{by-direction}
 use Rattle.model.proofs.Below.{and-both, or-left, or-right, or-case, clash, fails}
-use Rattle.domains.specs.Bits.{bit-at, Gives, lowest-bit, TakenOut}
+use Rattle.domains.specs.Bits.{bit-at, Gives, lowest-bit, Lowest, TakenOut}
 use Rattle.domains.specs.Rows.{row-at}
 use Rattle.chains.specs.Totals.{table-start, table, capacity-at, Tabled}
 use Rattle.chains.specs.Links.{total-at, onward, LinkSet, Longer, Raised, none, more, Raises, Bursts, Linkable, Only, From, InRows, On, Plain}
@@ -15,15 +15,15 @@ use Rattle.chains.proofs.ChainMeasure.{room, measure-falls}
 use Rattle.domains.proofs.Through.{Through, through-none, through-one, through-all}
 
 -- where the table of a direction starts
-pub own-is : (x : ℕ) → Direction x → table-start x ≡ 60 - 30 * x
-own-is = by-direction (λ x. table-start x ≡ 60 - 30 * x) refl refl
+pub table-start-is : (x : ℕ) → Direction x → table-start x ≡ 60 - 30 * x
+table-start-is = by-direction (λ x. table-start x ≡ 60 - 30 * x) refl refl
 
 pub total-within : {t : List ℕ} {o a : ℕ} → Linkable t o a → (u : ℕ) → u < 10 → total-at t o a u ≤ capacity-at t a
 total-within {t} {o} {a} l u h = go (ℕ-discrete o 0)
   where
     go : Dec (o ≡ 0) → total-at t o a u ≤ capacity-at t a
     go (yes z) = rw z (l .tabled .within 2 a u (omega arith) (l .axis) h)
-    go (no z) = let e : o ≡ 30 = omega (arith, l .table, l .most) in rw e (l .tabled .within 1 a u (omega arith) (l .axis) h)
+    go (no z) = let e : o ≡ 30 = omega (arith, l .aligned, l .most) in rw e (l .tabled .within 1 a u (omega arith) (l .axis) h)
 
 -- in 32 bits
 pub total-small : {t : List ℕ} → Tabled t → (i : ℕ) → getD t i 0 < 4294967296
@@ -51,14 +51,14 @@ module _ {s : List ℕ} {o a : ℕ} (l : Linkable s o a) {z : ℕ} (hz : z < 10)
   stored-far i h = getD-set-other s (o + a * 10 + z) i y 0 (λ e. omega (arith, l .axis, l .most))
 
   stored-linkable : y ≤ capacity-at s a → Linkable after o a
-  stored-linkable fits = record { tabled = tabled; table = l .table; most = l .most; axis = l .axis }
+  stored-linkable fits = record { tabled = tabled; aligned = l .aligned; most = l .most; axis = l .axis }
     where
       tabled : Tabled after
       tabled = record {
         long = length-set s (o + a * 10 + z) y ∙ l .tabled .long;
         small = λ i. ⊎-elim (λ (e, f). omega (arith, l .tabled .small (90 + a))) (λ (e, f). omega (arith, l .tabled .small i)) (stored i);
         within = λ x b u d hb hu. ⊎-elim
-            (λ (e, f). let same : b ≡ a = omega (arith, own-is x d, l .table, l .axis) in
+            (λ (e, f). let same : b ≡ a = omega (arith, table-start-is x d, l .aligned, l .axis) in
             let capacity : getD s (90 + b) 0 ≡ getD s (90 + a) 0 = rw same refl in
             omega (arith, stored-far (90 + b) (omega arith)))
             (λ (e, f). omega (arith, stored-far (90 + b) (omega arith), l .tabled .within x b u d hb hu)) (stored (table-start x + b * 10 + u));
@@ -82,7 +82,7 @@ or-in g h w e = bit-or g h w ∙ ⊎-elim (or-left (bit-at h w)) (or-right (bit-
 pub grows : {L : LinkSet} {o a : ℕ} {t s : List ℕ} {g : ℕ} → Linkable t o a → Raised L o a t s g → Grows L o a t s g
 grows l none =
     record { linkable = l; small = omega arith; up = λ i. le-refl _; kept = λ i. inl refl; rises = λ z e. absurd (clash e (bit-zero z)) }
-grows {L} {o} {a} {t} l (more {s} {g} v z r link w) = one (grows l r)
+grows {L} {o} {a} {t} l (more {s} {g} v z r link w) = one-more (grows l r)
   where
     total : ℕ
     total = onward s o a v z
@@ -92,8 +92,8 @@ grows {L} {o} {a} {t} l (more {s} {g} v z r link w) = one (grows l r)
         (stored lk (w .item-z) total i)
 
     -- one link more
-    one : Grows L o a t s g → Grows L o a t (set s (o + a * 10 + z) total) (bitOr g (2 ^ z))
-    one h = record {
+    one-more : Grows L o a t s g → Grows L o a t (set s (o + a * 10 + z) total) (bitOr g (2 ^ z))
+    one-more h = record {
       linkable = stored-linkable (h .linkable) (w .item-z) total (w .fits);
       small = or-lt 10 g (2 ^ z) (h .small) (pow-lt (w .item-z));
       up = λ i. omega (arith, h .up i, up (h .linkable) i);
@@ -179,7 +179,7 @@ module _ {v items o a : ℕ} {t : List ℕ} where
   partway-end h z = record { raised = h .raised; on = λ w y (e, b). rw e (through-all (h .through) z y b) }
 
   module _ {s : List ℕ} {left grown : ℕ} (h : Partway v items o a t s left grown)
-      {z : ℕ} (low : (z ≡ lowest-bit left) × (z < 30) × (bit-at left z ≡ true)) where
+      {z : ℕ} (low : Lowest left z) where
     among : bit-at items z ≡ true
     among = h .through .within z (low .2)
 
@@ -189,11 +189,11 @@ module _ {v items o a : ℕ} {t : List ℕ} where
     pub partway-given : Linkable s o a × (v < 10) × (z < 10) × (v ≢ z)
     partway-given = (h .linkable, h .item, bit-below 10 left z (h .through .small) (low .2), apart)
 
-    one : (w y : ℕ) → Only v z w y → From v items w y
-    one w y (e, f) = (e, rw f among)
+    only-from : (w y : ℕ) → Only v z w y → From v items w y
+    only-from w y (e, f) = (e, rw f among)
 
     pub partway-bursts : {r : List ℕ} → Bursts (Only v z) o a s r → Bursts (From v items) o a t r
-    partway-bursts = bursts-after (h .raised) one
+    partway-bursts = bursts-after (h .raised) only-from
 
     pub partway-next : {rest : ℕ} {r : List ℕ} {g : ℕ} → TakenOut left (lowest-bit left) rest → Raises (Only v z) (Only v z) o a s r g
         → Partway v items o a t r rest (bitOr grown g)
@@ -201,15 +201,15 @@ module _ {v items o a : ℕ} {t : List ℕ} where
       linkable = gr .linkable;
       item = h .item;
       self = h .self;
-      raised = raised-then (h .raised) (raised-as one (q .raised));
+      raised = raised-then (h .raised) (raised-as only-from (q .raised));
       through = through-one (h .through) (rw (low .0) w)
           (λ y e f. grows-on gr v y (fails {c = false} (λ e. absurd (apart (gr .rises v e .1 .1 .1))) refl) f) (q .on v z (refl, refl));
     }
 
 -- a link is of two items
-pub told-given : {rows t : List ℕ} {o x a u v : ℕ} → Plain rows × Linkable t o a × Direction x × InRows rows x a u v
+pub link-given : {rows t : List ℕ} {o x a u v : ℕ} → Plain rows × Linkable t o a × Direction x × InRows rows x a u v
     → Linkable t o a × (u < 10) × (v < 10) × (u ≢ v)
-told-given {rows} {t} {o} {x} {a} {u} {v} (p, l, d, link) =
+link-given {rows} {t} {o} {x} {a} {u} {v} (p, l, d, link) =
     let linked = and-both (bit-at (row-at rows a u) v) (bit-at (row-at rows a u) (x * 10 + v)) (link .bits) .0 in
     (l, link .item-v, link .item-z, λ e. clash linked (rw (← e) (p .self a u (l .axis) (link .item-v))))
 
@@ -241,23 +241,23 @@ module _ {rows : List ℕ} {x o a u v : ℕ} {r t : List ℕ} {first : ℕ} (b :
     on = λ w z m. ⊎-elim (λ q. q) (λ q. absurd (clash (rw e at q) (bit-zero w))) (h .on w z m);
   }
 
--- w, the lowest of `todo`, is taken out, the links that the row tells of it are followed, and the items that grow are put in
+-- w, the lowest of `todo`, is taken out, the links that its row has are followed, and the items that grow are put in
 module _ {rows : List ℕ} {x o a u v : ℕ} {t : List ℕ} {first : ℕ} {s : List ℕ} {todo grown : ℕ} (h : Progress rows x o a u v t first s todo grown)
-    {w : ℕ} (low : (w ≡ lowest-bit todo) × (w < 30) × (bit-at todo w ≡ true)) where
+    {w : ℕ} (low : Lowest todo w) where
   pub progress-item : w < 10
   progress-item = bit-below 10 todo w (h .small) (low .2)
 
-  module _ {items : ℕ} (told : Gives 10 items (λ z. bit-at (row-at rows a w) z && bit-at (row-at rows a w) (x * 10 + z))) where
+  module _ {items : ℕ} (linked : Gives 10 items (λ z. bit-at (row-at rows a w) z && bit-at (row-at rows a w) (x * 10 + z))) where
     pub progress-given : Linkable s o a × (w < 10) × (items < 2 ^ 10) × (bit-at items w ≡ false)
     progress-given =
-        (h .linkable, progress-item, told .small, told .is w progress-item ∙ rw (h .plain .self a w (h .linkable .axis) progress-item) refl)
+        (h .linkable, progress-item, linked .small, linked .is w progress-item ∙ rw (h .plain .self a w (h .linkable .axis) progress-item) refl)
 
-    each : (y z : ℕ) → From w items y z → InRows rows x a y z
-    each y z (e, b) = let (hz, c) = gives-in told z b in rw e (record { item-v = progress-item; item-z = hz; bits = c })
+    from-in-rows : (y z : ℕ) → From w items y z → InRows rows x a y z
+    from-in-rows y z (e, b) = let (hz, c) = gives-in linked z b in rw e (record { item-v = progress-item; item-z = hz; bits = c })
 
     pub progress-bursts : {q : List ℕ} → Raises (Only u v) (Only u v) o a q t first → {r : List ℕ} → Bursts (From w items) o a s r
         → Bursts (InRows rows x a) o a q r
-    progress-bursts {q} b = bursts-after (h .raised q b) each
+    progress-bursts {q} b = bursts-after (h .raised q b) from-in-rows
 
     module _ {rest : ℕ} (out : TakenOut todo (lowest-bit todo) rest) {r : List ℕ} {g : ℕ} (q : Raises (From w items) (From w items) o a s r g) where
       gr : Grows (From w items) o a s r g
@@ -270,14 +270,14 @@ module _ {rows : List ℕ} {x o a u v : ℕ} {t : List ℕ} {first : ℕ} {s : L
       progress-next = record {
         plain = h .plain;
         linkable = gr .linkable;
-        raised = λ m b. raised-then (h .raised m b) (raised-as each (q .raised));
+        raised = λ m b. raised-then (h .raised m b) (raised-as from-in-rows (q .raised));
         small = next-small;
         on = λ y z (m, c). go y z m c (ℕ-discrete y w) (bit-at g y) refl;
       }
         where
           go : (y z : ℕ) → InRows rows x a y z → Only u v y z ⊎ (bit-at (bitOr grown g) y ≡ true) → Dec (y ≡ w) → (b : Bool) → bit-at g y ≡ b
               → (onward r o a y z ≤ total-at r o a z) ⊎ (bit-at (bitOr rest g) y ≡ true)
-          go y z m c (yes e) b f = inl (q .on y z (e, told .is z (m .item-z) ∙ (rw e at m) .bits))
+          go y z m c (yes e) b f = inl (q .on y z (e, linked .is z (m .item-z) ∙ (rw e at m) .bits))
           go y z m c (no e) true f = inr (or-in rest g y (inr f))
           go y z m c (no e) false f = ⊎-map (grows-on gr y z f) (λ i. or-in rest g y (inl (taken-rest out y (rw (low .0) at e) ∙ i)))
               (h .on y z (m, ⊎-map (λ o. o) (λ i. ⊎-elim (λ b. b) (λ b. absurd (clash b f)) (in-or grown g y i)) c))

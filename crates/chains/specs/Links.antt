@@ -45,18 +45,18 @@ pub record Bursts (L : LinkSet) (o a : ℕ) (t s : List ℕ) : Type 0 where
   pub over : capacity-at s a < onward s o a from to
 
 -- what the functions that raise totals answer
-abbrev pub Raising : LinkSet → LinkSet → ℕ → ℕ → List ℕ → List ℕ → Bool → ℕ → Type 0
-Raising L M o a t s true g = Raises L M o a t s g
-Raising L M o a t s false g = Bursts L o a t s
+abbrev pub RaisesIf : LinkSet → LinkSet → ℕ → ℕ → List ℕ → List ℕ → Bool → ℕ → Type 0
+RaisesIf L M o a t s true g = Raises L M o a t s g
+RaisesIf L M o a t s false g = Bursts L o a t s
 
 -- totals, and where one of the two tables starts
 pub record Linkable (t : List ℕ) (o a : ℕ) : Type 0 where
   pub tabled : Tabled t
-  pub table : o % 30 ≡ 0
+  pub aligned : o % 30 ≡ 0
   pub most : o ≤ 30
   pub axis : a < 3
 
--- one link; those from v to the items of a set; those that the rows tell in the direction x
+-- one link; those from v to the items of a set; those that the rows have in the direction x
 abbrev pub Only : ℕ → ℕ → LinkSet
 Only v z w y = (w ≡ v) × (y ≡ z)
 

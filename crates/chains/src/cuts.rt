@@ -7,9 +7,9 @@ ghost use lib.ListN.{getD, length};
 ghost use Rattle.model.specs.Toward.{Direction};
 ghost use Rattle.domains.specs.Bits.{bit-at, Gives};
 ghost use Rattle.domains.specs.Queue.{Good};
-ghost use Rattle.domains.specs.Narrowed.{Outcome, Each};
+ghost use Rattle.domains.specs.Narrowed.{FilledWith, NarrowsIf, RemovesIf, Each};
 ghost use Rattle.chains.specs.Totals.{Tabled};
-ghost use Rattle.chains.specs.Cuts.{above-both, Comparable, EachAsked, Roomy, CutOf};
+ghost use Rattle.chains.specs.Cuts.{above-both, Comparable, CutAll, CutOf};
 use crate::totals::CAPACITY;
 use crate::totals::STARTS;
 use crate::totals::TOTALS;
@@ -58,8 +58,9 @@ fn cut_item(
     line: Line,
     items: u32,
 ) -> bool
-    requires { ⌜ Good (now k) (now rows) (now queue) × Direction x × (line .axis < 3) × (line .item < 10) × (items < 2 ^ 10) × (bit-at items (line .item) ≡ false) ⌝ }
-    ensures { λ b. ⌜ Outcome (EachAsked x (line .axis) (line .item) items) (Each x (line .axis) (line .item) items) (now (k .entry)) (now (queue .entry)) (now (k .exit)) (now (rows .exit)) (now (queue .exit)) b ⌝ }
+    requires { ⌜ Good (now k) (now rows) (now queue) × Direction x ⌝ }
+    requires { ⌜ (line .axis < 3) × (line .item < 10) × (items < 2 ^ 10) × (bit-at items (line .item) ≡ false) ⌝ }
+    ensures { λ b. ⌜ RemovesIf (Each x (line .axis) (line .item) items) k rows queue b ⌝ }
 {
     let row = rows[line.axis * 10 + line.item];
     let left = items & (row >> (x * 10) as u32 ^ ITEMS);
@@ -83,7 +84,7 @@ pub fn cut_ends(
     grown: u32,
 ) -> bool
     requires { ⌜ Good (now k) (now rows) (now queue) × Tabled (now t) × (a < 3) × (grown < 2 ^ 10) ⌝ }
-    ensures { λ b. ⌜ Outcome (Roomy (now (t .entry)) 1 a) (CutOf (now (t .entry)) 1 a grown) (now (k .entry)) (now (queue .entry)) (now (k .exit)) (now (rows .exit)) (now (queue .exit)) b ⌝ }
+    ensures { λ b. ⌜ NarrowsIf (FilledWith (CutAll (now (t .entry)) 1 a)) (CutOf (now (t .entry)) 1 a grown) k rows queue b ⌝ }
 {
     let mut left = grown;
     while left != 0 {
@@ -107,7 +108,7 @@ pub fn cut_starts(
     grown: u32,
 ) -> bool
     requires { ⌜ Good (now k) (now rows) (now queue) × Tabled (now t) × (a < 3) × (grown < 2 ^ 10) ⌝ }
-    ensures { λ b. ⌜ Outcome (Roomy (now (t .entry)) 2 a) (CutOf (now (t .entry)) 2 a grown) (now (k .entry)) (now (queue .entry)) (now (k .exit)) (now (rows .exit)) (now (queue .exit)) b ⌝ }
+    ensures { λ b. ⌜ NarrowsIf (FilledWith (CutAll (now (t .entry)) 2 a)) (CutOf (now (t .entry)) 2 a grown) k rows queue b ⌝ }
 {
     let mut left = grown;
     while left != 0 {

@@ -1,13 +1,11 @@
 // Rule 5 where a link is new.
 ghost use mathlib.Core.Path.{_≡_};
 ghost use mathlib.Core.Bool.{true};
-ghost use Prim.Native.Nat.{ℕ};
-ghost use Rattle.model.specs.Problem.{Problem};
 ghost use Rattle.model.specs.Domains.{fixed-before};
 ghost use Rattle.model.specs.Order.{Proper};
-ghost use Rattle.domains.specs.Queue.{Good, Long};
-ghost use Rattle.chains.specs.Totals.{Tabled, SameMeasures};
-ghost use Rattle.chains.specs.NewLinks.{Charted, ExtendedIf, KeptIf};
+ghost use Rattle.domains.specs.Queue.{Good};
+ghost use Rattle.chains.specs.Totals.{Tabled};
+ghost use Rattle.chains.specs.NewLinks.{KeepsIf, ExtendsAlong};
 use crate::cuts::cut_ends;
 use crate::cuts::cut_starts;
 use crate::totals::STARTS;
@@ -26,9 +24,10 @@ pub fn apply_link(
     t: &mut [u16; TOTALS],
     place: Place,
 ) -> bool
-    requires { ⌜ Good (now k) (now rows) (now queue) × Tabled (now t) × Proper 10 (place .axis) (place .u) (place .v) × (fixed-before (now k) (place .axis) (place .u) (place .v) ≡ true) ⌝ }
-    ensures { λ b. ⌜ Long (now (k .exit)) (now (rows .exit)) (now (queue .exit)) × SameMeasures (now (t .entry)) (now (t .exit)) × KeptIf (now (k .exit)) (now (rows .exit)) (now (queue .exit)) (now (t .exit)) b ⌝ }
-    ensures { λ b. ⌜ ((p : Problem) (from : ℕ) → Charted p (now (k .entry)) (now (queue .entry)) (now (t .entry)) from (place .axis) (place .u) (place .v) → ExtendedIf p (now (k .entry)) (now (queue .entry)) (now (t .entry)) from (now (k .exit)) (now (rows .exit)) (now (queue .exit)) (now (t .exit)) b) ⌝ }
+    requires { ⌜ Good (now k) (now rows) (now queue) × Tabled (now t) ⌝ }
+    requires { ⌜ Proper 10 (place .axis) (place .u) (place .v) × (fixed-before (now k) (place .axis) (place .u) (place .v) ≡ true) ⌝ }
+    ensures { λ b. ⌜ KeepsIf k rows queue t b ⌝ }
+    ensures { λ b. ⌜ ExtendsAlong (place .axis) (place .u) (place .v) k rows queue t b ⌝ }
 {
     let a = place.axis;
     let ends = link_on(rows, t, 0, 2, place);

@@ -6,7 +6,7 @@ ghost use mathlib.Core.Logic.{_≢_};
 ghost use Prim.Native.Nat.{_+_, _*_, _<_, _^_};
 ghost use Rattle.model.specs.Toward.{Direction};
 ghost use Rattle.domains.specs.Bits.{bit-at, Gives};
-ghost use Rattle.chains.specs.Links.{Linkable, Raising, Only, From, InRows, On, Plain};
+ghost use Rattle.chains.specs.Links.{Linkable, RaisesIf, Only, From, InRows, On, Plain};
 use domains::Place;
 use domains::ROWS;
 use domains::bits::ITEMS;
@@ -32,7 +32,7 @@ pub struct Growth {
 // The chains of an item go on from those of v, in the table at `own`: the set of z where its total grows.
 fn link(t: &mut [u16; TOTALS], own: usize, a: usize, v: usize, z: usize) -> Growth
     requires { ⌜ Linkable (now t) own a × (v < 10) × (z < 10) × (v ≢ z) ⌝ }
-    ensures { λ r. ⌜ Raising (Only v z) (Only v z) own a (now (t .entry)) (now (t .exit)) (r .fits) (r .items) ⌝ }
+    ensures { λ r. ⌜ RaisesIf (Only v z) (Only v z) own a (now (t .entry)) (now (t .exit)) (r .fits) (r .items) ⌝ }
 {
     let total = t[own + a * 10 + v] as u32 + t[SIZES + a * 10 + z] as u32;
     if total <= t[own + a * 10 + z] as u32 {
@@ -57,7 +57,7 @@ fn link(t: &mut [u16; TOTALS], own: usize, a: usize, v: usize, z: usize) -> Grow
 // The same of each item of a set.
 fn link_each(t: &mut [u16; TOTALS], own: usize, a: usize, v: usize, items: u32) -> Growth
     requires { ⌜ Linkable (now t) own a × (v < 10) × (items < 2 ^ 10) × (bit-at items v ≡ false) ⌝ }
-    ensures { λ r. ⌜ Raising (From v items) (From v items) own a (now (t .entry)) (now (t .exit)) (r .fits) (r .items) ⌝ }
+    ensures { λ r. ⌜ RaisesIf (From v items) (From v items) own a (now (t .entry)) (now (t .exit)) (r .fits) (r .items) ⌝ }
 {
     let mut left = items;
     let mut grown: u32 = 0;
@@ -76,7 +76,7 @@ fn link_each(t: &mut [u16; TOTALS], own: usize, a: usize, v: usize, items: u32) 
     }
 }
 
-// The items to which the row of an item tells links in the direction x: 1 to those before it, 2 to those after it.
+// The items to which the row of an item has links in the direction x: 1 to those before it, 2 to those after it.
 fn linked(row: u32, x: usize) -> u32
     requires { ⌜ Direction x ⌝ }
     ensures { λ r. ⌜ Gives 10 r (λ z. bit-at row z && bit-at row (x * 10 + z)) ⌝ }
@@ -93,7 +93,8 @@ pub fn link_on(
     place: Place,
 ) -> Growth
     requires { ⌜ Plain (now rows) × Linkable (now t) own (place .axis) × Direction x × InRows (now rows) x (place .axis) (place .u) (place .v) ⌝ }
-    ensures { λ r. ⌜ Raising (InRows (now (rows .entry)) x (place .axis)) (On (InRows (now (rows .entry)) x (place .axis)) (place .u) (place .v) (r .items)) own (place .axis) (now (t .entry)) (now (t .exit)) (r .fits) (r .items) ⌝ }
+    ensures { λ r. let links = InRows (now (rows .entry)) x (place .axis) in
+        ⌜ RaisesIf links (On links (place .u) (place .v) (r .items)) own (place .axis) (now (t .entry)) (now (t .exit)) (r .fits) (r .items) ⌝ }
 {
     let a = place.axis;
     let u = place.u;

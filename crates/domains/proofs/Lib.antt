@@ -3,6 +3,6 @@ pub mod Through
 pub mod Narrowed
 pub mod Mirror
 pub mod Rooms
-pub mod Single
-pub mod ItemByItem
-pub mod Each
+pub mod RemoveOne
+pub mod RemoveItems
+pub mod RemoveSet

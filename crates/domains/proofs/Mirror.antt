@@ -20,9 +20,12 @@ parts-same hv hw e = (omega arith, omega arith)
 pub row-first : {k : Domains} {rows : List ℕ} → Mirror k rows → {a u v : ℕ} → a < 3 → u < 10 → v < 10 → bit-at (row-at rows a u) v ≡ gone k 0 a u v
 row-first {rows = rows} m {a} {u} {v} ha hu hv = sym (bit-first (row-at rows a u) v) ∙ m .is 0 a u v (omega arith) ha hu hv
 
--- known to overlap
+-- the set of the items known to overlap, by the row of one
+abbrev pub OverlapSet : ℕ → ℕ → Type 0
+OverlapSet row s = Gives 10 s (λ v. bit-at row (10 + v) && bit-at row (20 + v))
+
 pub row-overlaps : {k : Domains} {rows : List ℕ} → Mirror k rows → {a u v s : ℕ} → a < 3 → u < 10 → v < 10
-    → Gives 10 s (λ v. bit-at (row-at rows a u) (10 + v) && bit-at (row-at rows a u) (20 + v)) → bit-at s v ≡ says overlaps k a u v
+    → OverlapSet (row-at rows a u) s → bit-at s v ≡ says overlaps k a u v
 unfolding says
 row-overlaps m {a} {u} {v} ha hu hv g = cc (g .is v hv, m .is 1 a u v (omega arith) ha hu hv, m .is 2 a u v (omega arith) ha hu hv)
 
@@ -30,8 +33,8 @@ row-overlaps m {a} {u} {v} ha hu hv g = cc (g .is v hv, m .is 1 a u v (omega ari
 abbrev pub mark : List ℕ → ℕ → ℕ → List ℕ
 mark rows i b = set rows i (bitOr (getD rows i 0) (2 ^ b))
 
-mark-here : (rows : List ℕ) (i b : ℕ) → i < length rows → bit-at (getD (mark rows i b) i 0) b ≡ true
-mark-here rows i b h = rw (getD-set-same rows i (bitOr (getD rows i 0) (2 ^ b)) 0 h, bit-or, bit-power, eq-eqb b b refl, or-true)
+mark-set : (rows : List ℕ) (i b : ℕ) → i < length rows → bit-at (getD (mark rows i b) i 0) b ≡ true
+mark-set rows i b h = rw (getD-set-same rows i (bitOr (getD rows i 0) (2 ^ b)) 0 h, bit-or, bit-power, eq-eqb b b refl, or-true)
 
 mark-kept : (rows : List ℕ) (i b j c : ℕ) → i < length rows → (j ≡ i → c ≡ b → ⊥) → bit-at (getD (mark rows i b) j 0) c ≡ bit-at (getD rows j 0) c
 mark-kept rows i b j c h d = elim (ℕ-discrete j i) [
@@ -67,11 +70,11 @@ module _ {k : Domains} {rows : List ℕ} (f : WellFormed k) (m : Mirror k rows) 
       let hn : a * 10 + u < length rows = rw (m .long) (omega arith) in
       let hf : a * 10 + v < length near = rw (length-set, m .long) (omega arith) in
       elim (same-relation y b s t (converse x) a v u) [
-        | yes (e0, (e1, (e2, e3))) ↦ rw (e0, e1, e2, e3) (mark-here near (a * 10 + v) (converse x * 10 + u) hf
+        | yes (e0, (e1, (e2, e3))) ↦ rw (e0, e1, e2, e3) (mark-set near (a * 10 + v) (converse x * 10 + u) hf
             ∙ sym (gone-converse after x a u v hx ∙ without-gone k x f w))
         | no far ↦ mark-kept near (a * 10 + v) (converse x * 10 + u) (b * 10 + s) (y * 10 + t) hf (λ p q. far (omega arith))
             ∙ elim (same-relation y b s t x a u v) [
-              | yes (e0, (e1, (e2, e3))) ↦ rw (e0, e1, e2, e3) (mark-here rows (a * 10 + u) (x * 10 + v) hn ∙ sym (without-gone k x f w))
+              | yes (e0, (e1, (e2, e3))) ↦ rw (e0, e1, e2, e3) (mark-set rows (a * 10 + u) (x * 10 + v) hn ∙ sym (without-gone k x f w))
               | no d ↦ mark-kept rows (a * 10 + u) (x * 10 + v) (b * 10 + s) (y * 10 + t) hn (λ p q. d (omega arith)) ∙ (m .is y b s t hy hb hs ht
                   ∙ sym (elim (ℕ-discrete t s) [
                     | yes e ↦ rw e (gone-self after y b s ∙ sym (gone-self k y b s))

@@ -1,5 +1,7 @@
 -- What every function that removes relations promises: only what was asked for is gone, and this is done. One record for all of them.
 use Rattle.prelude.specs.Names.{Bool, true, false, List, _⊎_, _≢_, _≡_, ℕ, _+_, _*_, _^_, _≤_, _<_, getD}
+use denote.Ref.{RefT, now}
+use denote.Triple.Both.{Both}
 use Rattle.model.specs.Domains.{Domains}
 use Rattle.model.specs.Order.{Proper, _⊑_}
 use Rattle.model.specs.Relations.{gone, Filled}
@@ -30,6 +32,31 @@ abbrev pub Outcome : (Domains → Type 0) → (Domains → Type 0) → Domains �
 Outcome G D k q j rows r true = Narrowed G D k q j rows r
 Outcome G D k q j rows r false = Long j rows r × Refuted G k
 
+-- D is done, and every pair has a relation left
+pub record FilledWith (D : Domains → Type 0) (f : Domains) : Type 0 where
+  pub all : D f
+  pub filled : Filled f
+
+-- D is done, and nothing else; or that would leave nothing of a pair
+abbrev pub RemovedOnly : (Domains → Type 0) → Domains → List ℕ → Domains → List ℕ → List ℕ → Type 0
+RemovedOnly D = Narrowed D D
+
+abbrev pub RemovedIf : (Domains → Type 0) → Domains → List ℕ → Domains → List ℕ → List ℕ → Bool → Type 0
+RemovedIf D = Outcome (FilledWith D) D
+
+-- For contracts: an array that a function is lent, at its entry and at its exit; then the above of its domains, rows and queue, from entry to exit
+abbrev pub LentArray : Type 0
+LentArray = Both (RefT (List ℕ)) (RefT (List ℕ))
+
+abbrev pub NarrowsIf : (Domains → Type 0) → (Domains → Type 0) → LentArray → LentArray → LentArray → Bool → Type 0
+NarrowsIf G D k rows queue = Outcome G D (now (k .entry)) (now (queue .entry)) (now (k .exit)) (now (rows .exit)) (now (queue .exit))
+
+abbrev pub Removes : (Domains → Type 0) → LentArray → LentArray → LentArray → Type 0
+Removes D k rows queue = RemovedOnly D (now (k .entry)) (now (queue .entry)) (now (k .exit)) (now (rows .exit)) (now (queue .exit))
+
+abbrev pub RemovesIf : (Domains → Type 0) → LentArray → LentArray → LentArray → Bool → Type 0
+RemovesIf D = NarrowsIf (FilledWith D) D
+
 -- a relation is removed
 abbrev pub One : ℕ → ℕ → ℕ → ℕ → Domains → Type 0
 One x a u v f = gone f x a u v ≡ true
@@ -53,9 +80,8 @@ abbrev pub All : ℕ → ℕ → ℕ → Domains → Type 0
 All a u s f = (x v : ℕ) → x < 3 → v < 10 → bit-at s (x * 10 + v) ≡ true → gone f x a u v ≡ true
 
 -- .. and every pair has a relation left
-pub record Asked (a u s : ℕ) (f : Domains) : Type 0 where
-  pub all : All a u s f
-  pub filled : Filled f
+abbrev pub Asked : ℕ → ℕ → ℕ → Domains → Type 0
+Asked a u s = FilledWith (All a u s)
 
 -- a set as in the row of u, with nothing of u itself
 pub record Askable (a u s : ℕ) : Type 0 where

@@ -13,6 +13,10 @@ max-queue = 946
 abbrev pub pair-code : ℕ → ℕ → ℕ → ℕ
 pair-code a u v = a * 256 + u * 16 + v
 
+-- the pair s, t on the axis b is u, v on a, in one order or the other
+abbrev pub SamePair : ℕ → ℕ → ℕ → ℕ → ℕ → ℕ → Type 0
+SamePair a u v b s t = (b ≡ a) × (((s ≡ u) × (t ≡ v)) ⊎ ((s ≡ v) × (t ≡ u)))
+
 -- the number stands for two distinct items
 abbrev pub Coded : ℕ → Type 0
 Coded x = Proper 10 (x / 256) (x / 16 % 16) (x % 16)

@@ -4,7 +4,7 @@ ghost use mathlib.Core.Bool.{false};
 ghost use Prim.Native.Nat.{_<_};
 ghost use Rattle.model.specs.Domains as D;
 ghost use Rattle.model.specs.Order.{Rising};
-ghost use Rattle.domains.specs.Access.{Removes};
+ghost use Rattle.domains.specs.Access.{Removable};
 use crate::DOMAINS;
 
 // Where the domain of u < v stands.
@@ -34,9 +34,9 @@ fn without_after(m: u8) -> u8
     m % 2 + m / 2 % 2 * 2
 }
 
-// Removes "u and v overlap".
+// Removable "u and v overlap".
 pub fn remove_overlap(k: &mut [u8; DOMAINS], a: usize, u: usize, v: usize)
-    requires { ⌜ Removes (now k) a u v ⌝ }
+    requires { ⌜ Removable (now k) a u v ⌝ }
     ensures { λ _. ⌜ now (k .exit) ≡ D.remove-overlap (now (k .entry)) a u v ⌝ }
 {
     if u < v {
@@ -48,9 +48,9 @@ pub fn remove_overlap(k: &mut [u8; DOMAINS], a: usize, u: usize, v: usize)
     k[i] = without_overlap(k[i]);
 }
 
-// Removes "u before v".
+// Removable "u before v".
 pub fn remove_before(k: &mut [u8; DOMAINS], a: usize, u: usize, v: usize)
-    requires { ⌜ Removes (now k) a u v ⌝ }
+    requires { ⌜ Removable (now k) a u v ⌝ }
     ensures { λ _. ⌜ now (k .exit) ≡ D.remove-before (now (k .entry)) a u v ⌝ }
 {
     if u < v {

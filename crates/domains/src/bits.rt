@@ -1,10 +1,10 @@
 // Rows of bits. The row of an item u on an axis has bit 10 * x + v where the relation x of u and v is removed: 0 is overlap, 1 "u before v",
 // 2 "v before u". A set of items is the bits below 10.
 ghost use mathlib.Core.Path.{_≡_};
-ghost use mathlib.Core.Bool.{true, _&&_};
+ghost use mathlib.Core.Bool.{_&&_};
 ghost use mathlib.Core.Logic.{_≢_};
 ghost use Prim.Native.Nat.{_+_, _<_, _^_};
-ghost use Rattle.domains.specs.Bits.{bit-at, Gives, lowest-bit, TakenOut};
+ghost use Rattle.domains.specs.Bits.{bit-at, Gives, lowest-bit, Lowest, TakenOut};
 
 // All bits of a row, of a set of items, and of each order.
 pub const ROW: u32 = 1073741823;
@@ -34,7 +34,7 @@ pub fn has(row: u32, i: usize) -> bool
 // The place of the lowest bit.
 pub fn lowest(row: u32) -> usize
     requires { ⌜ (row < 2 ^ 30) × (row ≢ 0) ⌝ }
-    ensures { λ r. ⌜ (r ≡ lowest-bit row) × (r < 30) × (bit-at row r ≡ true) ⌝ }
+    ensures { λ r. ⌜ Lowest row r ⌝ }
 {
     u32::trailing_zeros(row) as usize
 }

@@ -1,6 +1,5 @@
 // The queue of pairs that changed: place 0 has where it ends, the pairs stand from place 1 on.
 ghost use mathlib.Core.Path.{_≡_};
-ghost use Prim.Native.Nat.{_<_};
 ghost use Rattle.model.specs.Order.{Proper};
 ghost use Rattle.domains.specs.Queue as Q;
 ghost use Rattle.domains.specs.Queue.{Pushable, pushed};

@@ -3,9 +3,9 @@ ghost use mathlib.Core.Path.{_≡_};
 ghost use Prim.Native.Nat.{_<_};
 ghost use Rattle.model.specs.Relations as R;
 ghost use Rattle.model.specs.Order.{Proper};
-ghost use Rattle.domains.specs.Access.{Removes};
+ghost use Rattle.domains.specs.Access.{Removable};
 ghost use Rattle.domains.specs.Queue.{Good};
-ghost use Rattle.domains.specs.Narrowed.{Narrowed, Outcome, One, Spare, Each, Spares, All, Asked, Askable, Left};
+ghost use Rattle.domains.specs.Narrowed.{Removes, RemovesIf, One, Spare, Each, Spares, All, Askable, Left};
 use crate::DOMAINS;
 use crate::Line;
 use crate::Place;
@@ -34,7 +34,7 @@ fn converse(x: usize) -> usize
 
 // Removes a relation from its domain.
 fn remove_from(k: &mut [u8; DOMAINS], x: usize, a: usize, u: usize, v: usize)
-    requires { ⌜ Removes (now k) a u v × (x < 3) ⌝ }
+    requires { ⌜ Removable (now k) a u v × (x < 3) ⌝ }
     ensures { λ _. ⌜ now (k .exit) ≡ R.without (now (k .entry)) x a u v ⌝ }
 {
     if x == 0 {
@@ -56,8 +56,9 @@ fn remove_one(
     x: usize,
     place: Place,
 )
-    requires { ⌜ Good (now k) (now rows) (now queue) × (x < 3) × Proper 10 (place .axis) (place .u) (place .v) × Spare (now k) x (place .axis) (place .u) (place .v) ⌝ }
-    ensures { λ _. ⌜ Narrowed (One x (place .axis) (place .u) (place .v)) (One x (place .axis) (place .u) (place .v)) (now (k .entry)) (now (queue .entry)) (now (k .exit)) (now (rows .exit)) (now (queue .exit)) ⌝ }
+    requires { ⌜ Good (now k) (now rows) (now queue) ⌝ }
+    requires { ⌜ (x < 3) × Proper 10 (place .axis) (place .u) (place .v) × Spare (now k) x (place .axis) (place .u) (place .v) ⌝ }
+    ensures { λ _. ⌜ Removes (One x (place .axis) (place .u) (place .v)) k rows queue ⌝ }
 {
     let a = place.axis;
     let u = place.u;
@@ -78,7 +79,7 @@ pub fn remove_items(
     items: u32,
 )
     requires { ⌜ Good (now k) (now rows) (now queue) × (x < 3) × (line .axis < 3) × (line .item < 10) × Spares (now k) x (line .axis) (line .item) items ⌝ }
-    ensures { λ _. ⌜ Narrowed (Each x (line .axis) (line .item) items) (Each x (line .axis) (line .item) items) (now (k .entry)) (now (queue .entry)) (now (k .exit)) (now (rows .exit)) (now (queue .exit)) ⌝ }
+    ensures { λ _. ⌜ Removes (Each x (line .axis) (line .item) items) k rows queue ⌝ }
 {
     let mut left = items;
     while left != 0 {
@@ -103,7 +104,7 @@ pub fn remove_each(
     set: u32,
 ) -> bool
     requires { ⌜ Good (now k) (now rows) (now queue) × Askable a u set × Left (now k) a u set ⌝ }
-    ensures { λ r. ⌜ Outcome (Asked a u set) (All a u set) (now (k .entry)) (now (queue .entry)) (now (k .exit)) (now (rows .exit)) (now (queue .exit)) r ⌝ }
+    ensures { λ r. ⌜ RemovesIf (All a u set) k rows queue r ⌝ }
 {
     if emptied(rows[a * 10 + u] | set) != 0 {
         return false;
@@ -125,7 +126,7 @@ pub fn remove(
     set: u32,
 ) -> bool
     requires { ⌜ Good (now k) (now rows) (now queue) × Askable a u set ⌝ }
-    ensures { λ r. ⌜ Outcome (Asked a u set) (All a u set) (now (k .entry)) (now (queue .entry)) (now (k .exit)) (now (rows .exit)) (now (queue .exit)) r ⌝ }
+    ensures { λ r. ⌜ RemovesIf (All a u set) k rows queue r ⌝ }
 {
     let left = set & (rows[a * 10 + u] ^ ROW);
     if left == 0 {

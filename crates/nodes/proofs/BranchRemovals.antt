@@ -20,7 +20,7 @@ use Rattle.domains.specs.declared.Place.{Place}
 use Rattle.domains.proofs.BitLaws.{bit-or, bit-power}
 use Rattle.domains.proofs.Mirror.{parts-same, row-first}
 use Rattle.domains.proofs.Rooms.{good-start}
-use Rattle.domains.proofs.Single.{still-gone, filled-without}
+use Rattle.domains.proofs.RemoveOne.{still-gone, filled-without}
 
 -- e is what is left of k where of u and v on the axis a the relations of P are removed
 pub record Taken (k : Domains) (a u v : ℕ) (P : ℕ → Type 0) (e : Domains) : Type 0 where

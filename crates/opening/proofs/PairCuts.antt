@@ -46,9 +46,9 @@ too-inside {t} {n} {a} {u} {v} tabled past s too =
     }
 
 -- A set of relations of items below n is removed: nothing is removed past n. For the domains in which another pair has back what it had are left too
-asked-untouched : (n : ℕ) {a u s : ℕ} {j : Domains} {r : List ℕ} {l : Domains} {rows z : List ℕ} → Narrowed (Asked a u s) (All a u s) j r l rows z
+asked-untouched : (n s : ℕ) {a u : ℕ} {j : Domains} {r : List ℕ} {l : Domains} {rows z : List ℕ} → Narrowed (Asked a u s) (All a u s) j r l rows z
     → ((x v : ℕ) → v < 10 → bit-at s (x * 10 + v) ≡ true → Proper 10 a u v × Proper n a u v) → Untouched n j → Untouched n l
-asked-untouched n {a} {u} {s} {j} {l = l} w inside h x b y v hx p e =
+asked-untouched n s {a} {u} {j} {l = l} w inside h x b y v hx p e =
     let i = index-of b y v in
     let back = set l i (getD j i 0) in
     let room : i < length l = rw (w .grown .good .laid .well-formed .long) (index-of-small p) in
@@ -113,5 +113,5 @@ module _ (t : List ℕ) (a u m : ℕ) (ha : a < 3) (hu : u < 10) (g : Gives 10 m
               ];
             }),
         λ n′ lim past h.
-            asked-untouched n′ w (λ x v hv e. let (_, s, too) = in-set x v hv e in (s, too-inside tabled past s too)) (out n′ lim past h),
+            asked-untouched n′ (shifted m) w (λ x v hv e. let (_, s, too) = in-set x v hv e in (s, too-inside tabled past s too)) (out n′ lim past h),
       )

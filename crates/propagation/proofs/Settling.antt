@@ -11,11 +11,11 @@ use Rattle.model.specs.Toward.{Goal, Toward, ClosedBut, NoPair, Closed}
 use Rattle.model.proofs.Order.{below-refl, below-trans}
 use Rattle.model.proofs.Untouched.{obeyed-fewer, filled-consistent}
 use Rattle.model.proofs.Toward.{under-mono, no-goal, closed-wider, end-is, end-under, end-exact}
-use Rattle.domains.specs.Queue.{queue-end, Queued, Coded, Good, Long}
+use Rattle.domains.specs.Queue.{queue-end, Queued, Coded, Good}
 use Rattle.domains.specs.Narrowed.{Refuted}
 use Rattle.chains.specs.Totals.{table, Tabled, Measured, SameMeasures, Fitting}
 use Rattle.chains.specs.NewLinks.{Charted, KeptIf}
-use Rattle.propagation.specs.Events.{WorkedIf}
+use Rattle.propagation.specs.Events.{WorkedOff}
 use Rattle.propagation.specs.Propagated.{Pending, Ready, Propagated}
 use Rattle.chains.proofs.Linking.{same-none, same-then}
 use Rattle.propagation.proofs.Pending.{head-or-on, advance, pending-done}
@@ -119,9 +119,8 @@ module _ {k : Domains} {rows₀ q t : List ℕ} {j : Domains} {rows r s : List �
   -- the pair at the head is worked off
   module _ (more : head < queue-end r) where
     pub settling-next : {l : Domains} {rows′ r′ s′ : List ℕ}
-        → (Long l rows′ r′ × SameMeasures s s′ × KeptIf l rows′ r′ s′ true)
-        × ((p : Problem) (from : ℕ) → Charted p j r s from (pair / 256) (pair / 16 % 16) (pair % 16)
-        → WorkedIf p j r s from (pair / 256) (pair / 16 % 16) (pair % 16) l rows′ r′ s′ true) → Settling k rows₀ q t l rows′ r′ s′ (head + 1)
+        → KeptIf s l rows′ r′ s′ true × WorkedOff (pair / 256) (pair / 16 % 16) (pair % 16) j r s l rows′ r′ s′ true
+        → Settling k rows₀ q t l rows′ r′ s′ (head + 1)
     settling-next {l} ((long, same, (good, tabled)), worked) = record {
       good = good;
       tabled = tabled;

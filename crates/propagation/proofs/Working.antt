@@ -16,16 +16,16 @@ use Rattle.model.proofs.Untouched.{goal-lawful}
 use Rattle.model.proofs.Toward.{by-direction, closed-wider}
 use Rattle.domains.specs.Bits.{bit-at}
 use Rattle.domains.specs.Rows.{row-at, Mirror}
-use Rattle.domains.specs.Queue.{queue-end, Good, Long}
+use Rattle.domains.specs.Queue.{SamePair, queue-end, Good}
 use Rattle.domains.specs.Narrowed.{Narrowed, Refuted, Outcome}
-use Rattle.rules.specs.Worked.{Clauses, Handled, Paths, Diagonal, Overlapping}
-use Rattle.chains.specs.Totals.{Tabled, SameMeasures, Fitting}
-use Rattle.chains.specs.NewLinks.{SamePair, Charted, Extended, ExtendedIf, KeptIf}
-use Rattle.propagation.specs.Events.{InOrder, Overlapped, WorkedIf}
+use Rattle.rules.specs.Worked.{Clauses, Handled, HandledIf, Paths, Diagonal, Overlapping}
+use Rattle.chains.specs.Totals.{Tabled, Fitting}
+use Rattle.chains.specs.NewLinks.{Charted, Extended, ExtendedAlong, KeptIf}
+use Rattle.propagation.specs.Events.{InOrder, Overlapped, WorkedOff}
 use Rattle.domains.proofs.BitLaws.{bit-or, bit-shr}
 use Rattle.domains.proofs.Narrowed.{good-long, narrowed-none, grown-then, outcome-as}
 use Rattle.domains.proofs.Mirror.{row-first}
-use Rattle.rules.proofs.Works.{hold-mono}
+use Rattle.rules.proofs.Handling.{hold-mono}
 use Rattle.chains.proofs.Linking.{same-none, closed-on}
 use Rattle.rules.proofs.Mentions.{mentioning-handled}
 
@@ -65,10 +65,10 @@ linked-known k a u v x b y z d (e, inr (f, g)) l =
     (forced-converse k x a v u (omega (arith, d .most)) ∙ (rw (e, f, g) at l))
 
 -- The pair with the earlier item first, by the row
-pub turned-fixed : {k : Domains} {rows : List ℕ} {a u v : ℕ} → Mirror k rows → Proper 10 a u v → known k a u v ≡ true → {b y z : ℕ}
+pub in-order-fixed : {k : Domains} {rows : List ℕ} {a u v : ℕ} → Mirror k rows → Proper 10 a u v → known k a u v ≡ true → {b y z : ℕ}
     → InOrder (bit-at (row-at rows a u) (20 + v)) a u v b y z → Proper 10 b y z × (fixed-before k b y z ≡ true)
 unfolding says
-turned-fixed {k} {rows} {a} {u} {v} m s h {b} {y} {z} o =
+in-order-fixed {k} {rows} {a} {u} {v} m s h {b} {y} {z} o =
     let (f, g) = and-both (gone k 0 a u v) (gone k 1 a u v || gone k 2 a u v) h in
     go _ (row-order m s 2 (omega arith) refl refl) f (or-case _ _ g) o
   where
@@ -78,19 +78,19 @@ turned-fixed {k} {rows} {a} {u} {v} m s h {b} {y} {z} o =
     go false e f (inl g) t = rw (t .axis, t .earlier, t .later) (proper-sym s, sym (forced-after-is k a u v) ∙ and-intro f g)
     go false e f (inr g) t = absurd (clash g e)
 
--- Rule 5: the pair turned, and nothing to do where no order is known
-same-turned : (b : Bool) (a u v c s t : ℕ) → InOrder b a u v c s t → (d y z : ℕ) → SamePair a u v d y z → SamePair c s t d y z
-same-turned true a u v c s t o d y z h = rw (o .axis, o .earlier, o .later) h
-same-turned false a u v c s t o d y z (e, inl h) = rw (o .axis, o .earlier, o .later) (e, inr h)
-same-turned false a u v c s t o d y z (e, inr h) = rw (o .axis, o .earlier, o .later) (e, inl h)
+-- Rule 5: the pair in order, and nothing to do where no order is known
+in-order-same : (b : Bool) (a u v c s t : ℕ) → InOrder b a u v c s t → (d y z : ℕ) → SamePair a u v d y z → SamePair c s t d y z
+in-order-same true a u v c s t o d y z h = rw (o .axis, o .earlier, o .later) h
+in-order-same false a u v c s t o d y z (e, inl h) = rw (o .axis, o .earlier, o .later) (e, inr h)
+in-order-same false a u v c s t o d y z (e, inr h) = rw (o .axis, o .earlier, o .later) (e, inl h)
 
 module _ {p : Problem} {k : Domains} {q t : List ℕ} {from a u v : ℕ} (c : Charted p k q t from a u v) where
-  pub charted-turned : {b : Bool} {d y z : ℕ} → InOrder b a u v d y z → Charted p k q t from d y z
-  charted-turned {b} {d} {y} {z} h = record {
+  pub in-order-charted : {b : Bool} {d y z : ℕ} → InOrder b a u v d y z → Charted p k q t from d y z
+  in-order-charted {b} {d} {y} {z} h = record {
     measured = c .measured;
     first = c .first;
     within = c .within;
-    closed = closed-wider (λ x e i j w f l m. inr (⊎-map (λ q. q) (same-turned b a u v d y z h e i j) m)) (λ e i j m. m) (c .closed);
+    closed = closed-wider (λ x e i j w f l m. inr (⊎-map (λ q. q) (in-order-same b a u v d y z h e i j) m)) (λ e i j m. m) (c .closed);
   }
 
   -- Rules 1 to 4 follow
@@ -114,8 +114,7 @@ module _ {p : Problem} {k : Domains} {q t : List ℕ} {from a u v : ℕ} (c : Ch
 
 pub unordered : {k : Domains} {rows q t : List ℕ} {a u v : ℕ} → Proper 10 a u v → Good k rows q → Tabled t
     → (gone k 0 a u v ≡ false) ⊎ ((gone k 1 a u v || gone k 2 a u v) ≡ false)
-    → (Long k rows q × SameMeasures t t × KeptIf k rows q t true)
-    × ((p : Problem) (from : ℕ) → Charted p k q t from a u v → ExtendedIf p k q t from k rows q t true)
+    → KeptIf t k rows q t true × ExtendedAlong a u v k q t k rows q t true
 unordered {k} {a = a} {u} {v} s good tabled e =
     let unknown : known k a u v ≡ false = ⊎-elim (λ e. rw e refl) (λ e. rw e (and-false (gone k 0 a u v))) e in (
       (good-long good, same-none, (good, tabled)),
@@ -131,14 +130,14 @@ unordered {k} {a = a} {u} {v} s good tabled e =
 -- Rules 1 and 4: a filled pair is not known both to overlap and not to
 module _ {k : Domains} {rows q : List ℕ} (good : Good k rows q) {a u v : ℕ} (w : Proper 10 a u v) where
   pub across-all : gone k 0 a u v ≡ true → (j : Domains) (rows′ r : List ℕ) (b : Bool)
-      → Outcome Lawful (Handled (Diagonal a u v) k) k q j rows′ r b → Outcome Lawful (Overlapped a u v k) k q j rows′ r b
+      → HandledIf (Diagonal a u v) k q j rows′ r b → Outcome Lawful (Overlapped a u v k) k q j rows′ r b
   unfolding says
   across-all e j rows′ r b =
       outcome-as Lawful Lawful (Handled (Diagonal a u v) k) (Overlapped a u v k) k q j rows′ r b (λ f h b. h)
       (λ less done. record { across = λ h. done; along = λ h. absurd (clash h (rw e at (good .laid .filled a u v w))) })
 
   module _ (left : gone k 0 a u v ≡ false) where
-    pub along-all : (j : Domains) (rows′ r : List ℕ) (b : Bool) → Outcome Lawful (Handled (Overlapping a u v) k) k q j rows′ r b
+    pub along-all : (j : Domains) (rows′ r : List ℕ) (b : Bool) → HandledIf (Overlapping a u v) k q j rows′ r b
         → Outcome Lawful (Overlapped a u v k) k q j rows′ r b
     along-all j rows′ r b =
         outcome-as Lawful Lawful (Handled (Overlapping a u v) k) (Overlapped a u v k) k q j rows′ r b (λ f h b. h)
@@ -158,12 +157,10 @@ handled-within k k₁ k₂ j before after h ps c r e = holds-mono j k₂ after c
 -- All rules
 module _ {k : Domains} {q t : List ℕ} {a u v : ℕ} {k₁ : Domains} {rows₁ q₁ s : List ℕ} {k₂ : Domains} {rows₂ q₂ : List ℕ}
     (least : 1 ≤ queue-end q) (w : Proper 10 a u v)
-    (e : (Long k₁ rows₁ q₁ × SameMeasures t s × KeptIf k₁ rows₁ q₁ s true)
-    × ((p : Problem) (from : ℕ) → Charted p k q t from a u v → Extended p k q t from k₁ rows₁ q₁ s))
+    (e : KeptIf t k₁ rows₁ q₁ s true × ExtendedAlong a u v k q t k₁ rows₁ q₁ s true)
     (f : Narrowed Lawful (Handled (Paths a u v) k₁) k₁ q₁ k₂ rows₂ q₂) where
   pub worked-all : (j : Domains) (rows r : List ℕ) (b : Bool) → Outcome Lawful (Overlapped a u v k₂) k₂ q₂ j rows r b
-      → (Long j rows r × SameMeasures t s × KeptIf j rows r s b)
-      × ((p : Problem) (from : ℕ) → Charted p k q t from a u v → WorkedIf p k q t from a u v j rows r s b)
+      → KeptIf t j rows r s b × WorkedOff a u v k q t j rows r s b
   worked-all j rows r false (long, nil) =
       ((long, e .0 .1, tt), λ p from c. extended-refuted c (extended-then c (e .1 p from c) least f) nil)
   worked-all j rows r true g = (

@@ -1,5 +1,6 @@
 -- What propagation in code comes to: domains with their rows, queue and totals, before it and after.
 use Rattle.prelude.specs.Names.{Bool, true, false, List, [], _∷_, _⊎_, _≡_, ℕ, _<_}
+use denote.Ref.{now}
 use Rattle.model.specs.Problem.{Problem}
 use Rattle.model.specs.Domains.{Domains}
 use Rattle.model.specs.Rules.{greatest-ending}
@@ -9,6 +10,7 @@ use Rattle.model.specs.Clauses.{Rule, AllHold, Obeyed}
 use Rattle.model.specs.Toward.{Under, ClosedBut, NoPair, Closed}
 use Rattle.domains.specs.Rows.{Laid}
 use Rattle.domains.specs.Queue.{queue-end, Queued, Good}
+use Rattle.domains.specs.Narrowed.{LentArray}
 use Rattle.chains.specs.Totals.{table, Tabled, Measured}
 use Rattle.model.specs.Propagate as M
 
@@ -49,3 +51,9 @@ pub record Propagated (p : Problem) (k j : Domains) (rows t : List ℕ) : Type 0
 abbrev pub Answered : Problem → Domains → Domains → List ℕ → List ℕ → Bool → Type 0
 Answered p k j rows t true = Propagated p k j rows t
 Answered p k j rows t false = inconsistent p (M.propagate p k) ≡ true
+
+-- what a function answers of every problem for which its arrays were ready at its entry
+abbrev pub Propagates : LentArray → LentArray → LentArray → LentArray → Bool → Type 0
+Propagates k rows queue t b =
+    (p : Problem) → Ready p (now (k .entry)) (now (rows .entry)) (now (queue .entry)) (now (t .entry))
+    → Answered p (now (k .entry)) (now (k .exit)) (now (rows .exit)) (now (t .exit)) b

@@ -1,15 +1,14 @@
 // Each pair that changed is worked off once: all rules with a premise of it.
-ghost use Prim.Native.Nat.{ℕ, _+_, _<_};
-ghost use Rattle.model.specs.Problem.{Problem};
+ghost use Prim.Native.Nat.{_+_, _<_};
 ghost use Rattle.model.specs.Order.{Proper};
 ghost use Rattle.model.specs.Clauses.{Lawful};
 ghost use Rattle.domains.specs.Bits.{bit-at};
 ghost use Rattle.domains.specs.Queue.{Good, Long};
-ghost use Rattle.domains.specs.Narrowed.{Outcome};
+ghost use Rattle.domains.specs.Narrowed.{NarrowsIf};
 ghost use Rattle.chains.specs.Totals.{Tabled, SameMeasures};
-ghost use Rattle.chains.specs.NewLinks.{Charted, ExtendedIf, KeptIf};
-ghost use Rattle.propagation.specs.Events.{InOrder, Overlapped, WorkedIf};
-ghost use Rattle.propagation.specs.Propagated.{Ready, Answered};
+ghost use Rattle.chains.specs.NewLinks.{KeepsIf, ExtendsAlong};
+ghost use Rattle.propagation.specs.Events.{InOrder, Overlapped, WorksOff};
+ghost use Rattle.propagation.specs.Propagated.{Propagates};
 use chains::links::apply_link;
 use chains::totals::TOTALS;
 use domains::DOMAINS;
@@ -45,8 +44,8 @@ fn work_order(
     place: Place,
 ) -> bool
     requires { ⌜ Good (now k) (now rows) (now queue) × Tabled (now t) × Proper 10 (place .axis) (place .u) (place .v) ⌝ }
-    ensures { λ b. ⌜ Long (now (k .exit)) (now (rows .exit)) (now (queue .exit)) × SameMeasures (now (t .entry)) (now (t .exit)) × KeptIf (now (k .exit)) (now (rows .exit)) (now (queue .exit)) (now (t .exit)) b ⌝ }
-    ensures { λ b. ⌜ ((p : Problem) (from : ℕ) → Charted p (now (k .entry)) (now (queue .entry)) (now (t .entry)) from (place .axis) (place .u) (place .v) → ExtendedIf p (now (k .entry)) (now (queue .entry)) (now (t .entry)) from (now (k .exit)) (now (rows .exit)) (now (queue .exit)) (now (t .exit)) b) ⌝ }
+    ensures { λ b. ⌜ KeepsIf k rows queue t b ⌝ }
+    ensures { λ b. ⌜ ExtendsAlong (place .axis) (place .u) (place .v) k rows queue t b ⌝ }
 {
     let a = place.axis;
     let u = place.u;
@@ -69,7 +68,7 @@ fn work_overlap(
     place: Place,
 ) -> bool
     requires { ⌜ Good (now k) (now rows) (now queue) × Proper 10 (place .axis) (place .u) (place .v) ⌝ }
-    ensures { λ b. ⌜ Outcome Lawful (Overlapped (place .axis) (place .u) (place .v) (now (k .entry))) (now (k .entry)) (now (queue .entry)) (now (k .exit)) (now (rows .exit)) (now (queue .exit)) b ⌝ }
+    ensures { λ b. ⌜ NarrowsIf Lawful (Overlapped (place .axis) (place .u) (place .v) (now (k .entry))) k rows queue b ⌝ }
 {
     let a = place.axis;
     let u = place.u;
@@ -96,8 +95,8 @@ fn work_off(
     place: Place,
 ) -> bool
     requires { ⌜ Good (now k) (now rows) (now queue) × Tabled (now t) × Proper 10 (place .axis) (place .u) (place .v) ⌝ }
-    ensures { λ b. ⌜ Long (now (k .exit)) (now (rows .exit)) (now (queue .exit)) × SameMeasures (now (t .entry)) (now (t .exit)) × KeptIf (now (k .exit)) (now (rows .exit)) (now (queue .exit)) (now (t .exit)) b ⌝ }
-    ensures { λ b. ⌜ ((p : Problem) (from : ℕ) → Charted p (now (k .entry)) (now (queue .entry)) (now (t .entry)) from (place .axis) (place .u) (place .v) → WorkedIf p (now (k .entry)) (now (queue .entry)) (now (t .entry)) from (place .axis) (place .u) (place .v) (now (k .exit)) (now (rows .exit)) (now (queue .exit)) (now (t .exit)) b) ⌝ }
+    ensures { λ b. ⌜ KeepsIf k rows queue t b ⌝ }
+    ensures { λ b. ⌜ WorksOff (place .axis) (place .u) (place .v) k rows queue t b ⌝ }
 {
     if !work_order(k, rows, queue, t, place) {
         return false;
@@ -117,7 +116,7 @@ pub fn propagate(
 ) -> bool
     requires { ⌜ Good (now k) (now rows) (now queue) × Tabled (now t) ⌝ }
     ensures { λ _. ⌜ Long (now (k .exit)) (now (rows .exit)) (now (queue .exit)) × SameMeasures (now (t .entry)) (now (t .exit)) ⌝ }
-    ensures { λ b. ⌜ ((p : Problem) → Ready p (now (k .entry)) (now (rows .entry)) (now (queue .entry)) (now (t .entry)) → Answered p (now (k .entry)) (now (k .exit)) (now (rows .exit)) (now (t .exit)) b) ⌝ }
+    ensures { λ b. ⌜ Propagates k rows queue t b ⌝ }
 {
     let mut head: usize = 1;
     while head < queue[0] as usize {

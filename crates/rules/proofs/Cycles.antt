@@ -9,16 +9,16 @@ use Rattle.model.specs.Clauses.{of, g1, AllHold, Lawful}
 use Rattle.model.proofs.Below.{and-intro, and-both, clash}
 use Rattle.model.proofs.Order.{below-refl}
 use Rattle.model.proofs.Claims.{gone-mono, says-mono, holds-mono, overlaps-sym}
-use Rattle.domains.specs.Bits.{bit-at, Gives, lowest-bit, TakenOut}
+use Rattle.domains.specs.Bits.{bit-at, Gives, lowest-bit, Lowest, TakenOut}
 use Rattle.domains.specs.Rows.{row-at, Mirror}
 use Rattle.domains.specs.Queue.{queue-end, Good}
-use Rattle.domains.specs.Narrowed.{All, Asked, Askable, Narrowed, Outcome}
-use Rattle.rules.specs.Worked.{Handled, Ring, OverlapAll, OverlapAsked}
+use Rattle.domains.specs.Narrowed.{FilledWith, RemovedIf, All, Asked, Askable, Narrowed, Outcome}
+use Rattle.rules.specs.Worked.{Handled, Ring, OverlapAll}
 use Rattle.domains.proofs.BitLaws.{bit-and, bit-or, bit-not, bit-power, bit-shl, shl-small, and-small, gives-both, below-three}
-use Rattle.domains.proofs.Mirror.{row-first, row-overlaps}
+use Rattle.domains.proofs.Mirror.{row-first, OverlapSet, row-overlaps}
 use Rattle.domains.proofs.Narrowed.{narrowed-as, outcome-then, outcome-as}
 use Rattle.domains.proofs.Through.{Through, through-one, through-all}
-use Rattle.rules.proofs.Works.{lawful-holds}
+use Rattle.rules.proofs.Handling.{lawful-holds}
 use Rattle.model.proofs.Domains.{gone-distinct}
 
 -- Both orders with each item of a set
@@ -41,11 +41,10 @@ module _ {items : ℕ} (small : items < 2 ^ 10) where
   }
 
   pub orders-outcome : (a u : ℕ) (k : Domains) (q : List ℕ) (j : Domains) (rows r : List ℕ) (b : Bool)
-      → Outcome (Asked a u (orders items)) (All a u (orders items)) k q j rows r b
-      → Outcome (OverlapAsked a u items) (OverlapAll a u items) k q j rows r b
+      → RemovedIf (All a u (orders items)) k q j rows r b → RemovedIf (OverlapAll a u items) k q j rows r b
   unfolding says
   orders-outcome a u k q j rows r b =
-      outcome-as (Asked a u (orders items)) (OverlapAsked a u items) (All a u (orders items)) (OverlapAll a u items) k q j rows r b
+      outcome-as (Asked a u (orders items)) (FilledWith (OverlapAll a u items)) (All a u (orders items)) (OverlapAll a u items) k q j rows r b
       (λ f o d. record {
         all = λ x v hx hv e.
             below-three (λ x. ((eqb x 1 && bit-at items v) || (eqb x 2 && bit-at items v)) ≡ true → gone f x a u v ≡ true)
@@ -59,16 +58,15 @@ module _ {items : ℕ} (small : items < 2 ^ 10) where
 pub overlap-converse : (k : Domains) (a u v : ℕ) → Holds k (of overlaps a u v) → Holds k (of overlaps a v u)
 overlap-converse k a u v h = overlaps-sym k a u v ∙ h
 
-abbrev pub BothLap : List ℕ → ℕ → ℕ → ℕ → ℕ → Type 0
-BothLap rows a q s l =
-    Gives 10 l (λ v. bit-at (bitAnd (row-at rows a q) (row-at rows a s)) (10 + v) && bit-at (bitAnd (row-at rows a q) (row-at rows a s)) (20 + v))
+abbrev pub OverlapBoth : List ℕ → ℕ → ℕ → ℕ → ℕ → Type 0
+OverlapBoth rows a q s = OverlapSet (bitAnd (row-at rows a q) (row-at rows a s))
 
-crossed : (a b c d : Bool) → ((a && b) && (c && d)) ≡ ((a && c) && (b && d))
-crossed false b c d = refl
-crossed true false c d = sym (and-false c)
-crossed true true c d = refl
+and-exchange : (a b c d : Bool) → ((a && b) && (c && d)) ≡ ((a && c) && (b && d))
+and-exchange false b c d = refl
+and-exchange true false c d = sym (and-false c)
+and-exchange true true c d = refl
 
-both-gives : {k : Domains} {rows : List ℕ} → Mirror k rows → {a q s l : ℕ} → a < 3 → q < 10 → s < 10 → BothLap rows a q s l
+both-gives : {k : Domains} {rows : List ℕ} → Mirror k rows → {a q s l : ℕ} → a < 3 → q < 10 → s < 10 → OverlapBoth rows a q s l
     → Gives 10 l (λ t. says overlaps k a q t && says overlaps k a s t)
 unfolding says
 both-gives {k} {rows} m {a} {q} {s} ha hq hs g = record {
@@ -76,7 +74,7 @@ both-gives {k} {rows} m {a} {q} {s} ha hq hs g = record {
   is = λ t ht.
       let two : (x : ℕ) → x < 3 → bit-at (bitAnd (row-at rows a q) (row-at rows a s)) (x * 10 + t) ≡ (gone k x a q t && gone k x a s t) =
       λ x hx. cc (bit-and (row-at rows a q) (row-at rows a s) (x * 10 + t), m .is x a q t hx ha hq ht, m .is x a s t hx ha hs ht) in
-      cc (g .is t ht, two 1 (omega arith), two 2 (omega arith), crossed (gone k 1 a q t) (gone k 1 a s t) (gone k 2 a q t) (gone k 2 a s t));
+      cc (g .is t ht, two 1 (omega arith), two 2 (omega arith), and-exchange (gone k 1 a q t) (gone k 1 a s t) (gone k 2 a q t) (gone k 2 a s t));
 }
 
 -- The premises of the ring q, r, s, t
@@ -105,7 +103,7 @@ pub record Neighbours (k j : Domains) (a q r s items : ℕ) : Type 0 where
   pub has : (t : ℕ) → t < 10 → t ≢ r → Holds k (of overlaps a q t) → Holds k (of overlaps a s t) → bit-at items t ≡ true
 
 -- read from rows between the two
-neighbours : {k i j : Domains} {rows : List ℕ} → Mirror i rows → i ⊑ k → j ⊑ i → {a q r s l b : ℕ} → Corner k a q r s → BothLap rows a q s l
+neighbours : {k i j : Domains} {rows : List ℕ} → Mirror i rows → i ⊑ k → j ⊑ i → {a q r s l b : ℕ} → Corner k a q r s → OverlapBoth rows a q s l
     → b ≡ 2 ^ r → Neighbours k j a q r s (bitAnd l (bitXor b 1023))
 neighbours {k} {i} {j} m up down {a} {q} {r} {s} {l} {b} w g power =
     let both = both-gives m (w .axis) (w .item-q) (w .item-s) g in
@@ -125,7 +123,7 @@ module _ {k j : Domains} (down : j ⊑ k) {a q r s items : ℕ} (n : Neighbours 
   unfolding says
   overlap-distinct i v w h = gone-distinct i 1 a v w (and-both (gone i 1 a v w) (gone i 2 a v w) h .0)
 
-  ring-asked : (f : Domains) → Lawful f → f ⊑ j → OverlapAsked a r items f
+  ring-asked : (f : Domains) → Lawful f → f ⊑ j → FilledWith (OverlapAll a r items) f
   unfolding says
   ring-asked f l b = record {
     filled = l .filled;
@@ -152,13 +150,9 @@ module _ {k j : Domains} (down : j ⊑ k) {a q r s items : ℕ} (n : Neighbours 
       let (t, _, _, p, _, f) = ring in
       rw f (all t (p .item-v) (n .has t (p .item-v) (λ w. p .distinct (sym w)) (overlap-converse k a t q tq) st))
 
--- the lowest item of those left, as it is found
-abbrev pub Lowest : ℕ → ℕ → Type 0
-Lowest left t = (t ≡ lowest-bit left) × (t < 30) × (bit-at left t ≡ true)
-
 -- Going through the items of a set of which each makes a corner with q: the rings of those that are not left are seen to
-abbrev pub Looked : ℕ → ℕ → (ℕ → ℕ) → (ℕ → ℕ) → ℕ → ℕ → Domains → List ℕ → Domains → List ℕ → List ℕ → Type 0
-Looked a q r s items left k u j rows v = Narrowed Lawful (λ j. Through 10 items left (λ t. Handled (Ring a q (r t) (s t)) k j)) k u j rows v
+abbrev pub RingsDone : ℕ → ℕ → (ℕ → ℕ) → (ℕ → ℕ) → ℕ → ℕ → Domains → List ℕ → Domains → List ℕ → List ℕ → Type 0
+RingsDone a q r s items left k u j rows v = Narrowed Lawful (λ j. Through 10 items left (λ t. Handled (Ring a q (r t) (s t)) k j)) k u j rows v
 
 pub record Corners (a q : ℕ) (r s : ℕ → ℕ) (k : Domains) (u : List ℕ) (items : ℕ) : Type 0 where
   pub least : 1 ≤ queue-end u
@@ -168,44 +162,43 @@ pub record Corners (a q : ℕ) (r s : ℕ → ℕ) (k : Domains) (u : List ℕ) 
       → bit-at items t ≡ true
 
 module _ {a q : ℕ} {r s : ℕ → ℕ} {k : Domains} {u : List ℕ} {items left : ℕ} {j : Domains} {rows v : List ℕ}
-    (c : Corners a q r s k u items) (d : Looked a q r s items left k u j rows v) where
+    (c : Corners a q r s k u items) (d : RingsDone a q r s items left k u j rows v) where
   -- each item that is left makes a corner; its neighbours are read from the rows as they are, or as they were
   module _ {t : ℕ} (e : Lowest left t) where
     pub corner-left : Corner k a q (r t) (s t)
     corner-left = c .corner t (d .done .within t (e .2))
 
-    pub near-now : {l b : ℕ} → BothLap rows a q (s t) l → b ≡ 2 ^ r t → Neighbours k j a q (r t) (s t) (bitAnd l (bitXor b 1023))
-    near-now = neighbours {k = k} {i = j} {j = j} (d .grown .good .laid .mirror) (d .grown .less) (below-refl j) corner-left
+    pub neighbours-now : {l b : ℕ} → OverlapBoth rows a q (s t) l → b ≡ 2 ^ r t → Neighbours k j a q (r t) (s t) (bitAnd l (bitXor b 1023))
+    neighbours-now = neighbours {k = k} {i = j} {j = j} (d .grown .good .laid .mirror) (d .grown .less) (below-refl j) corner-left
 
-    pub near-then : {rows′ : List ℕ} {l b : ℕ} → Mirror k rows′ → BothLap rows′ a q (s t) l → b ≡ 2 ^ r t
+    pub neighbours-then : {rows′ : List ℕ} {l b : ℕ} → Mirror k rows′ → OverlapBoth rows′ a q (s t) l → b ≡ 2 ^ r t
         → Neighbours k j a q (r t) (s t) (bitAnd l (bitXor b 1023))
-    near-then m = neighbours {k = k} {i = k} {j = j} m (below-refl k) (d .grown .less) corner-left
+    neighbours-then m = neighbours {k = k} {i = k} {j = j} m (below-refl k) (d .grown .less) corner-left
 
     pub keepable : {m : ℕ} → Neighbours k j a q (r t) (s t) m → Good j rows v × (a < 3) × (r t < 10) × (m < 2 ^ 10) × (bit-at m (r t) ≡ false)
     keepable n = (d .grown .good, corner-left .axis, corner-left .item-r, n .small, n .other)
 
   -- one more
-  pub looked-one : {t left′ m : ℕ} → Lowest left t → TakenOut left (lowest-bit left) left′ → Neighbours k j a q (r t) (s t) m
-      → (i : Domains) (rows′ w : List ℕ) (b : Bool) → Outcome (OverlapAsked a (r t) m) (OverlapAll a (r t) m) j v i rows′ w b
+  pub rings-one : {t left′ m : ℕ} → Lowest left t → TakenOut left (lowest-bit left) left′ → Neighbours k j a q (r t) (s t) m
+      → (i : Domains) (rows′ w : List ℕ) (b : Bool) → RemovedIf (OverlapAll a (r t) m) j v i rows′ w b
       → Outcome Lawful (λ i. Through 10 items left′ (λ t. Handled (Ring a q (r t) (s t)) k i)) k u i rows′ w b
-  looked-one {t} {left′} {m} e o n i rows′ w b h =
+  rings-one {t} {left′} {m} e o n i rows′ w b h =
       outcome-then (Handled (Ring a q (r t) (s t)) k) (λ i. Through 10 items left′ (λ t. Handled (Ring a q (r t) (s t)) k i)) i rows′ w b (c .least) d
-      (outcome-as (OverlapAsked a (r t) m) Lawful (OverlapAll a (r t) m) (Handled (Ring a q (r t) (s t)) k) j v i rows′ w b
+      (outcome-as (FilledWith (OverlapAll a (r t) m)) Lawful (OverlapAll a (r t) m) (Handled (Ring a q (r t) (s t)) k) j v i rows′ w b
       (ring-asked (d .grown .less) n (corner-left e)) (λ _. ring-handled (d .grown .less) n (corner-left e) i) h)
       (λ y p f. through-one p (rw (← e .0) at o) (λ l _ z ps cl g q. holds-mono i j y cl (z ps cl g q)) f)
 
   -- none is left
-  pub looked-all : left ≡ 0 → Narrowed Lawful (Handled (λ ps cl. (t : ℕ) × (t < 10) × Ring a q (r t) (s t) ps cl) k) k u j rows v
+  pub rings-all : left ≡ 0 → Narrowed Lawful (Handled (λ ps cl. (t : ℕ) × (t < 10) × Ring a q (r t) (s t) ps cl) k) k u j rows v
   unfolding says
-  looked-all z =
+  rings-all z =
       narrowed-as (λ f h b. h)
       (λ b p ps cl (t, ht, x) h. let (qr, (rs, (_, (_, (across, _))))) = ring-premises k ps cl x h in
       through-all {n = 10} {P = λ t. Handled (Ring a q (r t) (s t)) k j} p z t (c .all t ht qr rs across) ps cl x h) d
 
 -- with q, r as a side: s is known to overlap r, and not to overlap q
 pub side-corners : {a q r : ℕ} {k : Domains} {rows u : List ℕ} → Good k rows u → Proper 10 a q r → Holds k (of overlaps a q r)
-    → {l : ℕ} → Gives 10 l (λ v. bit-at (row-at rows a r) (10 + v) && bit-at (row-at rows a r) (20 + v))
-    → Corners a q (λ _. r) (λ s. s) k u (bitAnd l (row-at rows a q))
+    → {l : ℕ} → OverlapSet (row-at rows a r) l → Corners a q (λ _. r) (λ s. s) k u (bitAnd l (row-at rows a q))
 side-corners {a} {q} {r} {k} {rows} g p qr {l} f =
     let m = g .laid .mirror in
     let far : Gives 10 (bitAnd l (row-at rows a q)) (λ s. says overlaps k a r s && gone k 0 a q s) = record {
@@ -222,7 +215,7 @@ side-corners {a} {q} {r} {k} {rows} g p qr {l} f =
 
 -- with q, s as the diagonal
 pub diagonal-corners : {a q s : ℕ} {k : Domains} {rows u : List ℕ} → Good k rows u → Proper 10 a q s → gone k 0 a q s ≡ true
-    → {items : ℕ} → BothLap rows a q s items → Corners a q (λ r. r) (λ _. s) k u items
+    → {items : ℕ} → OverlapBoth rows a q s items → Corners a q (λ r. r) (λ _. s) k u items
 diagonal-corners {a} {q} {s} {k} g p across f =
     let both = both-gives (g .laid .mirror) (p .axis) (p .item-u) (p .item-v) f in record {
       least = g .least;

@@ -1,4 +1,4 @@
-pub mod Works
+pub mod Handling
 pub mod Triangles
 pub mod OnAxes
 pub mod Cycles

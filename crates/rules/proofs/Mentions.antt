@@ -8,8 +8,9 @@ use Rattle.model.specs.Facts.{overlaps, removed, forced, Fact, says, Holds}
 use Rattle.model.specs.Clauses.{of, Axes, Three, Order, Rule, c3, d2, d1-far, d1-near, g1, AllHold}
 use Rattle.model.proofs.Slots.{proper-sym}
 use Rattle.model.proofs.Claims.{gone-converse, forced-converse}
+use Rattle.domains.specs.Queue.{SamePair}
 use Rattle.rules.specs.Worked.{Handled, PathFrom, Paths, next-axis, Third, Diagonal, Overlapping}
-use Rattle.rules.specs.Mentions.{Names, Mentions, Mentioning}
+use Rattle.rules.specs.Mentions.{Mentions, Mentioning}
 use Rattle.domains.proofs.BitLaws.{below-three}
 use Rattle.rules.proofs.Triangles.{either-order}
 use Rattle.rules.proofs.OnAxes.{axes-next, axes-swap}
@@ -96,7 +97,7 @@ pub mentioning-handled : (k j : Domains) {a u v : ℕ} → Proper 10 a u v → H
 unfolding says
 mentioning-handled k j {a} {u} {v} s paths across overlapping ps c (rule, m) h = go rule m h
   where
-    at : {b q r : ℕ} → Names a u v (of overlaps b q r) → Done k j b q r
+    at : {b q r : ℕ} → SamePair a u v b q r → Done k j b q r
     at (e, m) =
         let d : Done k j a u v = record { paths = paths; across = across; overlapping = overlapping } in
         elim m [ inl (x, y) ↦ rw (e, x, y) d | inr (x, y) ↦ rw (e, x, y) (done-converse k j a u v d) ]
@@ -108,23 +109,23 @@ mentioning-handled k j {a} {u} {v} s paths across overlapping ps c (rule, m) h =
     removed-back : (i : Domains) {x : ℕ} → Order x → (b s t : ℕ) → gone i (converse x) b t s ≡ gone i x b s t
     removed-back i {x} o b s t = gone-converse i x b s t (omega arith)
 
-    turned : {x b t w : ℕ} {ps : List Fact} {c : Fact} → Names a u v (of overlaps b t w) → Order x → PathFrom (converse x) b w t ps c → AllHold k ps
+    reversed : {x b t w : ℕ} {ps : List Fact} {c : Fact} → SamePair a u v b t w → Order x → PathFrom (converse x) b w t ps c → AllHold k ps
         → Holds j c
-    turned {x} n o m h = at n .paths _ _ (converse x, order-converse x o, inr m) h
+    reversed {x} n o m h = at n .paths _ _ (converse x, order-converse x o, inr m) h
 
     go : {ps : List Fact} {c : Fact} → Rule 10 ps c → Mentions a u v ps → AllHold k ps → Holds j c
     go (d2 x b s t w o i) (inl n) h = at n .paths _ _ (x, o, inl (w, i, inl (refl, refl))) h
     go (d2 x b s t w o i) (inr (inl n)) (f, (g, _)) =
         sym (forced-back j o b s w)
-        ∙ turned n o (s, three-converse i, inl (refl, refl)) (forced-back k o b t w ∙ g, (forced-back k o b s t ∙ f, tt))
+        ∙ reversed n o (s, three-converse i, inl (refl, refl)) (forced-back k o b t w ∙ g, (forced-back k o b s t ∙ f, tt))
     go (d1-far x b s t w o i) (inl n) h = at n .paths _ _ (x, o, inl (w, i, inr (inl (refl, refl)))) h
     go (d1-far x b s t w o i) (inr (inl n)) (f, (g, _)) =
         sym (removed-back j o b s w)
-        ∙ turned n o (s, three-converse i, inr (inr (refl, refl))) (removed-back k o b t w ∙ g, (forced-back k o b s t ∙ f, tt))
+        ∙ reversed n o (s, three-converse i, inr (inr (refl, refl))) (removed-back k o b t w ∙ g, (forced-back k o b s t ∙ f, tt))
     go (d1-near x b s t w o i) (inl n) h = at n .paths _ _ (x, o, inl (w, i, inr (inr (refl, refl)))) h
     go (d1-near x b s t w o i) (inr (inl n)) (f, (g, _)) =
         sym (removed-back j o b s w)
-        ∙ turned n o (s, three-converse i, inr (inl (refl, refl))) (forced-back k o b t w ∙ g, (removed-back k o b s t ∙ f, tt))
+        ∙ reversed n o (s, three-converse i, inr (inl (refl, refl))) (forced-back k o b t w ∙ g, (removed-back k o b s t ∙ f, tt))
     go (c3 b d e s t x p) (inl n) (f, (g, _)) = third k j b d e s t (at n) x p f g
     go (c3 b d e s t x p) (inr (inl n)) (f, (g, _)) = third k j d b e s t (at n) (omega arith) (omega arith) g f
     go (g1 b q r s t x y z) (inl n) h = side k j b q r s t x y z h (at n)

@@ -1,6 +1,6 @@
 -- Rules 2 and 3: the set of relations reached from u over v, computed from two rows by and, or and shifts; removing it is all that they ask for.
 use Rattle.prelude.specs.Names.{Bool, true, _&&_, _||_, or-true, false≢true, false, and-true, and-false, or-false, and-assoc, and-comm, List, _⊎_}
-use Rattle.prelude.specs.Names.{inl, inr, ⊎-map, _≢_, _≡_, refl, sym, _∙_, ap, ℕ, zero, suc, _+_, _*_, _<_, _-_, _%_, _^_, ℕ-discrete, arith, bitAnd}
+use Rattle.prelude.specs.Names.{inl, inr, ⊎-map, _≢_, _≡_, refl, sym, _∙_, ap, ℕ, zero, suc, _+_, _*_, _<_, _%_, _^_, ℕ-discrete, arith, bitAnd}
 use Rattle.prelude.specs.Names.{bitOr, or-lt, eqb}
 use mathlib.Core.Bool.{or-self}
 use Rattle.model.specs.Domains.{Domains}
@@ -14,10 +14,10 @@ use Rattle.model.proofs.Claims.{gone-converse}
 use Rattle.domains.specs.Bits.{bit-at, Gives}
 use Rattle.domains.specs.Rows.{row-at, Laid}
 use Rattle.domains.specs.Queue.{Good}
-use Rattle.domains.specs.Narrowed.{All, Asked, Askable, Narrowed, Outcome}
-use Rattle.rules.specs.Worked.{Clauses, Handled, PathFrom, Paths, Pathable, Reached, reached}
+use Rattle.domains.specs.Narrowed.{All, Asked, Askable, Narrowed, RemovedIf}
+use Rattle.rules.specs.Worked.{Clauses, Handled, HandledIf, PathFrom, Paths, Pathable, Reached, reached}
 use Rattle.domains.proofs.Narrowed.{outcome-as}
-use Rattle.rules.proofs.Works.{lawful-holds, Either, worked-then}
+use Rattle.rules.proofs.Handling.{lawful-holds, Either, worked-then}
 use Rattle.model.proofs.Domains.{gone-distinct}
 use Rattle.domains.proofs.BitLaws.{true-or-false, bit-and, bit-or, bit-zero, bit-shl, shl-small, bit-mask, and-small, below-three}
 use Rattle.domains.proofs.Mirror.{row-first}
@@ -40,8 +40,8 @@ only-shift y {m = m} hy e g = record {
   is = λ x w hx hw. rw e (bit-shl m y x w (g .small) hy hw ∙ ap (λ (c : Bool). eqb x y && c) (g .is w hw));
 }
 
-only-here : {m : ℕ} {f : ℕ → Bool} → Gives 10 m f → Only 0 m true f
-only-here {m} {f} g = let e : m * 1 % 4294967296 ≡ m = omega (arith, g .small) in rw e at (only-shift 0 (omega arith) refl g)
+only-overlap : {m : ℕ} {f : ℕ → Bool} → Gives 10 m f → Only 0 m true f
+only-overlap {m} {f} g = let e : m * 1 % 4294967296 ≡ m = omega (arith, g .small) in rw e at (only-shift 0 (omega arith) refl g)
 
 module _ {near far v : ℕ} (p : Pathable near far v) where
   -- overlap of v and one order y is removed: the other order is left
@@ -67,10 +67,10 @@ module _ {near far v : ℕ} (p : Pathable near far v) where
         → {m : ℕ} → Gives 10 m (λ w. bit-at far w && bit-at far (y * 10 + w)) → Reached near far v (bitOr (bitAnd far (1023 * 2 ^ (y * 10))) m)
     reached-known y o f {m} g =
         let all = 1023 * 2 ^ (y * 10) in record {
-          small = or-lt 30 (bitAnd far all) m (and-small 30 far all (p .far-small)) (only-here g .small);
+          small = or-lt 30 (bitAnd far all) m (and-small 30 far all (p .far-small)) (only-overlap g .small);
           is = λ x w hx hw.
               let masked = bit-mask y x w hw in
-              let here = only-here g .is x w hx hw in
+              let overlap = only-overlap g .is x w hx hw in
               cc (bit-or (bitAnd far all) m (x * 10 + w), bit-and far all (x * 10 + w), known-is y x w o hx f);
         }
 
@@ -221,8 +221,7 @@ module _ {a u v : ℕ} (s : Proper 10 a u v) {k : Domains} {rows : List ℕ} (g 
 
 module _ {a u v : ℕ} (s : Proper 10 a u v) {k : Domains} {rows q : List ℕ} (g : Good k rows q) {set : ℕ}
     (r : Reached (row-at rows a u) (row-at rows a v) v set) where
-  pub from-worked : (j : Domains) (rows′ p : List ℕ) (b : Bool) → Outcome (Asked a u set) (All a u set) k q j rows′ p b
-      → Outcome Lawful (Handled (From a u v) k) k q j rows′ p b
+  pub from-worked : (j : Domains) (rows′ p : List ℕ) (b : Bool) → RemovedIf (All a u set) k q j rows′ p b → HandledIf (From a u v) k q j rows′ p b
   from-worked j rows′ p b =
       outcome-as (Asked a u set) Lawful (All a u set) (Handled (From a u v) k) k q j rows′ p b (reached-asked s (g .laid) r)
       (λ h d. reached-handled s (g .laid) r j d)
@@ -230,7 +229,7 @@ module _ {a u v : ℕ} (s : Proper 10 a u v) {k : Domains} {rows q : List ℕ} (
 pub paths-worked : {a u v : ℕ} (s : Proper 10 a u v) {k : Domains} {rows q : List ℕ} (g : Good k rows q) {set : ℕ}
     → Reached (row-at rows a u) (row-at rows a v) v set → {j : Domains} {rows′ p : List ℕ} → Narrowed (Asked a u set) (All a u set) k q j rows′ p
     → {set′ : ℕ} → Reached (row-at rows′ a v) (row-at rows′ a u) u set′ → (l : Domains) (rows″ t : List ℕ) (b : Bool)
-    → Outcome (Asked a v set′) (All a v set′) j p l rows″ t b → Outcome Lawful (Handled (Paths a u v) k) k q l rows″ t b
+    → RemovedIf (All a v set′) j p l rows″ t b → HandledIf (Paths a u v) k q l rows″ t b
 paths-worked {a} {u} {v} s {k} {rows} {q} g r {j} {rows′} {p} f r′ l rows″ t b h =
     outcome-as Lawful Lawful (Handled (Either (From a u v) (From a v u)) k) (Handled (Paths a u v) k) k q l rows″ t b (λ i x y. x)
     (λ d e ps c (x, o, m). e ps c (⊎-map (λ h. (x, o, h)) (λ h. (x, o, h)) m))

@@ -1,11 +1,12 @@
 -- The clauses that each function of rules 1 to 4 sees to.
 use Rattle.prelude.specs.Names.{Bool, true, false, _&&_, _||_, List, [], _∷_, _⊎_, _≡_, ℕ, zero, suc, _+_, _*_, _^_, _<_}
+use denote.Ref.{now}
 use Rattle.model.specs.Domains.{Domains}
 use Rattle.model.specs.Order.{Proper}
-use Rattle.model.specs.Relations.{Filled}
 use Rattle.model.specs.Facts.{overlaps, removed, forced, Fact, Holds}
-use Rattle.model.specs.Clauses.{of, Axes, Three, Order, AllHold}
+use Rattle.model.specs.Clauses.{of, Axes, Three, Order, AllHold, Lawful}
 use Rattle.domains.specs.Bits.{bit-at}
+use Rattle.domains.specs.Narrowed.{Outcome, LentArray, NarrowsIf}
 
 -- a set of clauses
 abbrev pub Clauses : Type 1
@@ -14,6 +15,13 @@ Clauses = List Fact → Fact → Type 0
 -- what their premises in k ask for holds in j
 abbrev pub Handled : Clauses → Domains → Domains → Type 0
 Handled H k j = (ps : List Fact) (c : Fact) → H ps c → AllHold k ps → Holds j c
+
+-- .. and nothing is removed that lawful domains have left, or there are no lawful domains below; the same of a function, from its entry to its exit
+abbrev pub HandledIf : Clauses → Domains → List ℕ → Domains → List ℕ → List ℕ → Bool → Type 0
+HandledIf H k = Outcome Lawful (Handled H k) k
+
+abbrev pub HandlesIf : Clauses → LentArray → LentArray → LentArray → Bool → Type 0
+HandlesIf H k = NarrowsIf Lawful (Handled H (now (k .entry))) k
 
 -- rules 2 and 3 from the pair u, v on
 abbrev pub PathFrom : ℕ → ℕ → ℕ → ℕ → Clauses
@@ -80,7 +88,3 @@ pub record Reached (near far v r : ℕ) : Type 0 where
 -- u overlaps each item of a set
 abbrev pub OverlapAll : ℕ → ℕ → ℕ → Domains → Type 0
 OverlapAll a u items f = (v : ℕ) → v < 10 → bit-at items v ≡ true → Holds f (of overlaps a u v)
-
-pub record OverlapAsked (a u items : ℕ) (f : Domains) : Type 0 where
-  pub all : OverlapAll a u items f
-  pub filled : Filled f

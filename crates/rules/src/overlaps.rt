@@ -3,11 +3,10 @@ ghost use mathlib.Core.Path.{_≡_};
 ghost use Prim.Native.Nat.{_<_};
 ghost use Rattle.model.specs.Order.{Proper};
 ghost use Rattle.model.specs.Facts.{overlaps, Holds};
-ghost use Rattle.model.specs.Clauses.{of, Axes, Lawful};
+ghost use Rattle.model.specs.Clauses.{of, Axes};
 ghost use Rattle.domains.specs.Queue.{Good};
-ghost use Rattle.domains.specs.Narrowed.{Outcome};
 ghost use Rattle.rules.specs.Worked as W;
-ghost use Rattle.rules.specs.Worked.{Handled, Third, Overlapping};
+ghost use Rattle.rules.specs.Worked.{HandlesIf, Third, Overlapping};
 use crate::rings::ring_side;
 use domains::DOMAINS;
 use domains::Place;
@@ -38,8 +37,9 @@ fn third_axis(
     b: usize,
     c: usize,
 ) -> bool
-    requires { ⌜ Good (now k) (now rows) (now queue) × Axes (place .axis) b c × Proper 10 (place .axis) (place .u) (place .v) × Holds (now k) (of overlaps (place .axis) (place .u) (place .v)) ⌝ }
-    ensures { λ r. ⌜ Outcome Lawful (Handled (Third (place .axis) b c (place .u) (place .v)) (now (k .entry))) (now (k .entry)) (now (queue .entry)) (now (k .exit)) (now (rows .exit)) (now (queue .exit)) r ⌝ }
+    requires { ⌜ Good (now k) (now rows) (now queue) × Axes (place .axis) b c ⌝ }
+    requires { ⌜ Proper 10 (place .axis) (place .u) (place .v) × Holds (now k) (of overlaps (place .axis) (place .u) (place .v)) ⌝ }
+    ensures { λ r. ⌜ HandlesIf (Third (place .axis) b c (place .u) (place .v)) k rows queue r ⌝ }
 {
     let u = place.u;
     let v = place.v;
@@ -56,8 +56,9 @@ pub fn overlap(
     queue: &mut [u16; MAX_QUEUE],
     place: Place,
 ) -> bool
-    requires { ⌜ Good (now k) (now rows) (now queue) × Proper 10 (place .axis) (place .u) (place .v) × Holds (now k) (of overlaps (place .axis) (place .u) (place .v)) ⌝ }
-    ensures { λ r. ⌜ Outcome Lawful (Handled (Overlapping (place .axis) (place .u) (place .v)) (now (k .entry))) (now (k .entry)) (now (queue .entry)) (now (k .exit)) (now (rows .exit)) (now (queue .exit)) r ⌝ }
+    requires { ⌜ Good (now k) (now rows) (now queue) ⌝ }
+    requires { ⌜ Proper 10 (place .axis) (place .u) (place .v) × Holds (now k) (of overlaps (place .axis) (place .u) (place .v)) ⌝ }
+    ensures { λ r. ⌜ HandlesIf (Overlapping (place .axis) (place .u) (place .v)) k rows queue r ⌝ }
 {
     let a = place.axis;
     let u = place.u;

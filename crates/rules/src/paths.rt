@@ -1,9 +1,7 @@
 // Rules 2 and 3.
 ghost use Rattle.model.specs.Order.{Proper};
-ghost use Rattle.model.specs.Clauses.{Lawful};
 ghost use Rattle.domains.specs.Queue.{Good};
-ghost use Rattle.domains.specs.Narrowed.{Outcome};
-ghost use Rattle.rules.specs.Worked.{Handled, Paths, Pathable, Reached};
+ghost use Rattle.rules.specs.Worked.{HandlesIf, Paths, Pathable, Reached};
 use domains::DOMAINS;
 use domains::ROWS;
 use domains::bits::AFTER;
@@ -48,7 +46,7 @@ pub fn follow(
     v: usize,
 ) -> bool
     requires { ⌜ Good (now k) (now rows) (now queue) × Proper 10 a u v ⌝ }
-    ensures { λ r. ⌜ Outcome Lawful (Handled (Paths a u v) (now (k .entry))) (now (k .entry)) (now (queue .entry)) (now (k .exit)) (now (rows .exit)) (now (queue .exit)) r ⌝ }
+    ensures { λ r. ⌜ HandlesIf (Paths a u v) k rows queue r ⌝ }
 {
     let of_u = beyond(rows[a * 10 + u], rows[a * 10 + v], v);
     if !remove(k, rows, queue, a, u, of_u) {

@@ -5,11 +5,11 @@ ghost use Prim.Native.Nat.{_<_, _^_};
 ghost use Rattle.model.specs.Order.{Proper};
 ghost use Rattle.model.specs.Relations.{gone};
 ghost use Rattle.model.specs.Facts.{overlaps, Holds};
-ghost use Rattle.model.specs.Clauses.{of, Lawful};
+ghost use Rattle.model.specs.Clauses.{of};
 ghost use Rattle.domains.specs.Bits.{bit-at};
 ghost use Rattle.domains.specs.Queue.{Good};
-ghost use Rattle.domains.specs.Narrowed.{Outcome};
-ghost use Rattle.rules.specs.Worked.{Handled, Sides, Diagonal, OverlapAsked, OverlapAll};
+ghost use Rattle.domains.specs.Narrowed.{RemovesIf};
+ghost use Rattle.rules.specs.Worked.{HandlesIf, Sides, Diagonal, OverlapAll};
 use domains::DOMAINS;
 use domains::ROWS;
 use domains::bits::ITEMS;
@@ -30,7 +30,7 @@ fn keep_overlap(
     items: u32,
 ) -> bool
     requires { ⌜ Good (now k) (now rows) (now queue) × (a < 3) × (u < 10) × (items < 2 ^ 10) × (bit-at items u ≡ false) ⌝ }
-    ensures { λ r. ⌜ Outcome (OverlapAsked a u items) (OverlapAll a u items) (now (k .entry)) (now (queue .entry)) (now (k .exit)) (now (rows .exit)) (now (queue .exit)) r ⌝ }
+    ensures { λ r. ⌜ RemovesIf (OverlapAll a u items) k rows queue r ⌝ }
 {
     remove(k, rows, queue, a, u, items << 10 | items << 20)
 }
@@ -45,7 +45,7 @@ pub fn ring_side(
     r: usize,
 ) -> bool
     requires { ⌜ Good (now k) (now rows) (now queue) × Proper 10 a q r × Holds (now k) (of overlaps a q r) ⌝ }
-    ensures { λ b. ⌜ Outcome Lawful (Handled (Sides a q r) (now (k .entry))) (now (k .entry)) (now (queue .entry)) (now (k .exit)) (now (rows .exit)) (now (queue .exit)) b ⌝ }
+    ensures { λ b. ⌜ HandlesIf (Sides a q r) k rows queue b ⌝ }
 {
     let mut left = overlapping(rows[a * 10 + r]) & rows[a * 10 + q];
     while left != 0 {
@@ -69,7 +69,7 @@ pub fn ring_across(
     s: usize,
 ) -> bool
     requires { ⌜ Good (now k) (now rows) (now queue) × Proper 10 a q s × (gone (now k) 0 a q s ≡ true) ⌝ }
-    ensures { λ b. ⌜ Outcome Lawful (Handled (Diagonal a q s) (now (k .entry))) (now (k .entry)) (now (queue .entry)) (now (k .exit)) (now (rows .exit)) (now (queue .exit)) b ⌝ }
+    ensures { λ b. ⌜ HandlesIf (Diagonal a q s) k rows queue b ⌝ }
 {
     let items = overlapping(rows[a * 10 + q] & rows[a * 10 + s]);
     let mut left = items;

@@ -34,7 +34,7 @@ loop-again c =
 pub cut-pairs-spec : {M : Type 1} → Rattle.opening.proofs.cut_pairs.Statement.statement M
 cut-pairs-spec = tie.close (tie.spec Inv-loop μ-loop (λ c. (omega arith, cut-start (c .pre .0), λ n l past h. h))
     (λ c κs. let s = c .before .before .before .before .before in
-    record { tabled = s .pre .1; table = refl; other = refl; axis = omega arith; item = omega arith })
+    record { tabled = s .pre .1; aligned = refl; other = refl; axis = omega arith; item = omega arith })
     (λ c κs. let b = c .before .before .before .before .before in
     (b .loop .inv .1 .grown .good, pairs-askable (b .before .args .t .now) _ _ _ (omega arith) (omega arith) (c .too-long .ensures))) returns
     (λ c. omega arith) (λ c. omega arith) loop-again

@@ -1,5 +1,5 @@
--- `propagation::propagate` meets its contract. The loop's invariant: the queue is worked off up to the head.
--- The measure is what is left of the queue's room from there on.
+-- `propagation::propagate` meets its contract. Invariant: the queue is worked off up to the head, and what is still to be done is of pairs from
+-- there on. Measure: the places of the queue from the head on.
 use Rattle.prelude.specs.Names.{_-_, arith, needs, not-true, not-false}
 use Rattle.domains.proofs.Narrowed.{good-long}
 use Rattle.chains.proofs.Linking.{same-then}

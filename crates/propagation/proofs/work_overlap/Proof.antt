@@ -18,7 +18,7 @@ overlap-requires c κs =
     let e = f .before .before in
     let (good, s) = e .before .before .before .before .before .pre in
     let first = row-order (good .laid .mirror) s 1 (omega arith) (e .before .has2 .ensures) (not-false _ (e .if2 .left)) in
-    (good, s, and-intro first (row-order (good .laid .mirror) s 2 (omega arith) (f .before .has3 .ensures) (not-false _ (f .if3 .left))))
+    (good, (s, and-intro first (row-order (good .laid .mirror) s 2 (omega arith) (f .before .has3 .ensures) (not-false _ (f .if3 .left)))))
 
 pub work-overlap-spec : {M : Type 1} → Rattle.propagation.proofs.work_overlap.Statement.statement M
 work-overlap-spec = tie.close (tie.spec (λ c. search needs) (λ c. search needs) (λ c. search needs) (λ c. search needs) (λ c κs. search needs)

@@ -1,4 +1,4 @@
--- `chains::cuts::above` meets its contract. The set is right for the items below v, which grows up to 10.
+-- `chains::cuts::above` meets its contract. Invariant: the set has, of the items below v, those above the limit. Measure: the items from v on.
 use Rattle.prelude.specs.Names.{⊎-elim, _≡_, _+_, _-_, _≤_, arith, ltb, getD, pow-mono, lt-ltb, le-ltb}
 use Rattle.domains.specs.Bits.{Gives}
 use Rattle.chains.proofs.Cutting.{gives-none, gives-shifted, gives-skip}

@@ -6,13 +6,13 @@ use Rattle.chains.proofs.cuts.cut_item.Tie as tie
 
 emptied-requires : tie.Need-emptied-requires
 emptied-requires c κs =
-    let (g, d, ha, hu, small, self) = c .before .before .before .before .pre in
+    let ((g, d), (ha, hu, small, self)) = c .before .before .before .before .pre in
     or-lt 30 _ _ (g .laid .mirror .small _) (askable g d ha hu small self .small)
 
 remove-items-requires : tie.Need-remove-items-requires
 remove-items-requires c κs =
     let t = c .before .before .before in
-    let (g, d, ha, hu, small, self) = t .before .before .before .before .before .before .pre in
+    let ((g, d), (ha, hu, small, self)) = t .before .before .before .before .before .before .pre in
     (g, omega (arith, d .most), ha, hu, cut-spares g d ha hu small self (t .before .emptied .ensures) (t .if2 .left))
 
 pub cut-item-spec : {M : Type 1} → Rattle.chains.proofs.cuts.cut_item.Statement.statement M

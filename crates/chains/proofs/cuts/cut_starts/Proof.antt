@@ -1,5 +1,6 @@
--- `chains::cuts::cut_starts` meets its contract. The items of `left` are still to be dealt with, which are ever fewer.
-use Rattle.prelude.specs.Names.{arith, needs, not-true, not-false}
+-- `chains::cuts::cut_starts` meets its contract. Invariant: what is too long is removed of the items that are no longer left, and nothing that
+-- has room. Measure: the items left, as a number.
+use Rattle.prelude.specs.Names.{arith, needs}
 use Rattle.chains.proofs.Cutting.{Cutting, cutting-start, cutting-compared, cutting-given, cutting-refuted, cutting-next, cutting-end}
 use Rattle.chains.proofs.cuts.cut_starts.Tie as tie
 
@@ -13,8 +14,7 @@ pub cut-starts-spec : {M : Type 1} → Rattle.chains.proofs.cuts.cut_st
 cut-starts-spec = tie.close (tie.spec Inv-loop μ-loop (λ c. cutting-start (omega arith) (c .pre)) (λ c κs. search needs) (λ c κs. search needs)
     (λ c κs. let d = c .before .before .before in cutting-compared (d .before .before .before .loop .inv) (d .before .lowest .ensures))
     (λ c κs. let d = c .before .before .before .before in
-    cutting-given (d .before .before .before .loop .inv) (d .before .lowest .ensures) (c .too-long .ensures)) (λ c. let f = c .before .cut-item in
-    let (long, nil) = rw (not-true (f .result) (c .if1 .taken)) at (f .ensures) in
-    (long, search cutting-refuted)) (λ c. search needs)
-    (λ c. let f = c .before .cut-item in let n = rw (not-false (f .result) (c .if1 .left)) at (f .ensures) in search cutting-next)
-    (λ c. search cutting-end))
+    cutting-given (d .before .before .before .loop .inv) (d .before .lowest .ensures) (c .too-long .ensures))
+    (λ c. let r = c .before .cut-item in let e = c .before .before in let d = e .before .before .before .before in
+    cutting-refuted (d .before .before .before .loop .inv) (d .before .lowest .ensures) (e .too-long .ensures) (r .result) (c .if1 .taken) (r .ensures))
+    (λ c. search needs) (λ c. search cutting-next) (λ c. search cutting-end))

@@ -1,7 +1,11 @@
--- `chains::links::apply_link` meets its contract.
+-- `chains::links::apply_link` meets its contract. Places: at f the chains that end are extended and at e they fit, at g those that start and at h
+-- they fit, at n the cuts for the first are made and at i they leave something.
 use Rattle.prelude.specs.Names.{not-true, not-false}
 use Rattle.chains.proofs.Linking.{ends-asked, ends-burst, starts-asked, starts-burst, cut-asked, cut-refused, cut-asked-2, cuts-answer}
 use Rattle.chains.proofs.links.apply_link.Tie as tie
+
+abbrev places : tie.Else2 → tie.After-link-on × tie.Else1 × tie.After-link-on2
+places h = let g = h .before .before in let e = g .before .before .before in (e .before .before, e, g)
 
 returns : tie.Need-returns
 returns c =
@@ -25,9 +29,7 @@ returns-2 c =
 cut-ends-requires : tie.Need-cut-ends-requires
 cut-ends-requires c κs =
     let h = c .before .before .before .before in
-    let g = h .before .before in
-    let e = g .before .before .before in
-    let f = e .before .before in
+    let (f, e, g) = places h in
     cut-asked (f .before .before .before .pre) (rw (not-false (f .link-on .result .fits) (e .if1 .left)) at (f .link-on .ensures))
     (rw (not-false (g .link-on2 .result .fits) (h .if2 .left)) at (g .link-on2 .ensures))
 
@@ -35,9 +37,7 @@ returns-3 : tie.Need-returns-3
 returns-3 c =
     let n = c .before in
     let h = n .before .before .before .before .before in
-    let g = h .before .before in
-    let e = g .before .before .before in
-    let f = e .before .before in
+    let (f, e, g) = places h in
     cut-refused (f .before .before .before .pre) (rw (not-false (f .link-on .result .fits) (e .if1 .left)) at (f .link-on .ensures))
     (rw (not-false (g .link-on2 .result .fits) (h .if2 .left)) at (g .link-on2 .ensures))
     (rw (not-true (n .cut-ends .result) (c .if3 .taken)) at (n .cut-ends .ensures))
@@ -47,9 +47,7 @@ cut-starts-requires c κs =
     let i = c .before .before .before .before in
     let n = i .before in
     let h = n .before .before .before .before .before in
-    let g = h .before .before in
-    let e = g .before .before .before in
-    let f = e .before .before in
+    let (f, e, g) = places h in
     cut-asked-2 (f .before .before .before .pre) (rw (not-false (f .link-on .result .fits) (e .if1 .left)) at (f .link-on .ensures))
     (rw (not-false (g .link-on2 .result .fits) (h .if2 .left)) at (g .link-on2 .ensures))
     (rw (not-false (n .cut-ends .result) (i .if3 .left)) at (n .cut-ends .ensures))
@@ -59,9 +57,7 @@ returns-4 c =
     let i = c .before .before .before .before .before in
     let n = i .before in
     let h = n .before .before .before .before .before in
-    let g = h .before .before in
-    let e = g .before .before .before in
-    let f = e .before .before in
+    let (f, e, g) = places h in
     cuts-answer (f .before .before .before .pre) (rw (not-false (f .link-on .result .fits) (e .if1 .left)) at (f .link-on .ensures))
     (rw (not-false (g .link-on2 .result .fits) (h .if2 .left)) at (g .link-on2 .ensures))
     (rw (not-false (n .cut-ends .result) (i .if3 .left)) at (n .cut-ends .ensures)) _ _ _ (c .cut-starts .result) (c .cut-starts .ensures)

@@ -1,4 +1,5 @@
--- `chains::totals::link_each` meets its contract. The links to the items of `left` are still to be followed, which are ever fewer.
+-- `chains::totals::link_each` meets its contract. Invariant: totals are raised along links from v to the items alone, and go on along those
+-- to the items that are no longer left. Measure: the items left, as a number.
 use Rattle.prelude.specs.Names.{needs, not-true, not-false}
 use Rattle.chains.proofs.Relaxing.{Partway, partway-start, partway-given, partway-bursts, partway-next, partway-end}
 use Rattle.chains.proofs.totals.link_each.Tie as tie

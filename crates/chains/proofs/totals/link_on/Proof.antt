@@ -1,8 +1,8 @@
--- `chains::totals::link_on` meets its contract. From the items of `todo` the links are still to be followed. The measure is how much the totals may
--- still grow, and then `todo`.
+-- `chains::totals::link_on` meets its contract. Invariant: totals are raised along links alone, and go on along that from u to v and those
+-- from every item that grew, but from the items of `todo`. Measure: how much the totals may still grow, and then `todo` as a number.
 use Rattle.prelude.specs.Names.{_+_, _*_, arith, needs, not-true, not-false}
 use Rattle.chains.proofs.ChainMeasure.{room}
-use Rattle.chains.proofs.Relaxing.{told-given, first-bursts, Progress, progress-start, progress-item, progress-given, progress-bursts}
+use Rattle.chains.proofs.Relaxing.{link-given, first-bursts, Progress, progress-start, progress-item, progress-given, progress-bursts}
 use Rattle.chains.proofs.Relaxing.{progress-next, progress-falls, progress-end}
 use Rattle.chains.proofs.totals.link_on.Tie as tie
 
@@ -30,7 +30,7 @@ returns-2 c =
     (rw e at (b .link-each .ensures)))
 
 pub link-on-spec : {M : Type 1} → Rattle.chains.proofs.totals.link_on.Statement.statement M
-link-on-spec = tie.close (tie.spec Inv-loop μ-loop (λ c κs. told-given (c .before .pre)) returns
+link-on-spec = tie.close (tie.spec Inv-loop μ-loop (λ c κs. link-given (c .before .pre)) returns
     (λ c. let f = c .before .before .link in let b = rw (not-false (f .result .fits) (c .if1 .left)) at (f .ensures) in search progress-start)
     (λ c κs. search needs) (λ c κs. search needs) (λ c. omega arith) (λ c. omega arith) (λ c. omega arith)
     (λ c. let d = c .before in omega (arith, progress-item (d .before .before .before .loop .inv) (d .before .lowest .ensures)))

@@ -1,6 +1,6 @@
 -- `domains::removal::remove` meets its contract.
 use Rattle.prelude.specs.Names.{needs}
-use Rattle.domains.proofs.Each.{rest-askable, rest-left, rest-none, rest-outcome}
+use Rattle.domains.proofs.RemoveSet.{rest-askable, rest-left, rest-none, rest-outcome}
 use Rattle.domains.proofs.removal.remove.Tie as tie
 
 pub remove-spec : {M : Type 1} → Rattle.domains.proofs.removal.remove.Statement.statement M

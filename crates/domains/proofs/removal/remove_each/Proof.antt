@@ -1,7 +1,7 @@
 -- `domains::removal::remove_each` meets its contract. It removes the relations one after another: `Steps n` is reached when those below n are done.
 use Rattle.prelude.specs.Names.{arith, or-lt, needs}
 use Rattle.domains.proofs.Narrowed.{good-long}
-use Rattle.domains.proofs.Each.{nothing-left, steps-none, next-spares, steps-one}
+use Rattle.domains.proofs.RemoveSet.{nothing-left, steps-none, next-spares, steps-one}
 use Rattle.domains.proofs.BitLaws.{gives-first, gives-part}
 use Rattle.domains.proofs.removal.remove_each.Tie as tie
 

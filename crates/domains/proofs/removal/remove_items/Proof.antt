@@ -1,7 +1,7 @@
--- `domains::removal::remove_items` meets its contract. The loop's invariant: the relation is removed with the items that are no longer left, and can
--- be with the others. The measure is the number of those left.
+-- `domains::removal::remove_items` meets its contract. Invariant: the relation is removed with the items that are no longer left, and
+-- can be with those left. Measure: the items left, as a number.
 use Rattle.prelude.specs.Names.{arith}
-use Rattle.domains.proofs.ItemByItem.{Dealing, dealing-none, dealing-spare, dealing-one, dealing-all}
+use Rattle.domains.proofs.RemoveItems.{Dealing, dealing-none, dealing-spare, dealing-one, dealing-all}
 use Rattle.domains.proofs.removal.remove_items.Tie as tie
 
 abbrev Inv-loop : tie.InvT-loop
@@ -21,5 +21,5 @@ remove-items-spec = tie.close (tie.spec Inv-loop μ-loop (λ c. let (g, hx, ha, 
     (λ c κs. (omega (arith, c .before .loop .inv .spares .small), c .loop-test .taken))
     (λ c κs. (omega (arith, c .before .before .loop .inv .spares .small), c .before .loop-test .taken))
     (λ c κs. let n = c .before .before .before .before in let d = n .before .before .loop .inv in
-    let (w, s) = dealing-spare d (n .lowest .result) (n .lowest .ensures .2) in (d .narrowed .grown .good, d .known .1, w, s))
+    let (w, s) = dealing-spare d (n .lowest .result) (n .lowest .ensures .2) in (d .narrowed .grown .good, (d .known .1, w, s)))
     (λ c. c .before .before .before .before .rest .ensures .less) loop-again (λ c. dealing-all (c .before .loop .inv) (c .loop-test .left)))

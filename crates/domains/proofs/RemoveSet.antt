@@ -13,10 +13,10 @@ use Rattle.model.proofs.Without.{without-less, without-well-formed, without-gon
 use Rattle.domains.specs.Bits.{bit-at, Gives}
 use Rattle.domains.specs.Rows.{row-at}
 use Rattle.domains.specs.Queue.{Good}
-use Rattle.domains.specs.Narrowed.{Narrowed, Refuted, Each, Spares, All, Asked, Askable, Left, Outcome}
+use Rattle.domains.specs.Narrowed.{Narrowed, Refuted, RemovedOnly, RemovedIf, Each, Spares, All, Asked, Askable, Left}
 use Rattle.domains.proofs.BitLaws.{bit-zero, bit-or, bit-first, has-bit, gives-in, true-or-false, bit-and, bit-not, and-small}
 use Rattle.domains.proofs.Narrowed.{narrowed-none, narrowed-then, narrowed-as, outcome-as}
-use Rattle.domains.proofs.ItemByItem.{still-left}
+use Rattle.domains.proofs.RemoveItems.{still-left}
 
 module _ {k : Domains} (wf : WellFormed k) {x a u : ℕ} (items : ℕ) (hx : x < 3) (other : bit-at items u ≡ false) {y v : ℕ} (hy : y < 3)
     (z : Proper 10 a u v) (ne : y ≡ x → bit-at items v ≡ true → ⊥) (e : gone k y a u v ≡ false) where
@@ -107,7 +107,7 @@ module _ {k : Domains} {rows q : List ℕ} {a u set : ℕ} (g : Good k rows q) (
     }
 
     -- and when it is, one more is done
-    pub steps-one : {l : Domains} {rows″ s : List ℕ} → Narrowed (Each n a u items) (Each n a u items) j r l rows″ s → Steps (suc n) l rows″ s
+    pub steps-one : {l : Domains} {rows″ s : List ℕ} → RemovedOnly (Each n a u items) j r l rows″ s → Steps (suc n) l rows″ s
     steps-one {l} o = record {
       narrowed = narrowed-then {E = Each n a u items} (g .least) (st .narrowed)
           (narrowed-as (λ f h b v hv i. h .all n v hn hv (gives-in p v i .1)) (λ _ h. h) o)
@@ -156,8 +156,7 @@ module _ {k : Domains} {rows q : List ℕ} {a u set : ℕ} (g : Good k rows q) (
   pub rest-none : rest ≡ 0 → Narrowed (Asked a u set) (All a u set) k q k rows q
   rest-none z = narrowed-none g (rest-all k (below-refl k) (λ x v hx hv e. absurd (clash e (rw z (bit-zero (x * 10 + v))))))
 
-  pub rest-outcome : (j : Domains) (rows′ r : List ℕ) (b : Bool) → Outcome (Asked a u rest) (All a u rest) k q j rows′ r b
-      → Outcome (Asked a u set) (All a u set) k q j rows′ r b
+  pub rest-outcome : (j : Domains) (rows′ r : List ℕ) (b : Bool) → RemovedIf (All a u rest) k q j rows′ r b → RemovedIf (All a u set) k q j rows′ r b
   rest-outcome j rows′ r b =
       outcome-as _ _ _ _ k q j rows′ r b
       (λ f h _. record { all = λ x v hx hv e. h .all x v hx hv (in-set x v hx hv e .0); filled = h .filled }) (rest-all j)

@@ -8,7 +8,7 @@ use Rattle.model.proofs.Claims.{gone-mono}
 use Rattle.model.proofs.Without.{without-less, without-gone, without-other}
 use Rattle.domains.specs.Bits.{bit-at, TakenOut}
 use Rattle.domains.specs.Queue.{queue-end, Good}
-use Rattle.domains.specs.Narrowed.{Narrowed, One, Spare, Each, Spares}
+use Rattle.domains.specs.Narrowed.{Narrowed, RemovedOnly, One, Spare, Each, Spares}
 use Rattle.domains.proofs.BitLaws.{bit-below, taken-in}
 use Rattle.domains.proofs.Narrowed.{narrowed-none, narrowed-then, narrowed-as}
 use Rattle.domains.proofs.Through.{Through, through-none, through-one, through-all}
@@ -37,7 +37,7 @@ module _ {x a u items : ℕ} {k : Domains} {q : List ℕ} {j : Domains} {rows r 
 
   -- one more item
   pub dealing-one : {v rest : ℕ} {l : Domains} {rows′ s : List ℕ} → bit-at left v ≡ true → TakenOut left v rest
-      → Narrowed (One x a u v) (One x a u v) j r l rows′ s → Dealing x a u items k q l rows′ s rest
+      → RemovedOnly (One x a u v) j r l rows′ s → Dealing x a u items k q l rows′ s rest
   dealing-one {v} {rest} {l} {rows′} {s} e o n =
       let hx = d .known .1 in
       let w = dealing-spare v e .0 in
@@ -60,5 +60,5 @@ module _ {x a u items : ℕ} {k : Domains} {q : List ℕ} {j : Domains} {rows r 
       }
 
   -- none is left over
-  pub dealing-all : left ≡ 0 → Narrowed (Each x a u items) (Each x a u items) k q j rows r
+  pub dealing-all : left ≡ 0 → RemovedOnly (Each x a u items) k q j rows r
   dealing-all z = narrowed-as (λ f h b. h) (λ _ t v hv e. through-all t z v e) (d .narrowed)

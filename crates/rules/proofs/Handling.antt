@@ -6,8 +6,8 @@ use Rattle.model.specs.Facts.{Fact, Holds}
 use Rattle.model.specs.Clauses.{Rule, AllHold, Lawful}
 use Rattle.model.proofs.Claims.{holds-mono}
 use Rattle.domains.specs.Queue.{queue-end}
-use Rattle.domains.specs.Narrowed.{Narrowed, Outcome}
-use Rattle.rules.specs.Worked.{Clauses, Handled, next-axis, Third, Sides, Overlapping}
+use Rattle.domains.specs.Narrowed.{Narrowed}
+use Rattle.rules.specs.Worked.{Clauses, Handled, HandledIf, next-axis, Third, Sides, Overlapping}
 use Rattle.domains.proofs.Narrowed.{outcome-then}
 
 pub hold-mono : (f k : Domains) → f ⊑ k → (ps : List Fact) → AllHold k ps → AllHold f ps
@@ -24,8 +24,8 @@ Either H G ps c = H ps c ⊎ G ps c
 
 -- One worker after another
 pub worked-then : (H G : Clauses) {k : Domains} {q : List ℕ} {j : Domains} {rows r : List ℕ} (l : Domains) (rows′ s : List ℕ) (b : Bool)
-    → 1 ≤ queue-end q → Narrowed Lawful (Handled H k) k q j rows r → Outcome Lawful (Handled G j) j r l rows′ s b
-    → Outcome Lawful (Handled (Either H G) k) k q l rows′ s b
+    → 1 ≤ queue-end q → Narrowed Lawful (Handled H k) k q j rows r → HandledIf G j r l rows′ s b
+    → HandledIf (Either H G) k q l rows′ s b
 worked-then H G {k} {j = j} l rows′ s b least f g =
     outcome-then (Handled G j) (Handled (Either H G) k) l rows′ s b least f g
     (λ d h e ps c m p. elim m [ inl x ↦ holds-mono l j d c (h ps c x p) | inr x ↦ e ps c x (hold-mono j k (f .grown .less) ps p) ])
@@ -35,8 +35,8 @@ pub overlapping-worked : {a b c u v : ℕ} → b ≡ next-axis a → c ≡ next-
     → {k₁ : Domains} {rows₁ q₁ : List ℕ} → Narrowed Lawful (Handled (Third a b c u v) k) k q k₁ rows₁ q₁
     → {k₂ : Domains} {rows₂ q₂ : List ℕ} → Narrowed Lawful (Handled (Third a c b u v) k₁) k₁ q₁ k₂ rows₂ q₂
     → {k₃ : Domains} {rows₃ q₃ : List ℕ} → Narrowed Lawful (Handled (Sides a u v) k₂) k₂ q₂ k₃ rows₃ q₃
-    → (j : Domains) (rows r : List ℕ) (t : Bool) → Outcome Lawful (Handled (Sides a v u) k₃) k₃ q₃ j rows r t
-    → Outcome Lawful (Handled (Overlapping a u v) k) k q j rows r t
+    → (j : Domains) (rows r : List ℕ) (t : Bool) → HandledIf (Sides a v u) k₃ q₃ j rows r t
+    → HandledIf (Overlapping a u v) k q j rows r t
 overlapping-worked {a} {b} {c} {u} {v} e f {k} {q} least n₁ n₂ n₃ j rows r t o =
     rw (f, e) at
     (worked-then (Third a b c u v) (Either (Third a c b u v) (Either (Sides a u v) (Sides a v u))) j rows r t least n₁

@@ -8,8 +8,8 @@ use Rattle.model.specs.Relations.{gone, without, converse, Filled}
 use Rattle.model.specs.Facts.{Saying, nothing, says}
 use Rattle.model.proofs.Claims.{converse-small, gone-converse}
 use Rattle.model.proofs.Without.{without-less, without-above, without-well-formed, without-gone, without-other, says-elsewhere, sum-falls}
-use Rattle.domains.specs.Queue.{pair-code, Coded, queue-end, pushed, Pushable, Good}
-use Rattle.domains.specs.Narrowed.{Narrowed, One, Spare}
+use Rattle.domains.specs.Queue.{pair-code, SamePair, Coded, queue-end, pushed, Pushable, Good}
+use Rattle.domains.specs.Narrowed.{RemovedOnly, One, Spare}
 use Rattle.domains.proofs.Mirror.{marked, mirror-one, same-relation}
 use Rattle.domains.proofs.BitLaws.{below-three}
 
@@ -40,8 +40,7 @@ module _ {k : Domains} (f : WellFormed k) (x a u v : ℕ) (hx : x < 3) (w : Prop
   after = without k x a u v
 
   -- a pair is this one, or what is said of it stays
-  elsewhere : {b c d : ℕ} → Proper 10 b c d
-      → ((b ≡ a) × (((c ≡ u) × (d ≡ v)) ⊎ ((c ≡ v) × (d ≡ u)))) ⊎ ((t : Saying) → says t after b c d ≡ says t k b c d)
+  elsewhere : {b c d : ℕ} → Proper 10 b c d → SamePair a u v b c d ⊎ ((t : Saying) → says t after b c d ≡ says t k b c d)
   elsewhere {b} {c} {d} z = elim (same-relation 0 b c d 0 a u v) [
     | yes (_, (e, p)) ↦ inl (e, inl p)
     | no n ↦ elim (same-relation 0 b c d 0 a v u) [
@@ -64,18 +63,21 @@ module _ {k : Domains} (f : WellFormed k) (x a u v : ℕ) (hx : x < 3) (w : Prop
       ]
 
 module _ {k : Domains} {rows q : List ℕ} (g : Good k rows q) {x a u v : ℕ} (hx : x < 3) (w : Proper 10 a u v) (s : Spare k x a u v) where
-  falls : sum (without k x a u v) < sum k
-  falls =
+  sum-less : sum (without k x a u v) < sum k
+  sum-less =
       sum-falls (without k x a u v) k (without-well-formed k x a u v (g .laid .well-formed)) (g .laid .well-formed) (without-less k x a u v) x a u v
       (without-gone k x (g .laid .well-formed) w) (s .left)
 
   pub pushable : Pushable q a u v
-  pushable = record { long = g .long; least = g .least; room = omega (arith, g .room, falls); proper = w }
+  pushable = record { long = g .long; least = g .least; room = omega (arith, g .room, sum-less); proper = w }
 
-  free : queue-end q < length q
-  free = rw (g .long) (pushable .room)
+  push-fits : queue-end q < length q
+  push-fits = rw (g .long) (pushable .room)
 
-  pub removed-one : Narrowed (One x a u v) (One x a u v) k q (without k x a u v) (marked rows x a u v) (pushed q (pair-code a u v))
+  end-is : queue-end (pushed q (pair-code a u v)) ≡ queue-end q + 1
+  end-is = push-end q (pair-code a u v) push-fits
+
+  pub removed-one : RemovedOnly (One x a u v) k q (without k x a u v) (marked rows x a u v) (pushed q (pair-code a u v))
   removed-one = record {
     grown = record {
       good = record {
@@ -86,19 +88,19 @@ module _ {k : Domains} {rows q : List ℕ} (g : Good k rows q) {x a u v : ℕ} (
           mirror = mirror-one (g .laid .well-formed) (g .laid .mirror) x a u v hx w;
         };
         long = simp length-set (g .long);
-        least = omega (arith, push-end q (pair-code a u v) free);
-        room = omega (arith, g .room, falls, push-end q (pair-code a u v) free);
+        least = omega (arith, end-is);
+        room = omega (arith, g .room, sum-less, end-is);
         coded = λ j l h. elim (ℕ-discrete j (queue-end q)) [
-          | yes e ↦ rw (e, push-new q (pair-code a u v) free (g .least)) (coded w)
-          | no d ↦ rw (push-old q (pair-code a u v) free j l d) (g .coded j l (omega (arith, push-end q (pair-code a u v) free)))
+          | yes e ↦ rw (e, push-new q (pair-code a u v) push-fits (g .least)) (coded w)
+          | no d ↦ rw (push-old q (pair-code a u v) push-fits j l d) (g .coded j l (omega (arith, end-is)))
         ];
       };
       less = without-less k x a u v;
-      up = omega (arith, push-end q (pair-code a u v) free);
-      old = λ i l h. push-old q (pair-code a u v) free i l (omega arith);
+      up = omega (arith, end-is);
+      old = λ i l h. push-old q (pair-code a u v) push-fits i l (omega arith);
       new = λ c z h. elim (elsewhere (g .laid .well-formed) x a u v hx w z) [
-        | inl (e, o) ↦ let last = push-new q (pair-code a u v) free (g .least) in
-            inr (queue-end q, le-refl (queue-end q), omega (arith, push-end q (pair-code a u v) free), ⊎-map (λ p. cc) (λ p. cc) o)
+        | inl (e, o) ↦ let last = push-new q (pair-code a u v) push-fits (g .least) in
+            inr (queue-end q, le-refl (queue-end q), omega (arith, end-is), ⊎-map (λ p. cc) (λ p. cc) o)
         | inr t ↦ inl (sym (t (c .saying)) ∙ h)
       ];
     };
