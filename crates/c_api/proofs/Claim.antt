@@ -15,7 +15,7 @@ use Rattle.instance.specs.Meaning.{problem-of}
 use Rattle.instance.specs.Reads.{Reads}
 use Rattle.instance.specs.declared.Instance.{Instance}
 use Rattle.tree_paths.proofs.Checkpoints.{checkpoint-back}
-use Rattle.search.proofs.Claim.{following-so, short, held-follows}
+use Rattle.search.proofs.Claim.{following-exactly, short, held-follows}
 use Rattle.tree_paths.specs.Checkpoints.{value-of}
 use Rattle.search.specs.declared.answer.SearchResult.{SearchResult}
 use Rattle.buffers.proofs.Bytes.{steps-back}
@@ -53,7 +53,7 @@ module _ (sheet : List ℕ) (bytes : Bytes sheet) (r : Reads sheet) where
     right-lengths : S.Follows (look p) κ → fit ≡ true → call ≡ R.result-of p (search p (c .allowance) κ)
     unfolding search-call instance-searched note-follows
     right-lengths f h =
-        let g = following-so p (value-of κ) .1 (held-follows p sound κ f) in
+        let g = following-exactly p (value-of κ) .1 (held-follows p sound κ f) in
         rw (r .reads, note-bytes-length κ, h, note-holds κ, note-back κ, g, checkpoint-back κ (short p sound κ f))
 
     -- and where one has a wrong length it is refused

@@ -1,6 +1,6 @@
 -- What search refuses of the bytes that it is lent: exactly what the table does, and then it leaves the buffers.
 use Rattle.prelude.specs.Names.{Bool, true, false, List, _↔_, _⊎_, inl, inr, ⊎-elim, _≡_, refl, sym, ap, _∙_, ℕ, _+_, _≤_, _<_, arith}
-use Rattle.model.proofs.Below.{and-both, clash, not-so}
+use Rattle.model.proofs.Below.{and-both, clash, test-false}
 use Rattle.model.specs.Problem.{Problem, Positions}
 use Rattle.model.specs.Run.{look, machine, plan-at, search}
 use Rattle.refusal.specs.Numbers.{number-of}
@@ -8,7 +8,7 @@ use Rattle.formats.specs.Reading.{Bytes}
 use Rattle.instance.proofs.Readings.{decode-refuses}
 use Rattle.instance.specs.Meaning.{problem-of}
 use Rattle.instance.specs.Reads.{Reads}
-use Rattle.search.proofs.Claim.{following-so, answered-small, zero-is-spent}
+use Rattle.search.proofs.Claim.{following-exactly, answered-small, zero-is-spent}
 use Rattle.tree_paths.specs.Checkpoints.{checkpoint-of, following}
 use Rattle.search.specs.declared.answer.Answer.{Answer}
 use Rattle.search.specs.declared.answer.Answer.the-variants.{Packed, Infeasible, BudgetSpent, Refused}
@@ -35,7 +35,7 @@ in-follows : (p : Problem) (note : List ℕ) → note-follows p note ≡ true �
 unfolding note-follows
 in-follows p note e =
     let (k, f) = and-both (is-checkpoint note) (following p (checkpoint-in note)) e in
-    following-so p (checkpoint-in note) .0 f .follows
+    following-exactly p (checkpoint-in note) .0 f .follows
 
 -- A call by the table: a fault's number, or the search's
 
@@ -84,8 +84,8 @@ module _ (sheet note steps plan : List ℕ) (allowance : ℕ) where
     fault-code : {n : ℕ} → Fault n → code ≡ 100 + n
     unfolding search-call R.result-refused
     fault-code (SearchBytesFault.unread e f k) = rw (decode-refuses sheet e .1 f, k)
-    fault-code (SearchBytesFault.eight r h k) = rw k (ap number (read-is r (not-so _ (fit-exactly r) h) refl))
-    fault-code (SearchBytesFault.ten r l h k) = rw k (ap number (read-is r (fit-exactly r .1 l) (not-so _ (follow-exactly r l) h)))
+    fault-code (SearchBytesFault.eight r h k) = rw k (ap number (read-is r (test-false _ (fit-exactly r) h) refl))
+    fault-code (SearchBytesFault.ten r l h k) = rw k (ap number (read-is r (fit-exactly r .1 l) (test-false _ (follow-exactly r l) h)))
 
     -- there is a fault, or nothing is refused
     by-table : ((n : ℕ) × Fault n) ⊎ Searched sheet allowance call

@@ -6,7 +6,7 @@ use Rattle.model.specs.Admits.{Sound}
 use Rattle.model.specs.Problem.{Problem}
 use Rattle.formats.specs.Reading.{Bytes}
 use Rattle.tree_paths.proofs.Checkpoints.{branches-length, branches-past, well-formed-bits, well-formed-length, value-again}
-use Rattle.search.proofs.Claim.{following-so, held-follows}
+use Rattle.search.proofs.Claim.{following-exactly, held-follows}
 use Rattle.tree_paths.specs.Checkpoints.{checkpoint-of, well-formed, following, branches-of, value-of}
 use Rattle.sheet.specs.Places.{word-at}
 use Rattle.buffers.specs.Checkpoints.{status-of, checkpoint-bytes, checkpoint-in, all-zero, is-checkpoint}
@@ -62,9 +62,9 @@ unfolding note-follows
 note-follows-exactly p σ note β l = (
   (λ h.
       let (k, f) = and-both (is-checkpoint note) (following p (checkpoint-in note)) h in
-      let φ = following-so p (checkpoint-in note) .0 f in
+      let φ = following-exactly p (checkpoint-in note) .0 f in
       record { checkpoint = checkpoint-of (checkpoint-in note); bytes = note-again note β l k (φ .is-well-formed); follows = φ .follows }),
   (λ ν.
-      let f = following-so p (value-of (ν .checkpoint)) .1 (held-follows p σ (ν .checkpoint) (ν .follows)) in
+      let f = following-exactly p (value-of (ν .checkpoint)) .1 (held-follows p σ (ν .checkpoint) (ν .follows)) in
       rw (ν .bytes, note-back (ν .checkpoint)) (and-intro (note-holds (ν .checkpoint)) f)),
 )

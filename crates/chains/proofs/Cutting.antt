@@ -7,7 +7,7 @@ use Rattle.model.specs.Order.{Proper, _⊑_}
 use Rattle.model.specs.Relations.{gone, converse}
 use Rattle.model.specs.Toward.{Direction}
 use Rattle.model.proofs.Below.{and-both, and-intro, clash, fails, stays}
-use Rattle.model.proofs.Claims.{gone-mono}
+use Rattle.model.proofs.Facts.{gone-mono}
 use Rattle.model.proofs.Order.{below-refl}
 use Rattle.model.proofs.Toward.{by-direction}
 use Rattle.domains.specs.Bits.{bit-at, Gives, lowest-bit, Lowest, TakenOut}

@@ -11,7 +11,7 @@ use Rattle.model.specs.Facts.{forced, says}
 use Rattle.model.specs.Clauses.{of}
 use Rattle.model.specs.Toward.{Goal, Direction, greatest, Linked, extended, Table, Under, Links, Cuts, ClosedBut, NoPair}
 use Rattle.model.proofs.Below.{and-both, and-intro, clash}
-use Rattle.model.proofs.Claims.{gone-mono, gone-converse, gone-self, forced-converse, forced-before-is, forced-after-is}
+use Rattle.model.proofs.Facts.{gone-mono, gone-converse, gone-self, forced-converse, forced-before-is, forced-after-is}
 use Rattle.model.proofs.Slots.{proper-sym}
 use Rattle.model.proofs.Toward.{by-direction, goal-fits, under-link, under-cut, closed-grown, closed-less, closed-wider}
 use Rattle.model.proofs.Untouched.{goal-lawful}

@@ -6,7 +6,7 @@ use Rattle.model.specs.Domains.{Domains}
 use Rattle.model.specs.Order.{Proper, WellFormed}
 use Rattle.model.specs.Relations.{gone, without, converse}
 use Rattle.model.specs.Facts.{overlaps, says}
-use Rattle.model.proofs.Claims.{gone-converse, gone-self, converse-small}
+use Rattle.model.proofs.Facts.{gone-converse, gone-self, converse-small}
 use Rattle.model.proofs.Without.{Other, without-gone, without-other}
 use Rattle.domains.specs.Bits.{bit-at, Gives}
 use Rattle.domains.specs.Rows.{row-at, Mirror}

@@ -4,7 +4,7 @@ use Rattle.model.specs.Domains.{Domains}
 use Rattle.model.specs.Order.{Proper, _⊑_}
 use Rattle.model.specs.Relations.{gone, without}
 use Rattle.model.proofs.Below.{fails}
-use Rattle.model.proofs.Claims.{gone-mono}
+use Rattle.model.proofs.Facts.{gone-mono}
 use Rattle.model.proofs.Without.{without-less, without-gone, without-other}
 use Rattle.domains.specs.Bits.{bit-at, TakenOut}
 use Rattle.domains.specs.Queue.{queue-end, Good}

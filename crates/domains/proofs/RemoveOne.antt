@@ -6,7 +6,7 @@ use Rattle.model.specs.Propagate.{sum}
 use Rattle.model.specs.Order.{Proper, WellFormed}
 use Rattle.model.specs.Relations.{gone, without, converse, Filled}
 use Rattle.model.specs.Facts.{Saying, nothing, says}
-use Rattle.model.proofs.Claims.{converse-small, gone-converse}
+use Rattle.model.proofs.Facts.{converse-small, gone-converse}
 use Rattle.model.proofs.Without.{without-less, without-above, without-well-formed, without-gone, without-other, says-elsewhere, sum-falls}
 use Rattle.domains.specs.Queue.{pair-code, SamePair, Coded, queue-end, pushed, Pushable, Good}
 use Rattle.domains.specs.Narrowed.{RemovedOnly, One, Spare}

@@ -6,7 +6,7 @@ use Rattle.model.specs.Domains.{Domains}
 use Rattle.model.specs.Order.{Proper, WellFormed, _⊑_}
 use Rattle.model.specs.Relations.{gone, without}
 use Rattle.model.proofs.Below.{and-intro, and-both, or-case, or-neither, clash}
-use Rattle.model.proofs.Claims.{gone-mono}
+use Rattle.model.proofs.Facts.{gone-mono}
 use Rattle.model.proofs.Domains.{gone-distinct}
 use Rattle.model.proofs.Order.{below-refl, below-trans}
 use Rattle.model.proofs.Without.{without-less, without-well-formed, without-gone, without-other}

@@ -31,8 +31,8 @@ fails {b = false} f e = refl
 pub refuted : (b : Bool) → (b ≡ true → ⊥) → b ≡ false
 refuted b h = fails {c = false} (λ e. absurd (h e)) refl
 
-pub not-so : {A : Type 0} (b : Bool) → (b ≡ true) ↔ A → (A → ⊥) → b ≡ false
-not-so b iff h = refuted b (λ e. h (iff .0 e))
+pub test-false : {A : Type 0} (b : Bool) → (b ≡ true) ↔ A → (A → ⊥) → b ≡ false
+test-false b iff h = refuted b (λ e. h (iff .0 e))
 
 pub and-intro : {a b : Bool} → a ≡ true → b ≡ true → (a && b) ≡ true
 and-intro e f = rw (e, f)

@@ -12,7 +12,7 @@ use Rattle.model.proofs.Below.{some-of, and-intro, and-both, and-three,
 use Rattle.model.proofs.Slots.{proper-sym}
 use Rattle.model.proofs.Domains.{may-overlap-sym, fixed-before-of, fixed-before-says, fixed-overlap-of, fixed-overlap-says, fixed-overlap-sym}
 use Rattle.model.proofs.Domains.{before-distinct, overlap-distinct, fixed-distinct}
-use Rattle.model.proofs.Claims.{forced-after-is}
+use Rattle.model.proofs.Facts.{forced-after-is}
 use Rattle.model.proofs.Asks.{not-before, not-overlap, rule1-of}
 
 -- what holds for both directions

@@ -17,7 +17,7 @@ pub mod Admits
 pub mod Asks
 pub mod Fork
 pub mod Weight
-pub mod Claims
+pub mod Facts
 pub mod Clauses
 pub mod Packed
 pub mod Path
@@ -32,6 +32,6 @@ pub mod Untouched
 pub mod Toward
 pub mod Wide
 pub mod Outside
-pub mod Turns
+pub mod FirstBranches
 pub mod Theorems
 pub mod Examples

@@ -46,19 +46,19 @@ module _ (look : List Branch → Outlook) where
     λ e. ap is-complete e,
   )
 
-  pub forking-so : (path : List Branch) → (forking look path ≡ true) ↔ Forking look path
-  forking-so [] = ((λ e. tt), (λ e. refl))
-  forking-so (b ∷ path) = (
-    (λ e. let (f, r) = and-both (is-fork (look path)) (forking look path) e in (fork-exactly (look path) .0 f, forking-so path .0 r)),
-    (λ l. and-intro (fork-exactly (look path) .1 (l .0)) (forking-so path .1 (l .1))),
+  pub forking-exactly : (path : List Branch) → (forking look path ≡ true) ↔ Forking look path
+  forking-exactly [] = ((λ e. tt), (λ e. refl))
+  forking-exactly (b ∷ path) = (
+    (λ e. let (f, r) = and-both (is-fork (look path)) (forking look path) e in (fork-exactly (look path) .0 f, forking-exactly path .0 r)),
+    (λ l. and-intro (fork-exactly (look path) .1 (l .0)) (forking-exactly path .1 (l .1))),
   )
 
   pub follows-exactly : (κ : Checkpoint) → (follows look κ ≡ true) ↔ Follows look κ
-  follows-exactly (open-at path) = forking-so path
+  follows-exactly (open-at path) = forking-exactly path
   follows-exactly infeasible = ((λ e. tt), (λ e. refl))
   follows-exactly (packed-at path) = (
-    (λ e. let (r, f) = and-both (forking look path) (is-complete (look path)) e in (forking-so path .0 r, complete-exactly (look path) .0 f)),
-    (λ l. and-intro (forking-so path .1 (l .0)) (complete-exactly (look path) .1 (l .1))),
+    (λ e. let (r, f) = and-both (forking look path) (is-complete (look path)) e in (forking-exactly path .0 r, complete-exactly (look path) .0 f)),
+    (λ l. and-intro (forking-exactly path .1 (l .0)) (complete-exactly (look path) .1 (l .1))),
   )
 
 -- i steps of the search

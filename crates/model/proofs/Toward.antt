@@ -21,7 +21,7 @@ use Rattle.model.proofs.GreatestChains.{greatest-ending-within, greates
 use Rattle.model.proofs.Pass.{at-rest-rests}
 use Rattle.model.proofs.Propagate.{propagate-well-formed, propagate-at-rest, propagate-less, propagate-greatest, inconsistent-mono}
 use Rattle.model.proofs.Asks.{ask-c2}
-use Rattle.model.proofs.Claims.{gone-mono, holds-mono, forced-before-is, forced-after-is}
+use Rattle.model.proofs.Facts.{gone-mono, holds-mono, forced-before-is, forced-after-is}
 use Rattle.model.proofs.Clauses.{rest-obeyed, obeyed-at-rest}
 use Rattle.model.proofs.Untouched.{propagate-untouched, linked-proper}
 use Rattle.model.proofs.Consistent.{before-irreflexive, before-transitive}

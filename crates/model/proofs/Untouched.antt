@@ -10,7 +10,7 @@ use Rattle.model.specs.Facts.{overlaps, removed, forced, Fact, says, Hol
 use Rattle.model.specs.Clauses.{of, Three, Order, c3, d2, d1-far, d1-near, g1, Rule, AllHold, Obeyed, Lawful}
 use Rattle.model.specs.Toward.{Goal, Linked}
 use Rattle.model.proofs.Below.{and-both, fails}
-use Rattle.model.proofs.Claims.{forced-before-is}
+use Rattle.model.proofs.Facts.{forced-before-is}
 use Rattle.model.proofs.Domains.{gone-distinct}
 use Rattle.model.proofs.Without.{gone-same}
 use Rattle.model.proofs.Clauses.{rest-obeyed}

@@ -7,7 +7,7 @@ use Rattle.model.specs.Order.{Proper}
 use Rattle.model.specs.Relations.{Filled}
 use Rattle.model.specs.Facts.{Saying, overlaps, removed, forced, Fact, Holds}
 
--- the claim of u and v on the axis a
+-- the fact about u and v on the axis a
 abbrev pub of : Saying → ℕ → ℕ → ℕ → Fact
 of s a u v = record { saying = s; axis = a; u = u; v = v }
 

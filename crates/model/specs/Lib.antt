@@ -21,6 +21,6 @@ pub mod Search
 pub mod Calls
 pub mod Lists
 pub mod Run
-pub mod Turns
+pub mod FirstBranches
 pub mod Computing
 pub mod Trials

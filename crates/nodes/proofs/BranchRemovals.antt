@@ -7,7 +7,7 @@ use Rattle.model.specs.Order.{Proper, WellFormed, _⊑_}
 use Rattle.model.specs.Relations.{gone, without, Filled}
 use Rattle.model.specs.Facts.{nothing, says}
 use Rattle.model.proofs.Below.{clash, or-case, or-left, or-right}
-use Rattle.model.proofs.Claims.{gone-mono, says-mono}
+use Rattle.model.proofs.Facts.{gone-mono, says-mono}
 use Rattle.model.proofs.Order.{below-trans, below-eq}
 use Rattle.model.proofs.Slots.{proper-up}
 use Rattle.model.proofs.Without.{without-less, without-above, without-well-formed, without-gone}

@@ -9,8 +9,8 @@ use Rattle.model.proofs.Below.{all-at, and-both, clash}
 use Rattle.model.proofs.Domains.{may-overlap-sym, before-up, before-down, overlap-up}
 use Rattle.model.proofs.Slots.{pair-of, pairs-rise}
 use Rattle.model.proofs.Fork.{choice-pair-is, choice-axis-is}
-use Rattle.model.proofs.Turns.{number-of-pair, first-from, packed-from}
-use Rattle.model.specs.Turns.{Passed}
+use Rattle.model.proofs.FirstBranches.{number-of-pair, first-from, packed-from}
+use Rattle.model.specs.FirstBranches.{Passed}
 use Rattle.nodes.specs.Choice.{separates, several, separated-at, PairAt, Chosen}
 use Rattle.nodes.specs.declared.branching.Branching.the-variants.{Packed, At}
 use Rattle.nodes.specs.declared.branching.Pair as P

@@ -3,7 +3,7 @@ ghost use mathlib.Core.Path.{_≡_};
 ghost use Prim.Native.Nat.{_<_, _≤_};
 ghost use Rattle.model.specs.Domains as D;
 ghost use Rattle.model.specs.Order.{WellFormed};
-ghost use Rattle.model.specs.Turns.{Passed};
+ghost use Rattle.model.specs.FirstBranches.{Passed};
 ghost use Rattle.nodes.specs.Choice.{PairAt, separates, several, separated-at, Chosen, Branchable, Branched};
 use domains::DOMAINS;
 use domains::Place;

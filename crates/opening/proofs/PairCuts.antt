@@ -10,7 +10,7 @@ use Rattle.model.proofs.Below.{and-intro, and-both}
 use Rattle.model.proofs.Order.{below-refl}
 use Rattle.model.proofs.Slots.{index-of-same, index-of-small}
 use Rattle.model.proofs.Without.{gone-same}
-use Rattle.model.proofs.Claims.{gone-mono}
+use Rattle.model.proofs.Facts.{gone-mono}
 use Rattle.domains.specs.Bits.{bit-at, Gives}
 use Rattle.domains.specs.Queue.{queue-end, Good}
 use Rattle.domains.specs.Narrowed.{Narrowed, Refuted, All, Asked, Askable}

@@ -41,7 +41,12 @@ module _ (i : Instance) (q : Packing) where
   unfolding check-answer
   decides =
       let exact = feasible-exactly (problem-of i) (positions-of q) in
-      record { yes = yes-by _ (valid i) fits exact; no = no-by _ (valid i) fits exact; refused = refused-by (valid i) fits }
+      record { yes = yes-by _ (valid i) fits exact; refused = refused-by (valid i) fits }
+
+  -- 0, "no": exactly for an instance and a packing that is not feasible in it
+  pub no-exactly : (check-number (check-answer i q) ≡ 0) ↔ ((valid i ≡ true) × (M.Feasible (problem-of i) (positions-of q) → ⊥))
+  unfolding check-answer
+  no-exactly = no-by _ (valid i) fits (feasible-exactly (problem-of i) (positions-of q))
 
   -- both promises of the check, from the first
   pub decided : (r : CheckAnswer) → r ≡ check-answer i q → (r ≡ check-answer i q) × Decides i q r

@@ -25,11 +25,9 @@ check-number NotFeasible = 0
 check-number Feasible = 1
 check-number (Refused e) = 100 + number-of e
 
--- The answer, by the definition of a feasible packing alone.
+-- The answer, by the definition of a feasible packing alone: yes, or refused; all else is no.
 pub record Decides (i : Instance) (q : Packing) (r : CheckAnswer) : Type 0 where
   -- 1, "yes": "A plan fits when ..", exactly for an instance and a packing that is feasible in it
   pub yes : (check-number r ≡ 1) ↔ ((valid i ≡ true) × M.Feasible (problem-of i) (positions-of q))
-  -- 0, "no": exactly for an instance and a packing that is not
-  pub no : (check-number r ≡ 0) ↔ ((valid i ≡ true) × (M.Feasible (problem-of i) (positions-of q) → ⊥))
   -- 9: "a sheet value with over 10 pieces, ..", and no other refusal
   pub refused : (n : ℕ) → (check-number r ≡ 100 + n) ↔ ((valid i ≡ false) × (n ≡ 9))

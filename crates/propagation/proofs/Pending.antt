@@ -5,7 +5,7 @@ use Rattle.model.specs.Domains.{Domains}
 use Rattle.model.specs.Order.{Proper}
 use Rattle.model.specs.Facts.{Fact}
 use Rattle.model.specs.Clauses.{Rule, c3, d2, d1-far, d1-near, g1, AllHold, Obeyed}
-use Rattle.model.proofs.Claims.{holds-mono}
+use Rattle.model.proofs.Facts.{holds-mono}
 use Rattle.domains.specs.Queue.{pair-code, SamePair, queue-end, Queued}
 use Rattle.domains.specs.Narrowed.{Grown}
 use Rattle.rules.specs.Worked.{Handled}

@@ -11,7 +11,7 @@ use Rattle.model.specs.Toward.{Direction, Linked}
 use Rattle.model.proofs.Below.{and-intro, and-both, or-case, or-left, or-right, clash}
 use Rattle.model.proofs.Slots.{proper-sym}
 use Rattle.model.proofs.Order.{below-refl}
-use Rattle.model.proofs.Claims.{gone-mono, says-mono, holds-mono, forced-converse, forced-before-is, forced-after-is}
+use Rattle.model.proofs.Facts.{gone-mono, says-mono, holds-mono, forced-converse, forced-before-is, forced-after-is}
 use Rattle.model.proofs.Untouched.{goal-lawful}
 use Rattle.model.proofs.Toward.{by-direction, closed-wider}
 use Rattle.domains.specs.Bits.{bit-at}

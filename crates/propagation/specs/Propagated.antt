@@ -14,7 +14,7 @@ use Rattle.domains.specs.Narrowed.{LentArray}
 use Rattle.chains.specs.Totals.{table, Tabled, Measured}
 use Rattle.model.specs.Propagate as M
 
--- one of the claims is of a pair on the queue
+-- one of the facts is of a pair on the queue
 abbrev pub SomeQueued : List ℕ → ℕ → ℕ → List Fact → Type 0
 SomeQueued q from to [] = ⊥
 SomeQueued q from to (c ∷ cs) = Queued q from to (c .axis) (c .u) (c .v) ⊎ SomeQueued q from to cs

@@ -8,7 +8,7 @@ use Rattle.model.specs.Facts.{overlaps, removed, Fact, says, Holds}
 use Rattle.model.specs.Clauses.{of, g1, AllHold, Lawful}
 use Rattle.model.proofs.Below.{and-intro, and-both, clash}
 use Rattle.model.proofs.Order.{below-refl}
-use Rattle.model.proofs.Claims.{gone-mono, says-mono, holds-mono, overlaps-sym}
+use Rattle.model.proofs.Facts.{gone-mono, says-mono, holds-mono, overlaps-sym}
 use Rattle.domains.specs.Bits.{bit-at, Gives, lowest-bit, Lowest, TakenOut}
 use Rattle.domains.specs.Rows.{row-at, Mirror}
 use Rattle.domains.specs.Queue.{queue-end, Good}

@@ -4,7 +4,7 @@ use Rattle.model.specs.Domains.{Domains}
 use Rattle.model.specs.Order.{_⊑_}
 use Rattle.model.specs.Facts.{Fact, Holds}
 use Rattle.model.specs.Clauses.{Rule, AllHold, Lawful}
-use Rattle.model.proofs.Claims.{holds-mono}
+use Rattle.model.proofs.Facts.{holds-mono}
 use Rattle.domains.specs.Queue.{queue-end}
 use Rattle.domains.specs.Narrowed.{Narrowed}
 use Rattle.rules.specs.Worked.{Clauses, Handled, HandledIf, next-axis, Third, Sides, Overlapping}

@@ -7,7 +7,7 @@ use Rattle.model.specs.Relations.{gone, converse}
 use Rattle.model.specs.Facts.{overlaps, removed, forced, Fact, says, Holds}
 use Rattle.model.specs.Clauses.{of, Axes, Three, Order, Rule, c3, d2, d1-far, d1-near, g1, AllHold}
 use Rattle.model.proofs.Slots.{proper-sym}
-use Rattle.model.proofs.Claims.{gone-converse, forced-converse}
+use Rattle.model.proofs.Facts.{gone-converse, forced-converse}
 use Rattle.domains.specs.Queue.{SamePair}
 use Rattle.rules.specs.Worked.{Handled, PathFrom, Paths, next-axis, Third, Diagonal, Overlapping}
 use Rattle.rules.specs.Mentions.{Mentions, Mentioning}

@@ -10,7 +10,7 @@ use Rattle.model.specs.Facts.{says}
 use Rattle.model.specs.Clauses.{Three, Order, d2, d1-far, d1-near, Lawful}
 use Rattle.model.proofs.Below.{and-intro, and-both, and-first, or-case}
 use Rattle.model.proofs.Slots.{proper-sym}
-use Rattle.model.proofs.Claims.{gone-converse}
+use Rattle.model.proofs.Facts.{gone-converse}
 use Rattle.domains.specs.Bits.{bit-at, Gives}
 use Rattle.domains.specs.Rows.{row-at, Laid}
 use Rattle.domains.specs.Queue.{Good}

@@ -5,7 +5,7 @@ use Rattle.model.specs.Clauses.{Rule}
 use Rattle.domains.specs.Queue.{SamePair}
 use Rattle.rules.specs.Worked.{Clauses}
 
--- one of the claims is of u and v on the axis a, in one order or the other
+-- one of the facts is of u and v on the axis a, in one order or the other
 abbrev pub Mentions : ℕ → ℕ → ℕ → List Fact → Type 0
 Mentions a u v [] = ⊥
 Mentions a u v (c ∷ cs) = SamePair a u v (c .axis) (c .u) (c .v) ⊎ Mentions a u v cs

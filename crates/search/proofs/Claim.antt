@@ -1,7 +1,7 @@
 -- What one call and every list of calls come to, in values, from the contract of `search`: its result is `search-result`.
 -- An instance's array of items holds ten, as every value of the type does.
 use Rattle.prelude.specs.Names.{Bool, true, false, List, _↔_, _≡_, refl, sym, ap, _∙_, subst, ℕ, _+_, _≤_, _<_, arith, length}
-use Rattle.model.proofs.Below.{and-intro, and-both, clash, not-so}
+use Rattle.model.proofs.Below.{and-intro, and-both, clash, test-false}
 use Rattle.model.proofs.Lists.{all-refused}
 use Rattle.model.specs.Admits.{Sound}
 use Rattle.model.specs.Branching.{plan}
@@ -33,9 +33,9 @@ unfolding value-of branches-of opening-checkpoint
 opening-value = refl
 
 -- the test of a checkpoint says yes exactly when it follows
-pub following-so : (p : Problem) (c : Checkpoint) → (following p c ≡ true) ↔ Following p c
+pub following-exactly : (p : Problem) (c : Checkpoint) → (following p c ≡ true) ↔ Following p c
 unfolding following
-following-so p c = (
+following-exactly p c = (
   (λ h. let (w, f) = and-both (well-formed c) (S.follows (look p) (checkpoint-of c)) h in
       record { is-well-formed = w; follows = T.follows-exactly p (checkpoint-of c) .0 f }),
   (λ φ. and-intro (φ .is-well-formed) (T.follows-exactly p (checkpoint-of c) .1 (φ .follows))),
@@ -87,8 +87,8 @@ module _ (i : Instance) (c : Checkpoint) (budget : ℕ) where
     where
       go : (v f : Bool) → valid i ≡ v → following (problem-of i) c ≡ f → CallIs i c budget (result-if (valid i) (problem-of i) c budget)
       go false f d e = invalid d (rw d)
-      go true false d e = not-following d (λ φ. clash (following-so (problem-of i) c .1 φ) e) (rw (d, e))
-      go true true d e = searched d (following-so (problem-of i) c .0 e) (rw (d, e))
+      go true false d e = not-following d (λ φ. clash (following-exactly (problem-of i) c .1 φ) e) (rw (d, e))
+      go true true d e = searched d (following-exactly (problem-of i) c .0 e) (rw (d, e))
 
   -- a call on a checkpoint that follows is refused for nothing
   pub served-is : valid i ≡ true → Following (problem-of i) c → result ≡ own
@@ -103,7 +103,7 @@ module _ (i : Instance) (c : Checkpoint) (budget : ℕ) where
   fault-code : {n : ℕ} → SearchFault i c n → answer-number (result .answer) ≡ 100 + n
   unfolding search-result result-refused
   fault-code (nine v k) = rw (v, k)
-  fault-code (ten v h k) = rw (v, not-so _ (following-so (problem-of i) c) h, k)
+  fault-code (ten v h k) = rw (v, test-false _ (following-exactly (problem-of i) c) h, k)
 
   -- "A call that meets no condition of the table is not refused", and any other gets its number
   pub refuses : (n : ℕ) → (answer-number (search-result i c budget .answer) ≡ 100 + n) ↔ SearchFault i c n

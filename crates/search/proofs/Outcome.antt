@@ -1,7 +1,7 @@
 -- The results of a call as values.
 use Rattle.prelude.specs.Names.{Bool, true, false, List, [], _∷_, _⊎_, inl, inr, _≡_, refl, ap, _∙_, ℕ, zero, suc, _<_, ℕ-discrete, arith}
-use Rattle.model.proofs.Below.{clash, not-so}
-use Rattle.model.proofs.Run.{forking-so}
+use Rattle.model.proofs.Below.{clash, test-false}
+use Rattle.model.proofs.Run.{forking-exactly}
 use Rattle.model.specs.Branching.{Branch, first, second, plan}
 use Rattle.model.specs.Problem.{Problem}
 use Rattle.model.specs.Machine.{Finished}
@@ -60,7 +60,7 @@ module _ (look : List Branch → S.Outlook) (bs : List ℕ) (i : ℕ) where
   fork-within (suc n) h f = elim (ℕ-discrete i n) [ yes e ↦ rw e (f .0) | no d ↦ fork-within n (omega arith) (f .1) ]
 
   pub forking-fails : (n : ℕ) → i < n → S.is-fork (look (path-of i bs)) ≡ false → S.forking look (path-of n bs) ≡ false
-  forking-fails n h e = not-so _ (forking-so look (path-of n bs)) (λ f. clash (rw (fork-within n h f)) e)
+  forking-fails n h e = test-false _ (forking-exactly look (path-of n bs)) (λ f. clash (rw (fork-within n h f)) e)
 
 -- The call on a packed checkpoint, by what one step from its path comes to
 module _ (p : Problem) (c : Checkpoint) {r : SearchResult} (is : r ≡ followed p 1 c (S.open-at (value-path c))) (budget : ℕ) where

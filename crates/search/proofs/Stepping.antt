@@ -1,6 +1,6 @@
 -- How far a call has come: along the checkpoint's path, or some steps on from it; and what the call comes to from there.
 use Rattle.prelude.specs.Names.{true, false, List, [], _∷_, _≡_, refl, sym, ap, _∙_, ℕ, _+_, _-_, _≤_, _<_, decLt, arith, length, getD}
-use Rattle.model.proofs.Run.{forking-so}
+use Rattle.model.proofs.Run.{forking-exactly}
 use Rattle.model.specs.Branching.{Branch, second, plan}
 use Rattle.model.specs.Problem.{Problem}
 use Rattle.model.specs.Run.{look}
@@ -98,7 +98,7 @@ module _ (c : Checkpoint) {p : Problem} {budget looks : ℕ} {path : List Branch
 
   module _ (h : c .length ≤ looks) where
     follows : S.follows (look p) κ ≡ true
-    follows = forking-so (look p) (value-path c) .1 (ω .late h .start-forks)
+    follows = forking-exactly (look p) (value-path c) .1 (ω .late h .start-forks)
 
     held : {depth : ℕ} → depth ≡ length path → PathIn path bs depth
     held d = record { many = d; entries = ω .late h .held }

@@ -6,7 +6,7 @@ use lib.ListN.{take-append-drop}
 use Rattle.model.proofs.Path.{path-fork}
 use Rattle.model.proofs.Search.{look-fork, limit-270}
 use Rattle.model.proofs.Theorems.{fork-most}
-use Rattle.model.proofs.Turns.{saved-count, firsts-90, fork-firsts-90, branch-passed}
+use Rattle.model.proofs.FirstBranches.{saved-count, firsts-90, fork-firsts-90, branch-passed}
 use Rattle.model.specs.Admits.{Sound}
 use Rattle.model.specs.Branching.{Branch, first, second, choice, path-domains}
 use Rattle.model.specs.Domains.{Domains, pair-number}
@@ -14,7 +14,7 @@ use Rattle.model.specs.Order.{Rising}
 use Rattle.model.specs.Problem.{Problem}
 use Rattle.model.specs.Propagate.{Slot}
 use Rattle.model.specs.Run.{look}
-use Rattle.model.specs.Turns.{saved, Passed, choice-number}
+use Rattle.model.specs.FirstBranches.{saved, Passed, choice-number}
 use Rattle.nodes.specs.Choice.{branch-by, Branchable, Branched}
 use Rattle.nodes.specs.Levels.{chunk, Stored, Loaded}
 use Rattle.domains.specs.Queue.{max-queue, pair-code, Long}

@@ -7,7 +7,7 @@ use Rattle.model.specs.Domains.{Domains}
 use Rattle.model.specs.Problem.{Problem}
 use Rattle.model.specs.Propagate.{propagate}
 use Rattle.model.specs.Run.{look}
-use Rattle.model.specs.Turns.{Passed}
+use Rattle.model.specs.FirstBranches.{Passed}
 use Rattle.model.specs.Wide.{wide}
 use Rattle.nodes.specs.Choice.{Chosen}
 use Rattle.propagation.specs.Propagated.{Propagated}

@@ -4,7 +4,7 @@ use Rattle.model.specs.Branching.{Branch, choice, path-domains}
 use Rattle.model.specs.Domains.{Domains}
 use Rattle.model.specs.Problem.{Problem}
 use Rattle.model.specs.Run.{look}
-use Rattle.model.specs.Turns.{Passed}
+use Rattle.model.specs.FirstBranches.{Passed}
 use Rattle.nodes.specs.Nodes.{slot-of, At, Seen}
 use Rattle.tree_paths.specs.declared.outlook.Outlook.{Outlook}
 use Rattle.tree_paths.specs.declared.outlook.Outlook.the-variants.{Conflict, Complete, Fork}

@@ -1,6 +1,6 @@
 -- `domains::removal::converse` meets its contract.
 use Rattle.prelude.specs.Names.{needs}
-use Rattle.model.proofs.Claims.{converse-is}
+use Rattle.model.proofs.Facts.{converse-is}
 use Rattle.domains.proofs.removal.converse.Tie as tie
 
 pub converse-spec : {M : Type 1} → Rattle.domains.proofs.removal.converse.Statement.statement M

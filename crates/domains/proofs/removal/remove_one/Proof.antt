@@ -1,6 +1,6 @@
 -- `domains::removal::remove_one` meets its contract.
 use Rattle.prelude.specs.Names.{arith, needs}
-use Rattle.model.proofs.Claims.{converse-small}
+use Rattle.model.proofs.Facts.{converse-small}
 use Rattle.domains.proofs.RemoveOne.{pushable, removed-one}
 use Rattle.domains.proofs.removal.remove_one.Tie as tie
 

@@ -1,7 +1,7 @@
 -- `nodes::branching::choose` meets its contract. Outer invariant: every pair from `from` on and before `number` has a known "before".
 -- Measure: the pairs left. Inner invariant: no axis of the pair before `a` has more than one relation left. Measure: the axes left.
 use Rattle.prelude.specs.Names.{arith, true, false, _≡_, refl, sym, _∙_, ℕ, _+_, _*_, _-_, _≤_, _<_, getD, not-true, not-false}
-use Rattle.model.specs.Turns.{Passed}
+use Rattle.model.specs.FirstBranches.{Passed}
 use Rattle.nodes.specs.declared.branching.Branching.the-variants.{Packed}
 use Rattle.nodes.specs.Choice.{several, separated-at}
 use Rattle.nodes.proofs.Loops.{below-more}

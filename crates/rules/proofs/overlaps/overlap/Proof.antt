@@ -2,7 +2,7 @@
 -- side; n, n′ and n″ say what was removed by then.
 use Rattle.prelude.specs.Names.{needs, not-true, not-false}
 use Rattle.model.specs.Facts.{overlaps}
-use Rattle.model.proofs.Claims.{says-mono}
+use Rattle.model.proofs.Facts.{says-mono}
 use Rattle.model.proofs.Slots.{proper-sym}
 use Rattle.domains.proofs.Narrowed.{refuted-later}
 use Rattle.rules.proofs.Handling.{overlapping-worked}

@@ -12,7 +12,7 @@ use Rattle.model.specs.Order.{Proper, WellFormed, _⊑_, Fork}
 use Rattle.model.specs.Admits.{Sound}
 use Rattle.model.specs.Search.{fork, Forking}
 use Rattle.model.specs.Run.{look}
-use Rattle.model.specs.Turns.{firsts, saved, choice-number, Passed}
+use Rattle.model.specs.FirstBranches.{firsts, saved, choice-number, Passed}
 use Rattle.model.proofs.Below.{fails, Implies, and-mono, or-mono, some-mono, all-of, none-at, or-neither, stays, First, first-is, first-exists}
 use Rattle.model.proofs.Below.{clash}
 use Rattle.model.proofs.Slots.{no-pair, pair-of, pairs-count, pair-number-small, pair-at-number, proper-sym}
