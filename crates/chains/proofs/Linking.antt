@@ -18,7 +18,7 @@ use Rattle.model.proofs.Untouched.{goal-lawful}
 use Rattle.domains.specs.Bits.{bit-at}
 use Rattle.domains.specs.Rows.{row-at, Mirror}
 use Rattle.domains.specs.Queue.{SamePair, queue-end, Queued, Good, Long}
-use Rattle.domains.specs.Narrowed.{Grown, Narrowed, Refuted, Outcome, FilledWith}
+use Rattle.domains.specs.Narrowed.{Grown, Narrowed, Refuted, NarrowedIf, FilledWith}
 use Rattle.chains.specs.Totals.{table-start, table, capacity-at, Tabled, Measured, SameMeasures, Fitting}
 use Rattle.chains.specs.Links.{onward, LinkSet, Raised, none, more, Raises, Bursts, Linkable, Only, InRows, On, Plain}
 use Rattle.chains.specs.Cuts.{CutAll, CutOf}
@@ -291,7 +291,7 @@ module _ {k : Domains} {rows q t : List ℕ} {a u v : ℕ} (pre : (Good k rows q
                 let f = lt-ltb (capacity-at s a) (table s 1 a z + table s 2 a w) (omega (arith, rw e at l)) in
                 inl (rw e (sym (gone-converse j 1 a w z (omega arith)) ∙ n₂ .done z h w (proper-sym (rw e at c)) f))
 
-        pub cuts-answer : (j : Domains) (rows₂ r : List ℕ) (b : Bool) → Outcome (FilledWith (CutAll s 2 a)) (CutOf s 2 a starts) i q₁ j rows₂ r b
+        pub cuts-answer : (j : Domains) (rows₂ r : List ℕ) (b : Bool) → NarrowedIf (FilledWith (CutAll s 2 a)) (CutOf s 2 a starts) i q₁ j rows₂ r b
             → Answer j rows₂ r s b
         cuts-answer j rows₂ r false (long, nil) =
             ((long, same, tt), λ p from c f fit l. let (o, d) = below p (c .measured) f fit l in nil f o d)

@@ -4,7 +4,7 @@ use Rattle.model.specs.Domains.{Domains}
 use Rattle.model.specs.Order.{_⊑_}
 use Rattle.model.proofs.Order.{below-refl, below-trans}
 use Rattle.domains.specs.Queue.{queue-end, Queued, Good, Long}
-use Rattle.domains.specs.Narrowed.{Grown, Narrowed, Refuted, Outcome}
+use Rattle.domains.specs.Narrowed.{Grown, Narrowed, Refuted, NarrowedIf}
 
 pub good-long : {k : Domains} {rows q : List ℕ} → Good k rows q → Long k rows q
 good-long g = record { domains = g .laid .well-formed .long; rows-long = g .laid .mirror .long; queue = g .long }
@@ -50,7 +50,7 @@ refuted-later g none f h b = none f h (g .low f h b)
 
 pub outcome-then : {G D : Domains → Type 0} {k : Domains} {q : List ℕ} {j : Domains} {rows r : List ℕ}
     (E F : Domains → Type 0) (l : Domains) (rows′ s : List ℕ) (b : Bool)
-    → 1 ≤ queue-end q → Narrowed G D k q j rows r → Outcome G E j r l rows′ s b → (l ⊑ j → D j → E l → F l) → Outcome G F k q l rows′ s b
+    → 1 ≤ queue-end q → Narrowed G D k q j rows r → NarrowedIf G E j r l rows′ s b → (l ⊑ j → D j → E l → F l) → NarrowedIf G F k q l rows′ s b
 outcome-then E F l rows′ s true least g f done = narrowed-then least g f done
 outcome-then E F l rows′ s false least g (long, none) done = (long, refuted-later g none)
 
@@ -60,6 +60,6 @@ pub narrowed-as : {G G′ D D′ : Domains → Type 0} {k : Domains} {q : List �
 narrowed-as asked done g = record { grown = g .grown; low = λ f h b. g .low f (asked f h b) b; done = done (g .grown .less) (g .done) }
 
 pub outcome-as : (G G′ D D′ : Domains → Type 0) (k : Domains) (q : List ℕ) (j : Domains) (rows r : List ℕ) (b : Bool)
-    → ((f : Domains) → G′ f → f ⊑ k → G f) → (j ⊑ k → D j → D′ j) → Outcome G D k q j rows r b → Outcome G′ D′ k q j rows r b
+    → ((f : Domains) → G′ f → f ⊑ k → G f) → (j ⊑ k → D j → D′ j) → NarrowedIf G D k q j rows r b → NarrowedIf G′ D′ k q j rows r b
 outcome-as G G′ D D′ k q j rows r true asked done g = narrowed-as asked done g
 outcome-as G G′ D D′ k q j rows r false asked done (long, none) = (long, λ f h b. none f (asked f h b) b)

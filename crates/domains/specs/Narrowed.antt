@@ -28,9 +28,9 @@ abbrev pub Refuted : (Domains → Type 0) → Domains → Type 0
 Refuted G k = (f : Domains) → G f → f ⊑ k → ⊥
 
 -- a function answers true where it has narrowed, and false where there is nothing to be had
-abbrev pub Outcome : (Domains → Type 0) → (Domains → Type 0) → Domains → List ℕ → Domains → List ℕ → List ℕ → Bool → Type 0
-Outcome G D k q j rows r true = Narrowed G D k q j rows r
-Outcome G D k q j rows r false = Long j rows r × Refuted G k
+abbrev pub NarrowedIf : (Domains → Type 0) → (Domains → Type 0) → Domains → List ℕ → Domains → List ℕ → List ℕ → Bool → Type 0
+NarrowedIf G D k q j rows r true = Narrowed G D k q j rows r
+NarrowedIf G D k q j rows r false = Long j rows r × Refuted G k
 
 -- D is done, and every pair has a relation left
 pub record FilledWith (D : Domains → Type 0) (f : Domains) : Type 0 where
@@ -42,14 +42,14 @@ abbrev pub RemovedOnly : (Domains → Type 0) → Domains → List ℕ → Domai
 RemovedOnly D = Narrowed D D
 
 abbrev pub RemovedIf : (Domains → Type 0) → Domains → List ℕ → Domains → List ℕ → List ℕ → Bool → Type 0
-RemovedIf D = Outcome (FilledWith D) D
+RemovedIf D = NarrowedIf (FilledWith D) D
 
 -- For contracts: an array that a function is lent, at its entry and at its exit; then the above of its domains, rows and queue, from entry to exit
 abbrev pub LentArray : Type 0
 LentArray = Both (RefT (List ℕ)) (RefT (List ℕ))
 
 abbrev pub NarrowsIf : (Domains → Type 0) → (Domains → Type 0) → LentArray → LentArray → LentArray → Bool → Type 0
-NarrowsIf G D k rows queue = Outcome G D (now (k .entry)) (now (queue .entry)) (now (k .exit)) (now (rows .exit)) (now (queue .exit))
+NarrowsIf G D k rows queue = NarrowedIf G D (now (k .entry)) (now (queue .entry)) (now (k .exit)) (now (rows .exit)) (now (queue .exit))
 
 abbrev pub Removes : (Domains → Type 0) → LentArray → LentArray → LentArray → Type 0
 Removes D k rows queue = RemovedOnly D (now (k .entry)) (now (queue .entry)) (now (k .exit)) (now (rows .exit)) (now (queue .exit))

@@ -14,7 +14,7 @@ use Rattle.model.proofs.Without.{without-less, without-above, without-well-form
 use Rattle.domains.specs.Bits.{bit-at}
 use Rattle.domains.specs.Rows.{row-at}
 use Rattle.domains.specs.Queue.{Good, Long}
-use Rattle.domains.specs.Narrowed.{Grown, Outcome, All, Asked, Askable, Left}
+use Rattle.domains.specs.Narrowed.{Grown, NarrowedIf, All, Asked, Askable, Left}
 use Rattle.nodes.specs.Choice.{branch-by, Branchable, Branched}
 use Rattle.domains.specs.declared.Place.{Place}
 use Rattle.domains.proofs.BitLaws.{bit-or, bit-power}
@@ -101,7 +101,7 @@ module _ {k e : Domains} {a u v s : ℕ} {P : ℕ → Type 0} (w : Proper 10 a u
   asked : Filled e → Asked a u s e
   asked f = record { all = λ x y hx hy b. let (p, q) = h .only x y hy b in rw q (t .all x p); filled = f }
 
-  pub exact : (q : List ℕ) (j : Domains) (rows r : List ℕ) (b : Bool) → Outcome (Asked a u s) (All a u s) k q j rows r b → Exact e k q j rows r b
+  pub exact : (q : List ℕ) (j : Domains) (rows r : List ℕ) (b : Bool) → NarrowedIf (Asked a u s) (All a u s) k q j rows r b → Exact e k q j rows r b
   exact q j rows r true n =
       let up = t .above j (n .grown .less) (λ x p. let (hx, b) = h .has x p in n .done x v hx (w .item-v) b) in
       let full = filled-more j e up (n .grown .good .laid .filled) in
@@ -150,7 +150,7 @@ module _ {k : Domains} {rows q : List ℕ} {c : Place} (g : Branchable k rows q 
   -- the row of overlap tells which branch it is
   pub branched : (o s : Bool) → bit-at (row-at rows (c .axis) (c .u)) (c .v) ≡ not o → {second : Bool} → second ≡ s → {P : ℕ → Type 0} {items : ℕ}
       → Taken k (c .axis) (c .u) (c .v) P (branch-at o (branch-by s) k (c .axis) (c .u) (c .v)) → SetOf items (c .v) P
-      → {j : Domains} {rows′ r : List ℕ} (b : Bool) → Outcome (Asked (c .axis) (c .u) items) (All (c .axis) (c .u) items) k (set q 0 1) j rows′ r b
+      → {j : Domains} {rows′ r : List ℕ} (b : Bool) → NarrowedIf (Asked (c .axis) (c .u) items) (All (c .axis) (c .u) items) k (set q 0 1) j rows′ r b
       → Branched k q c second j rows′ r
   unfolding gone
   branched o s is-o {second} is-s t h {j} {rows′} {r} b n =

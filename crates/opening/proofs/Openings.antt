@@ -14,7 +14,7 @@ use Rattle.model.specs.Relations.{without}
 use Rattle.model.proofs.Order.{below-refl, below-trans}
 use Rattle.model.proofs.Without.{fix-before-less}
 use Rattle.domains.specs.Queue.{queue-end, Good, Long}
-use Rattle.domains.specs.Narrowed.{Grown, Narrowed, Refuted, Outcome, All, Asked, Askable}
+use Rattle.domains.specs.Narrowed.{Grown, Narrowed, Refuted, NarrowedIf, All, Asked, Askable}
 use Rattle.opening.specs.Openings.{first-fixed, FixedIf}
 use Rattle.domains.proofs.Narrowed.{grown-none, grown-then}
 use Rattle.nodes.proofs.BranchRemovals.{taken-one, taken-more, SetOf, set-one, set-more, askable, filled-more, Exact, exact}
@@ -69,7 +69,7 @@ module _ {m : ℕ} {os : List Precedence} {k : Domains} {q : List ℕ} {i : ℕ}
       fixable = (f .grown .good, askable next-proper of-both)
 
       fixed : (l : Domains) (rows′ z : List ℕ) (b : Bool)
-          → Outcome (Asked 2 (o .predecessor) (bitOr x y)) (All 2 (o .predecessor) (bitOr x y)) j r l rows′ z b → Exact next j r l rows′ z b
+          → NarrowedIf (Asked 2 (o .predecessor) (bitOr x y)) (All 2 (o .predecessor) (bitOr x y)) j r l rows′ z b → Exact next j r l rows′ z b
       unfolding fix-before without
       fixed = exact next-proper (taken-more next-proper (taken-one next-proper (f .grown .good .laid .well-formed) 2) 0) of-both r
 

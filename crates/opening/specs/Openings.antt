@@ -8,7 +8,7 @@ use Rattle.model.specs.Relations.{gone, Filled, Untouched}
 use Rattle.model.specs.Toward.{Direction}
 use Rattle.model.specs.Run.{look}
 use Rattle.domains.specs.Queue.{Long}
-use Rattle.domains.specs.Narrowed.{Grown, Narrowed, Refuted}
+use Rattle.domains.specs.Narrowed.{Grown, Narrowed, Refuted, FilledWith}
 use Rattle.chains.specs.Totals.{table, capacity-at}
 use Rattle.parts.specs.declared.Precedence.{Precedence}
 use Rattle.instance.specs.Meaning.{precedence-of}
@@ -30,9 +30,8 @@ abbrev pub PairsCut : List ℕ → Domains → Type 0
 PairsCut t f = (a u v : ℕ) → Proper 10 a u v → capacity-at t a < table t 2 a u + table t 1 a v → gone f 1 a u v ≡ true
 
 -- and every pair has a relation left
-pub record PairsAsked (t : List ℕ) (f : Domains) : Type 0 where
-  pub all : PairsCut t f
-  pub filled : Filled f
+abbrev pub PairsAsked : List ℕ → Domains → Type 0
+PairsAsked t = FilledWith (PairsCut t)
 
 -- the totals are 0 past n items
 abbrev pub Past : List ℕ → ℕ → Type 0

@@ -17,7 +17,7 @@ use Rattle.model.proofs.Toward.{by-direction, closed-wider}
 use Rattle.domains.specs.Bits.{bit-at}
 use Rattle.domains.specs.Rows.{row-at, Mirror}
 use Rattle.domains.specs.Queue.{SamePair, queue-end, Good}
-use Rattle.domains.specs.Narrowed.{Narrowed, Refuted, Outcome}
+use Rattle.domains.specs.Narrowed.{Narrowed, Refuted, NarrowedIf}
 use Rattle.rules.specs.Worked.{Clauses, Handled, HandledIf, Paths, Diagonal, Overlapping}
 use Rattle.chains.specs.Totals.{Tabled, Fitting}
 use Rattle.chains.specs.NewLinks.{Charted, Extended, ExtendedAlong, KeptIf}
@@ -130,7 +130,7 @@ unordered {k} {a = a} {u} {v} s good tabled e =
 -- Rules 1 and 4: a filled pair is not known both to overlap and not to
 module _ {k : Domains} {rows q : List ℕ} (good : Good k rows q) {a u v : ℕ} (w : Proper 10 a u v) where
   pub across-all : gone k 0 a u v ≡ true → (j : Domains) (rows′ r : List ℕ) (b : Bool)
-      → HandledIf (Diagonal a u v) k q j rows′ r b → Outcome Lawful (Overlapped a u v k) k q j rows′ r b
+      → HandledIf (Diagonal a u v) k q j rows′ r b → NarrowedIf Lawful (Overlapped a u v k) k q j rows′ r b
   unfolding says
   across-all e j rows′ r b =
       outcome-as Lawful Lawful (Handled (Diagonal a u v) k) (Overlapped a u v k) k q j rows′ r b (λ f h b. h)
@@ -138,7 +138,7 @@ module _ {k : Domains} {rows q : List ℕ} (good : Good k rows q) {a u v : ℕ} 
 
   module _ (left : gone k 0 a u v ≡ false) where
     pub along-all : (j : Domains) (rows′ r : List ℕ) (b : Bool) → HandledIf (Overlapping a u v) k q j rows′ r b
-        → Outcome Lawful (Overlapped a u v k) k q j rows′ r b
+        → NarrowedIf Lawful (Overlapped a u v k) k q j rows′ r b
     along-all j rows′ r b =
         outcome-as Lawful Lawful (Handled (Overlapping a u v) k) (Overlapped a u v k) k q j rows′ r b (λ f h b. h)
         (λ less done. record { across = λ h. absurd (clash h left); along = λ h. done })
@@ -159,7 +159,7 @@ module _ {k : Domains} {q t : List ℕ} {a u v : ℕ} {k₁ : Domains} {rows₁ 
     (least : 1 ≤ queue-end q) (w : Proper 10 a u v)
     (e : KeptIf t k₁ rows₁ q₁ s true × ExtendedAlong a u v k q t k₁ rows₁ q₁ s true)
     (f : Narrowed Lawful (Handled (Paths a u v) k₁) k₁ q₁ k₂ rows₂ q₂) where
-  pub worked-all : (j : Domains) (rows r : List ℕ) (b : Bool) → Outcome Lawful (Overlapped a u v k₂) k₂ q₂ j rows r b
+  pub worked-all : (j : Domains) (rows r : List ℕ) (b : Bool) → NarrowedIf Lawful (Overlapped a u v k₂) k₂ q₂ j rows r b
       → KeptIf t j rows r s b × WorkedOff a u v k q t j rows r s b
   worked-all j rows r false (long, nil) =
       ((long, e .0 .1, tt), λ p from c. extended-refuted c (extended-then c (e .1 p from c) least f) nil)

@@ -12,7 +12,7 @@ use Rattle.model.proofs.Facts.{gone-mono, says-mono, holds-mono, overlaps-sym}
 use Rattle.domains.specs.Bits.{bit-at, Gives, lowest-bit, Lowest, TakenOut}
 use Rattle.domains.specs.Rows.{row-at, Mirror}
 use Rattle.domains.specs.Queue.{queue-end, Good}
-use Rattle.domains.specs.Narrowed.{FilledWith, RemovedIf, All, Asked, Askable, Narrowed, Outcome}
+use Rattle.domains.specs.Narrowed.{FilledWith, RemovedIf, All, Asked, Askable, Narrowed, NarrowedIf}
 use Rattle.rules.specs.Worked.{Handled, Ring, OverlapAll}
 use Rattle.domains.proofs.BitLaws.{bit-and, bit-or, bit-not, bit-power, bit-shl, shl-small, and-small, gives-both, below-three}
 use Rattle.domains.proofs.Mirror.{row-first, OverlapSet, row-overlaps}
@@ -181,7 +181,7 @@ module _ {a q : ℕ} {r s : ℕ → ℕ} {k : Domains} {u : List ℕ} {items lef
   -- one more
   pub rings-one : {t left′ m : ℕ} → Lowest left t → TakenOut left (lowest-bit left) left′ → Neighbours k j a q (r t) (s t) m
       → (i : Domains) (rows′ w : List ℕ) (b : Bool) → RemovedIf (OverlapAll a (r t) m) j v i rows′ w b
-      → Outcome Lawful (λ i. Through 10 items left′ (λ t. Handled (Ring a q (r t) (s t)) k i)) k u i rows′ w b
+      → NarrowedIf Lawful (λ i. Through 10 items left′ (λ t. Handled (Ring a q (r t) (s t)) k i)) k u i rows′ w b
   rings-one {t} {left′} {m} e o n i rows′ w b h =
       outcome-then (Handled (Ring a q (r t) (s t)) k) (λ i. Through 10 items left′ (λ t. Handled (Ring a q (r t) (s t)) k i)) i rows′ w b (c .least) d
       (outcome-as (FilledWith (OverlapAll a (r t) m)) Lawful (OverlapAll a (r t) m) (Handled (Ring a q (r t) (s t)) k) j v i rows′ w b

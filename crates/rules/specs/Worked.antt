@@ -6,7 +6,7 @@ use Rattle.model.specs.Order.{Proper}
 use Rattle.model.specs.Facts.{overlaps, removed, forced, Fact, Holds}
 use Rattle.model.specs.Clauses.{of, Axes, Three, Order, AllHold, Lawful}
 use Rattle.domains.specs.Bits.{bit-at}
-use Rattle.domains.specs.Narrowed.{Outcome, LentArray, NarrowsIf}
+use Rattle.domains.specs.Narrowed.{NarrowedIf, LentArray, NarrowsIf}
 
 -- a set of clauses
 abbrev pub Clauses : Type 1
@@ -18,7 +18,7 @@ Handled H k j = (ps : List Fact) (c : Fact) → H ps c → AllHold k ps → Hold
 
 -- .. and nothing is removed that lawful domains have left, or there are no lawful domains below; the same of a function, from its entry to its exit
 abbrev pub HandledIf : Clauses → Domains → List ℕ → Domains → List ℕ → List ℕ → Bool → Type 0
-HandledIf H k = Outcome Lawful (Handled H k) k
+HandledIf H k = NarrowedIf Lawful (Handled H k) k
 
 abbrev pub HandlesIf : Clauses → LentArray → LentArray → LentArray → Bool → Type 0
 HandlesIf H k = NarrowsIf Lawful (Handled H (now (k .entry))) k
