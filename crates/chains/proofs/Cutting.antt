@@ -3,7 +3,7 @@ use Rattle.prelude.specs.Names.{Bool, true, false, not, _&&_, or-false, and-fal
 use Rattle.prelude.specs.Names.{_%_, _^_, _≤_, _<_, eq-or-lt-of-le, arith, bitAnd, bitOr, bitXor, or-lt, eqb, ltb, pow-lt, eqb-true, lt-ltb, le-ltb}
 use Rattle.prelude.specs.Names.{ltb-true, ltb-false, eq-eqb, ne-eqb, eqb-false, not-true, not-false}
 use Rattle.model.specs.Domains.{Domains}
-use Rattle.model.specs.Order.{Proper, _⊑_}
+use Rattle.model.specs.Order.{_⊑_}
 use Rattle.model.specs.Relations.{gone, converse}
 use Rattle.model.specs.Toward.{Direction}
 use Rattle.model.proofs.Below.{and-both, and-intro, clash, fails, stays}

@@ -8,7 +8,7 @@ use Rattle.model.proofs.Toward.{by-direction}
 use Rattle.model.proofs.Below.{and-both, or-left, or-right, or-case, clash, fails}
 use Rattle.domains.specs.Bits.{bit-at, Gives, lowest-bit, Lowest, TakenOut}
 use Rattle.domains.specs.Rows.{row-at}
-use Rattle.chains.specs.Totals.{table-start, table, capacity-at, Tabled}
+use Rattle.chains.specs.Totals.{table-start, capacity-at, Tabled}
 use Rattle.chains.specs.Links.{total-at, onward, LinkSet, Longer, Raised, none, more, Raises, Bursts, Linkable, Only, From, InRows, On, Plain}
 use Rattle.domains.proofs.BitLaws.{bit-or, bit-zero, bit-power, bit-below, has-bit, taken-rest, gives-in}
 use Rattle.chains.proofs.ChainMeasure.{room, measure-falls}

@@ -11,16 +11,10 @@ use Rattle.model.specs.Domains.{odd}
 use Rattle.model.proofs.Slots.{lt-or-gt}
 use Rattle.domains.specs.Bits.{bit-at, Gives, lowest-bit, TakenOut}
 
--- A test passes or fails, and a relation is one of three
+-- A test passes or fails
 pub true-or-false : (b : Bool) → (b ≡ true) ⊎ (b ≡ false)
 true-or-false true = inl refl
 true-or-false false = inr refl
-
-pub below-three : (P : ℕ → Type 0) → P 0 → P 1 → P 2 → (x : ℕ) → x < 3 → P x
-below-three P p q r zero h = p
-below-three P p q r (suc zero) h = q
-below-three P p q r (suc (suc zero)) h = r
-below-three P p q r (suc (suc (suc x))) h = absurd (omega arith)
 
 -- And, or, exclusive or: what they do to the lowest digit, they do to every bit
 abbrev digit : ℕ → Bool

@@ -1,6 +1,7 @@
 -- One relation is removed, of a pair that has another left; the rows say so too, and the pair goes on the queue.
 use Rattle.prelude.specs.Names.{false, _&&_, and-false, List, _⊎_, inl, inr, ⊎-map, _≢_, _≡_, sym, _∙_, ℕ, _+_, _/_, _%_, _≤_, _<_, ℕ-discrete}
 use Rattle.prelude.specs.Names.{le-refl, arith, getD, length, set, length-set, getD-set-same, getD-set-other}
+use Rattle.model.proofs.Below.{below-three}
 use Rattle.model.specs.Domains.{Domains}
 use Rattle.model.specs.Propagate.{sum}
 use Rattle.model.specs.Order.{Proper, WellFormed}
@@ -11,7 +12,6 @@ use Rattle.model.proofs.Without.{without-less, without-above, without-well-form
 use Rattle.domains.specs.Queue.{pair-code, SamePair, Coded, queue-end, pushed, Pushable, Good}
 use Rattle.domains.specs.Narrowed.{RemovedOnly, One, Spare}
 use Rattle.domains.proofs.Mirror.{marked, mirror-one, same-relation}
-use Rattle.domains.proofs.BitLaws.{below-three}
 
 coded : {a u v : ℕ} → Proper 10 a u v → Coded (pair-code a u v)
 coded {a} {u} {v} w =

@@ -1,5 +1,5 @@
 -- Laws of running a reading.
-use Rattle.prelude.specs.Names.{_≡_, refl, sym, ap, _∙_, Bool, true, false, cond, List, [], _∷_, _↔_, ℕ, _+_, _-_, _≤_, arith, length, drop}
+use Rattle.prelude.specs.Names.{_≡_, refl, sym, ap, _∙_, Bool, true, false, cond, List, [], _∷_, _↔_, ℕ, _+_, _≤_, arith, length, drop}
 use Rattle.prelude.specs.Names.{length-drop}
 use Rattle.refusal.specs.declared.Refusal.{Refusal}
 use Rattle.formats.specs.Reading.{Reading, done, due, at-place, refuse-if, end, _>>=_, Read, got, refused, run, read-as}

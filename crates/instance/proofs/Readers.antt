@@ -1,5 +1,5 @@
 -- What the sheet's readings give, field by field: the equations that the readers' proofs cite; and the draft that the fields go into.
-use Rattle.prelude.specs.Names.{_≡_, refl, cond, List, [], _∷_, ℕ, _-_, _≤_, _<_, arith, leb, length, getD, drop}
+use Rattle.prelude.specs.Names.{_≡_, refl, cond, List, [], _∷_, ℕ, _≤_, _<_, arith, leb, length, getD, drop}
 use Rattle.refusal.specs.declared.Refusal.the-variants.{EndsEarly, UnknownBit, TrailingBytes}
 use Rattle.formats.specs.Reading.{done, end, got, refused, run, _>>=_, read-as}
 use Rattle.formats.specs.Formats.{byte, testing, tested, keyed, whole}

@@ -1,5 +1,5 @@
 -- Reading and writing undo one another.
-use Rattle.prelude.specs.Names.{true, List, [], _≡_, refl, sym, ap, _∙_, ℕ, _-_, arith, length, length-append, length-replicate, take-append-seam}
+use Rattle.prelude.specs.Names.{true, List, [], _≡_, refl, sym, ap, _∙_, ℕ, arith, length, length-append, length-replicate, take-append-seam}
 use Rattle.formats.specs.Reading.{Bytes, got, run}
 use Rattle.formats.specs.Formats.{whole}
 use Rattle.formats.proofs.Run.{read-as-got}

@@ -1,5 +1,5 @@
 -- Counted rows: a count and a row; and the first entries of a filled array.
-use Rattle.prelude.specs.Names.{_≡_, refl, ap, Bool, true, false, _||_, true≢false, or-true, List, [], _∷_, ℕ, _-_, _≤_, _<_, arith, eqb, ltb, length}
+use Rattle.prelude.specs.Names.{_≡_, refl, ap, Bool, true, false, _||_, true≢false, or-true, List, [], _∷_, ℕ, _≤_, _<_, arith, eqb, ltb, length}
 use Rattle.prelude.specs.Names.{take, length-append, length-take, length-replicate, lt-ltb}
 use Rattle.formats.specs.Reading.{got, run, _>>=_}
 use Rattle.formats.specs.Formats.{Format, Test, byte, testing, tested, keyed, row-reading, row, count, counted}

@@ -1,5 +1,5 @@
 -- A path has at most two first branches for each of the 45 pairs, and its branching pairs never go back in number.
-use Rattle.prelude.specs.Names.{Bool, true, false, not, cond, _||_, List, [], _∷_, _≡_, refl, sym, _∙_, ap, ℕ, suc, _+_, _*_, _-_, _≤_, _<_, decLt}
+use Rattle.prelude.specs.Names.{Bool, true, false, not, cond, _||_, List, [], _∷_, _≡_, refl, sym, _∙_, ap, ℕ, suc, _+_, _*_, _≤_, _<_, decLt}
 use Rattle.prelude.specs.Names.{arith, length, not-true, not-false}
 use Rattle.model.specs.Below.{all-below}
 use Rattle.model.specs.Problem.{Problem}

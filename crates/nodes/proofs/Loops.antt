@@ -12,13 +12,6 @@ pub written : {A : Type 0} (d : A) (P : ℕ → A → Type 0) (l : List A) (i : 
 written d P l i v room new other x =
     elim (ℕ-discrete x i) [ yes q ↦ rw (q, getD-set-same l i v d room) new | no q ↦ rw (getD-set-other l i x v d q) (other x q) ]
 
--- what holds on each axis
-pub by-axis : (P : ℕ → Type 0) → P 0 → P 1 → P 2 → (a : ℕ) → a < 3 → P a
-by-axis P x y z zero h = x
-by-axis P x y z (suc zero) h = y
-by-axis P x y z (suc (suc zero)) h = z
-by-axis P x y z (suc (suc (suc a))) h = absurd (omega arith)
-
 -- A list of one value
 pub blank-at : {A : Type 0} (x : A) (m i : ℕ) → getD (replicate m x) i x ≡ x
 blank-at x zero i = refl

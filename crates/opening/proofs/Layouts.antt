@@ -1,5 +1,6 @@
 -- An instance's measures beside the totals of chains, item by item.
 use Rattle.prelude.specs.Names.{List, [], _≡_, refl, sym, _∙_, _≢_, ℕ, _+_, _*_, _%_, _<_, decLt, arith, getD, set, length, length-set, replicate}
+use Rattle.model.proofs.Below.{below-three}
 use Rattle.model.specs.Problem.{Problem}
 use Rattle.model.specs.Wide.{wide}
 use Rattle.model.proofs.Toward.{by-direction}
@@ -9,7 +10,7 @@ use Rattle.parts.specs.declared.Item.{Item}
 use Rattle.parts.specs.declared.Size.{Size}
 use Rattle.instance.specs.declared.Instance.{Instance}
 use Rattle.instance.specs.Meaning.{measure-on, problem-of}
-use Rattle.nodes.proofs.Loops.{blank-at, written, by-axis}
+use Rattle.nodes.proofs.Loops.{blank-at, written}
 use Rattle.chains.specs.Totals.{table, measure-at, capacity-at}
 use Rattle.opening.specs.Layout.{put, put-item, LaidOut}
 
@@ -105,7 +106,7 @@ unfolding problem-of wide
 laid-all i u e out = record {
   long = out .long;
   small = out .small;
-  capacity = λ a ha. out .capacity a ha ∙ by-axis (λ a. capacity-at (no-items (i .container)) a ≡ measure-on a (i .container)) refl refl refl a ha;
+  capacity = λ a ha. out .capacity a ha ∙ below-three (λ a. capacity-at (no-items (i .container)) a ≡ measure-on a (i .container)) refl refl refl a ha;
   size = λ a w ha hw. rw e at (out .size a w ha hw);
   alone = out .alone;
 }

@@ -2,7 +2,7 @@
 use Rattle.prelude.specs.Names.{true, not, _&&_, List, [], _∷_, List·Memᴰ, List·Memᴰ·head, List·Memᴰ·tail, _≡_, refl, ap, ℕ, zero, suc, _≤_, _<_}
 use Rattle.prelude.specs.Names.{arith, length, getD, getD-take, length-take-le, leb-true, ltb-true, lt-ltb, eqb-false, ne-eqb, not-true}
 use mathlib.Core.List.{Memᴰ·of-map}
-use Rattle.model.proofs.Below.{and-both, and-intro}
+use Rattle.model.proofs.Below.{and-both, and-intro, below-three}
 use Rattle.model.specs.Admits.{Sound}
 use Rattle.model.specs.Order.{Proper}
 use Rattle.parts.specs.Precedences.{names-items, rises, all-allowed}
@@ -15,7 +15,6 @@ use Rattle.parts.specs.declared.Size.{Size}
 use Rattle.instance.specs.Meaning.{measure-on, precedence-of, problem-of}
 use Rattle.instance.specs.Valid.{valid, items-of, precedences-of}
 use Rattle.instance.specs.declared.Instance.{Instance}
-use Rattle.nodes.proofs.Loops.{by-axis}
 use Rattle.model.specs.Problem as M
 
 positive-measures : (s : Size) → positive s ≡ true → (a : ℕ) → a < 3 → 1 ≤ measure-on a s
@@ -23,7 +22,7 @@ unfolding positive
 positive-measures s h =
     let q = and-both _ _ h in
     let r = and-both _ _ (q .1) in
-    by-axis (λ a. 1 ≤ measure-on a s) (leb-true _ _ (q .0)) (leb-true _ _ (r .0)) (leb-true _ _ (r .1))
+    below-three (λ a. 1 ≤ measure-on a s) (leb-true _ _ (q .0)) (leb-true _ _ (r .0)) (leb-true _ _ (r .1))
 
 sizes-positive : (l : List Item) → all-have-size l ≡ true → (u : ℕ) → u < length l → positive (getD l u no-item .size) ≡ true
 unfolding all-have-size

@@ -6,7 +6,7 @@ use Rattle.model.specs.Order.{Proper, _⊑_}
 use Rattle.model.specs.Relations.{gone}
 use Rattle.model.specs.Facts.{overlaps, removed, Fact, says, Holds}
 use Rattle.model.specs.Clauses.{of, g1, AllHold, Lawful}
-use Rattle.model.proofs.Below.{and-intro, and-both, clash}
+use Rattle.model.proofs.Below.{and-intro, and-both, clash, below-three}
 use Rattle.model.proofs.Order.{below-refl}
 use Rattle.model.proofs.Facts.{gone-mono, says-mono, holds-mono, overlaps-sym}
 use Rattle.domains.specs.Bits.{bit-at, Gives, lowest-bit, Lowest, TakenOut}
@@ -14,7 +14,7 @@ use Rattle.domains.specs.Rows.{row-at, Mirror}
 use Rattle.domains.specs.Queue.{queue-end, Good}
 use Rattle.domains.specs.Narrowed.{FilledWith, RemovedIf, All, Asked, Askable, Narrowed, NarrowedIf}
 use Rattle.rules.specs.Worked.{Handled, Ring, OverlapAll}
-use Rattle.domains.proofs.BitLaws.{bit-and, bit-or, bit-not, bit-power, bit-shl, shl-small, and-small, gives-both, below-three}
+use Rattle.domains.proofs.BitLaws.{bit-and, bit-or, bit-not, bit-power, bit-shl, shl-small, and-small, gives-both}
 use Rattle.domains.proofs.Mirror.{row-first, OverlapSet, row-overlaps}
 use Rattle.domains.proofs.Narrowed.{narrowed-as, outcome-then, outcome-as}
 use Rattle.domains.proofs.Through.{Through, through-one, through-all}

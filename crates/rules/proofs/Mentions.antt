@@ -1,6 +1,7 @@
 -- Every clause with a premise of u and v is, up to its symmetries, among those that working the pair off looks at.
 use Rattle.prelude.specs.Names.{true, List, _⊎_, inl, inr, _≡_, refl, sym, _∙_, ℕ, _<_, ℕ-discrete, arith}
 use mathlib.Core.Logic.{⊎-swap}
+use Rattle.model.proofs.Below.{below-three}
 use Rattle.model.specs.Domains.{Domains}
 use Rattle.model.specs.Order.{Proper}
 use Rattle.model.specs.Relations.{gone, converse}
@@ -11,7 +12,6 @@ use Rattle.model.proofs.Facts.{gone-converse, forced-converse}
 use Rattle.domains.specs.Queue.{SamePair}
 use Rattle.rules.specs.Worked.{Handled, PathFrom, Paths, next-axis, Third, Diagonal, Overlapping}
 use Rattle.rules.specs.Mentions.{Mentions, Mentioning}
-use Rattle.domains.proofs.BitLaws.{below-three}
 use Rattle.rules.proofs.Triangles.{either-order}
 use Rattle.rules.proofs.OnAxes.{axes-next, axes-swap}
 use Rattle.rules.proofs.Cycles.{overlap-converse, ring-of, ring-premises}

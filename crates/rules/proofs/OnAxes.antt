@@ -1,16 +1,16 @@
 -- Rule 1: overlap known on two axes is removed on the third. The axes stand in a circle.
-use Rattle.prelude.specs.Names.{Bool, true, false, _&&_, List, _≢_, _≡_, refl, sym, _∙_, ℕ, _+_, _*_, _^_, _<_, arith, eqb, eqb-true, eq-eqb, ne-eqb}
+use Rattle.prelude.specs.Names.{Bool, true, false, List, _≢_, _≡_, refl, sym, _∙_, ℕ, _+_, _*_, _^_, _<_, arith, eqb, eqb-true, eq-eqb, ne-eqb}
 use Rattle.model.specs.Domains.{Domains}
 use Rattle.model.specs.Order.{Proper}
 use Rattle.model.specs.Facts.{overlaps, says, Holds}
 use Rattle.model.specs.Clauses.{of, Axes, c3, Lawful}
-use Rattle.model.proofs.Below.{clash}
+use Rattle.model.proofs.Below.{clash, below-three}
 use Rattle.domains.specs.Bits.{bit-at}
 use Rattle.domains.specs.Rows.{row-at}
 use Rattle.domains.specs.Queue.{Good}
 use Rattle.domains.specs.Narrowed.{All, Asked, Askable, Narrowed, RemovedIf}
 use Rattle.rules.specs.Worked.{next-axis, Handled, HandledIf, Third}
-use Rattle.domains.proofs.BitLaws.{bit-power, below-three}
+use Rattle.domains.proofs.BitLaws.{bit-power}
 use Rattle.domains.proofs.Narrowed.{narrowed-none, outcome-as}
 use Rattle.rules.proofs.Handling.{lawful-holds}
 use Rattle.domains.proofs.Mirror.{OverlapSet, row-overlaps}

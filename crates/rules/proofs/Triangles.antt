@@ -8,7 +8,7 @@ use Rattle.model.specs.Order.{Proper, _⊑_}
 use Rattle.model.specs.Relations.{gone}
 use Rattle.model.specs.Facts.{says}
 use Rattle.model.specs.Clauses.{Three, Order, d2, d1-far, d1-near, Lawful}
-use Rattle.model.proofs.Below.{and-intro, and-both, and-first, or-case}
+use Rattle.model.proofs.Below.{and-intro, and-both, and-first, or-case, below-three}
 use Rattle.model.proofs.Slots.{proper-sym}
 use Rattle.model.proofs.Facts.{gone-converse}
 use Rattle.domains.specs.Bits.{bit-at, Gives}
@@ -19,7 +19,7 @@ use Rattle.rules.specs.Worked.{Clauses, Handled, HandledIf, PathFrom, Pa
 use Rattle.domains.proofs.Narrowed.{outcome-as}
 use Rattle.rules.proofs.Handling.{lawful-holds, Either, worked-then}
 use Rattle.model.proofs.Domains.{gone-distinct}
-use Rattle.domains.proofs.BitLaws.{true-or-false, bit-and, bit-or, bit-zero, bit-shl, shl-small, bit-mask, and-small, below-three}
+use Rattle.domains.proofs.BitLaws.{true-or-false, bit-and, bit-or, bit-zero, bit-shl, shl-small, bit-mask, and-small}
 use Rattle.domains.proofs.Mirror.{row-first}
 
 -- an order is one of two

@@ -1,6 +1,7 @@
 -- A packing as a value.
 use Rattle.prelude.specs.Names.{List, _⊎_, inl, inr, _≡_, refl, sym, ap, _∙_, ℕ, _≤_, _<_, decLt, arith, length, getD, ext-getD, lt-ltb}
 use Rattle.prelude.specs.Names.{le-ltb}
+use Rattle.model.proofs.Below.{below-three}
 use Rattle.model.specs.Admits.{Sound}
 use Rattle.model.specs.Branching.{Branch, path-domains, starts, plan}
 use Rattle.model.specs.Domains.{Domains}
@@ -10,7 +11,6 @@ use Rattle.instance.specs.Meaning.{start, positions-of}
 use Rattle.instance.specs.Values.{origin}
 use Rattle.instance.specs.declared.Packing.{Packing}
 use Rattle.instance.specs.declared.Position.{Position}
-use Rattle.nodes.proofs.Loops.{by-axis}
 use Rattle.search.specs.Results.{position-of, packing-of}
 
 -- a value that has a packing's positions at its items, and 0 past them, is the packing's value
@@ -37,7 +37,7 @@ pub packing-back : (p : Problem) → p .items ≤ 10 → (q : Positions) (a u : 
 unfolding positions-of packing-of
 packing-back p l q a u la lu =
     rw (ten-at (position-of (p .items) q) u (omega arith), lt-ltb u (p .items) lu)
-    (by-axis (λ a. start a (record { x = q 0 u; y = q 1 u; t = q 2 u }) ≡ q a u) refl refl refl a la)
+    (below-three (λ a. start a (record { x = q 0 u; y = q 1 u; t = q 2 u }) ≡ q a u) refl refl refl a la)
 
 -- the packing of a path's greatest chains is its plan
 pub plan-is : (p : Problem) (path : List Branch) (k : Domains) → k ≡ path-domains p path → (r : Packing) → length (r .positions) ≡ 10

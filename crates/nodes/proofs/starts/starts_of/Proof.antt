@@ -1,10 +1,11 @@
 -- `nodes::starts::starts_of` meets its contract. Invariant: the positions below u are placed, the others 0. Measure: the items left.
 use Rattle.prelude.specs.Names.{arith, _≡_, refl, _∙_, ℕ, _+_, _-_, _≤_, _<_, List, getD, length, length-set}
+use Rattle.model.proofs.Below.{below-three}
 use Rattle.instance.specs.declared.Position.{Position}
 use Rattle.instance.specs.Meaning.{start, positions-of}
 use Rattle.instance.specs.Values.{origin}
 use Rattle.nodes.specs.Starts.{start-at}
-use Rattle.nodes.proofs.Loops.{blank-at, written, by-axis}
+use Rattle.nodes.proofs.Loops.{blank-at, written}
 use Rattle.nodes.proofs.starts.starts_of.Tie as tie
 
 -- what stands at x where the items below u are placed
@@ -27,7 +28,7 @@ loop-again c =
       length-set (l .positions) (l .u) _ ∙ l .inv .1,
       written origin (Placed (s .args .t .now) (l .u + 1)) (l .positions) (l .u) _ room
           (record {
-            placed = λ h. by-axis _ (c .before .before .start-at .ensures) (c .before .start-at2 .ensures) (c .start-at3 .ensures);
+            placed = λ h. below-three _ (c .before .before .start-at .ensures) (c .before .start-at2 .ensures) (c .start-at3 .ensures);
             past = λ h. absurd (omega arith);
           })
           (λ x d. record { placed = λ h. l .inv .2 x .placed (omega arith); past = λ h. l .inv .2 x .past (omega arith) }),

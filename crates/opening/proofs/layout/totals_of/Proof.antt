@@ -2,9 +2,9 @@
 use Rattle.prelude.specs.Names.{needs, arith, _-_, _≤_, _<_}
 use mir.Syntax.{w16}
 use mir.Val.{Fits}
+use Rattle.model.proofs.Below.{below-three}
 use Rattle.opening.specs.Layout.{LaidOut}
 use Rattle.instance.specs.Meaning.{measure-on}
-use Rattle.nodes.proofs.Loops.{by-axis}
 use Rattle.opening.proofs.Layouts.{first-items, no-items, laid-none, laid-next, laid-all}
 use Rattle.opening.proofs.layout.totals_of.Tie as tie
 
@@ -20,7 +20,7 @@ loop-holds c =
     let x : Fits w16 (i .container .width) = search needs in
     let y : Fits w16 (i .container .depth) = search needs in
     let z : Fits w16 (i .container .shifts) = search needs in
-    (omega arith, laid-none (i .container) (i .items) (by-axis (λ a. measure-on a (i .container) < 65536) (x .fits) (y .fits) (z .fits)))
+    (omega arith, laid-none (i .container) (i .items) (below-three (λ a. measure-on a (i .container) < 65536) (x .fits) (y .fits) (z .fits)))
 
 loop-again : tie.Need-loop-again Inv-loop μ-loop
 loop-again c =
@@ -29,7 +29,7 @@ loop-again c =
     let l = c .before .before .before .before .loop in
     let (is, x, y, z) = c .put-item .ensures in
     let room : l .u < 10 = omega (arith, s .pre, c .before .before .before .loop-test .taken) in
-    (omega arith, rw is (laid-next (i .items) (no-items (i .container)) (l .t) (l .u) room (by-axis _ x y z) (l .inv .1)))
+    (omega arith, rw is (laid-next (i .items) (no-items (i .container)) (l .t) (l .u) room (below-three _ x y z) (l .inv .1)))
 
 pub totals-of-spec : {M : Type 1} → Rattle.opening.proofs.layout.totals_of.Statement.statement M
 totals-of-spec = tie.close (tie.spec Inv-loop μ-loop (λ c. search needs) (λ c. search needs) (λ c. search needs) (λ c. search needs)
