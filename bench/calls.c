@@ -8,7 +8,7 @@
 
 #define CALLS 200
 
-static uint8_t sheet[262];
+static uint8_t sheet[HALLPLAN_MAX_SHEET_BYTES + 1];
 static size_t sheet_len;
 static uint8_t steps[HALLPLAN_STEP_BYTES];
 static uint8_t plan[10 * HALLPLAN_PIECE_BYTES];
@@ -52,11 +52,11 @@ static int read_sheet(const char *hex)
 
 int main(void)
 {
-    char name[64], hex[600];
+    char name[64], hex[704];
     unsigned count;
     puts("| sheet | branches deep | opening, ns | there, allowance 0, ns | a branch, ns | a step of 1000 there, ns |");
     puts("|---|---|---|---|---|---|");
-    while (scanf("%63s %599s %u", name, hex, &count) == 3 && read_sheet(hex)) {
+    while (scanf("%63s %703s %u", name, hex, &count) == 3 && read_sheet(hex)) {
         size_t plan_len = 0;
         while (plan_len <= sizeof plan && call((uint8_t[HALLPLAN_NOTE_BYTES]){0}, 0, plan_len) == HALLPLAN_REFUSED + 8) {
             plan_len += HALLPLAN_PIECE_BYTES;

@@ -1,8 +1,9 @@
 /* The casting hall planner, called on bytes: how many pieces a sheet has, whether a plan fits it, and the search for a plan.
  *
- * A sheet is the bytes of document 01, "Sheet bytes" (README.md has one byte by byte). A plan is x, y, t for each piece of the
- * sheet, 2 bytes each, low byte first: HALLPLAN_PIECE_BYTES for each piece. A note is HALLPLAN_NOTE_BYTES bytes: a search opens
- * with all of them 0, and each later call gets the note that the last one left. Steps are HALLPLAN_STEP_BYTES bytes, low byte first.
+ * A sheet is the bytes of document 01, "Sheet bytes", with the lags of document 02 (README.md has one byte by byte). A plan is
+ * x, y, t for each piece of the sheet, 2 bytes each, low byte first: HALLPLAN_PIECE_BYTES for each piece. A note is
+ * HALLPLAN_NOTE_BYTES bytes: a search opens with all of them 0, and each later call gets the note that the last one left. Steps
+ * are HALLPLAN_STEP_BYTES bytes, low byte first.
  *
  * What the caller sees to: no pointer is null, also where its length is 0; no buffer lent to be written shares a byte with
  * another buffer of the same call; nobody else writes the note between calls. Whatever the bytes and lengths are, the functions
@@ -26,7 +27,7 @@ extern "C" {
 
 /* No sheet has more pieces or bytes, and no plan more bytes. */
 #define HALLPLAN_MAX_PIECES 10
-#define HALLPLAN_MAX_SHEET_BYTES 261
+#define HALLPLAN_MAX_SHEET_BYTES 351
 #define HALLPLAN_MAX_PLAN_BYTES (HALLPLAN_MAX_PIECES * HALLPLAN_PIECE_BYTES)
 
 /* A thread with this much stack can call any of the functions. It is measured (tests/stack), not proved. */
@@ -41,8 +42,8 @@ extern "C" {
 #define HALLPLAN_PLACED 1
 #define HALLPLAN_NONE 2
 
-/* A refusal is returned as HALLPLAN_REFUSED plus its number in document 01's table. It writes nothing. The sheet's own refusals,
- * 1 to 7, come first; where a sheet has several faults, it is the first one's. */
+/* A refusal is returned as HALLPLAN_REFUSED plus its number in document 01's table, or document 02's 11. It writes nothing. The
+ * sheet's own refusals, 1 to 7 and 11, come first; where a sheet has several faults, it is the first one's. */
 #define HALLPLAN_REFUSED 100
 #define HALLPLAN_SHEET_ENDS_EARLY 1     /* it ends before a byte that is due */
 #define HALLPLAN_SHEET_UNKNOWN_BIT 2    /* a map byte has a bit without a meaning */
@@ -53,6 +54,7 @@ extern "C" {
 #define HALLPLAN_SHEET_BYTES_AFTER 7    /* bytes after the last field */
 #define HALLPLAN_BAD_LENGTH 8           /* plan_len is not 6 for each piece, note_len not 273, or steps_len not 4 */
 #define HALLPLAN_BAD_NOTE 10            /* the note is not one that this sheet's search can have */
+#define HALLPLAN_SHEET_NO_LAG 11        /* a field of lags in which no lag is above 0 */
 
 /* How many pieces the sheet has, 0 to HALLPLAN_MAX_PIECES; or a refusal. */
 uint32_t hallplan_pieces(const uint8_t *sheet, size_t sheet_len);

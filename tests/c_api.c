@@ -1,5 +1,5 @@
-/* Check, pieces and search as a C client calls them: every row of document 01's "Small halls", alone and as lists of calls with
- * refused calls among them; wrong lengths; damaged notes. The buffers are compared whole, with a guard byte on each side. */
+/* Check, pieces and search as a C client calls them: every row of document 01's "Small halls" and sheets with lags, alone and as lists of
+ * calls with refused calls among them; wrong lengths; damaged notes. The buffers are compared whole, with a guard byte on each side. */
 #include "hallplan.h"
 
 #include <stdio.h>
@@ -30,6 +30,10 @@ struct row {
 #define BOXES "\x05\x05\x3A\x00\x14\x00\x05\x63\x00\x03\x00\x05\x07\x00\x35\x00\x05\x0B\x00\x5A\x00\x05\x1A\x00\x41\x00" \
     "\x07\x01\x03\x01\x04\x02\x00\x02\x01\x02\x03\x03\x00\x04\x03"
 #define TWO_UNITS "\x0F\x02\x00\x02\x00\x02\x00\x02\x00\x00"
+/* Three of 1x1x1 in so many shifts: orders 0,1 0,2 1,2 with lags 1, 5, 0; and the order 0,1 with lag 1. */
+#define LAGS_1_5_0(shifts) "\x5C" shifts "\x00\x03\x00\x00\x00\x03\x00\x01\x00\x02\x01\x02\x01\x05\x00"
+#define LAG_1(shifts) "\x5C" shifts "\x00\x03\x00\x00\x00\x01\x00\x01\x01"
+#define LONGEST_SHEET 351
 
 static const struct row rows[] = {
     {"byte 00 alone", BYTES("\x00"), 0, HALLPLAN_PLACED, 1, {"", ""}, {0}},
@@ -43,11 +47,21 @@ static const struct row rows[] = {
     {"3x1x3; three of 1x1x1; a circle", BYTES("\x1D\x03\x00\x03\x00\x03\x00\x00\x00\x03\x00\x01\x01\x02\x02\x00"), 3, HALLPLAN_NONE, 1, {"", ""}, {0}},
     {"bytes 01 01 00", BYTES("\x01\x01\x00"), 0, REFUSED(3)},
     {"bytes 01 02", BYTES("\x01\x02"), 0, REFUSED(1)},
-    {"bytes 40", BYTES("\x40"), 0, REFUSED(2)},
+    {"bytes 40", BYTES("\x40"), 0, REFUSED(11)},
     {"bytes 00 00", BYTES("\x00\x00"), 0, REFUSED(7)},
     {"bytes 08 00", BYTES("\x08\x00"), 0, REFUSED(4)},
     {"100x1x231; boxes of okp17-4", BYTES("\x1D\x64\x00\xE7\x00" BOXES), 5, HALLPLAN_PLACED, 1, {"", ""}, {0, 0, 211, 0, 0, 53, 0, 0, 0, 0, 0, 121, 0, 0, 56}},
     {"100x1x230; boxes of okp17-4", BYTES("\x1D\x64\x00\xE6\x00" BOXES), 5, HALLPLAN_NONE, 1, {"", ""}, {0}},
+    /* 2 follows 0 directly after 5 shifts: 1 + 5 + 1 = 7 is more than by way of 1 */
+    {"1x1x7; lags 1, 5, 0", BYTES(LAGS_1_5_0("\x07")), 3, HALLPLAN_PLACED, 1, {"", ""}, {0, 0, 0, 0, 0, 2, 0, 0, 6}},
+    {"1x1x6; lags 1, 5, 0", BYTES(LAGS_1_5_0("\x06")), 3, HALLPLAN_NONE, 1, {"", ""}, {0}},
+    /* 2 has no order: the first turns put it after 0 and after 1; in 3 shifts it must stand in the lag; 2 are too few */
+    {"1x1x4; lag 1", BYTES(LAG_1("\x04")), 3, HALLPLAN_PLACED, 3, {"", "0", "00", "00"}, {0, 0, 0, 0, 0, 2, 0, 0, 3}},
+    {"1x1x3; lag 1", BYTES(LAG_1("\x03")), 3, HALLPLAN_PLACED, 1, {"", ""}, {0, 0, 0, 0, 0, 2, 0, 0, 1}},
+    {"1x1x2; lag 1", BYTES(LAG_1("\x02")), 3, HALLPLAN_NONE, 1, {"", ""}, {0}},
+    {"an empty lag field and a byte", BYTES("\x40\x00"), 0, REFUSED(11)},
+    {"a lag field of zeros", BYTES("\x58\x02\x00\x00\x01\x00\x01\x00"), 0, REFUSED(11)},
+    {"a lag field of zeros and a byte", BYTES("\x58\x02\x00\x00\x01\x00\x01\x00\x01"), 0, REFUSED(11)},
 };
 
 static int failed;
@@ -190,8 +204,70 @@ static void checks(void)
     }
 }
 
+/* Check with lags: 1 is due at shift 2, and 2 at 6 and after 1's end. */
+static void checks_with_lags(void)
+{
+    static const uint8_t sheet[] = LAGS_1_5_0("\x07");
+    static const struct {
+        uint8_t starts[3];
+        uint32_t want;
+    } plans[] = {{{0, 2, 6}, HALLPLAN_YES}, {{0, 5, 6}, HALLPLAN_YES}, {{0, 1, 6}, HALLPLAN_NO}, {{0, 2, 5}, HALLPLAN_NO}, {{0, 2, 7}, HALLPLAN_NO}};
+    for (size_t k = 0; k < sizeof plans / sizeof plans[0]; k++) {
+        uint8_t plan[3 * HALLPLAN_PIECE_BYTES] = {0};
+        for (size_t piece = 0; piece < 3; piece++) {
+            plan[HALLPLAN_PIECE_BYTES * piece + 4] = plans[k].starts[piece];
+        }
+        EXPECT("lags", hallplan_check(sheet, sizeof sheet - 1, plan, sizeof plan), plans[k].want);
+        for (size_t len = 0; len < sizeof sheet - 1; len++) {
+            EXPECT("lags, cut", hallplan_check(sheet, len, plan, sizeof plan), HALLPLAN_REFUSED + 1);
+        }
+    }
+}
+
+/* The longest sheet: its pieces, and 1 wherever it is cut; a byte more; lags of 0, whole, cut, and with a byte after them. */
+static void longest_sheet(void)
+{
+    uint8_t sheet[LONGEST_SHEET + 1];
+    size_t at = 0;
+    sheet[at++] = 0x7F;
+    memset(sheet + at, 0xFF, 6);
+    at += 6;
+    sheet[at++] = 10;
+    for (int piece = 0; piece < 10; piece++) {
+        sheet[at++] = 7;
+        memset(sheet + at, 0xFF, 6);
+        at += 6;
+    }
+    sheet[at++] = 90;
+    for (int u = 0; u < 10; u++) {
+        for (int v = 0; v < 10; v++) {
+            if (u != v) {
+                sheet[at++] = (uint8_t)u;
+                sheet[at++] = (uint8_t)v;
+            }
+        }
+    }
+    memset(sheet + at, 0xFF, 2);
+    at += 2;
+    memset(sheet + at, 0xFF, 90);
+    sheet[at + 90] = 0;
+    EXPECT("HALLPLAN_MAX_SHEET_BYTES", HALLPLAN_MAX_SHEET_BYTES, LONGEST_SHEET);
+    EXPECT("the longest sheet", (uint32_t)at + 90, LONGEST_SHEET);
+    EXPECT("the longest sheet", hallplan_pieces(sheet, LONGEST_SHEET), 10);
+    EXPECT("a byte more", hallplan_pieces(sheet, LONGEST_SHEET + 1), HALLPLAN_REFUSED + 7);
+    for (size_t len = 0; len < LONGEST_SHEET; len++) {
+        EXPECT("the longest sheet, cut", hallplan_pieces(sheet, len), HALLPLAN_REFUSED + 1);
+    }
+    memset(sheet + at, 0, 90);
+    for (size_t len = at; len <= LONGEST_SHEET + 1; len++) {
+        EXPECT("lags of 0", hallplan_pieces(sheet, len), HALLPLAN_REFUSED + (len < LONGEST_SHEET ? 1 : 11));
+    }
+    sheet[LONGEST_SHEET - 1] = 1;
+    EXPECT("the last lag alone", hallplan_pieces(sheet, LONGEST_SHEET), 10);
+}
+
 /* Pieces: the number of pieces in each row of the table, or the row's refusal; sheets for 5 and 6, which no row has; 10 pieces, the
- * most, and 11; 1 wherever the printed example is cut. */
+ * most, and 11; 1 wherever the printed example and the sheets with lags are cut. */
 static void pieces(void)
 {
     static const struct {
@@ -213,8 +289,11 @@ static void pieces(void)
     for (size_t k = 0; k < sizeof sheets / sizeof sheets[0]; k++) {
         EXPECT(sheets[k].name, hallplan_pieces((const uint8_t *)sheets[k].sheet, sheets[k].len), sheets[k].want);
     }
-    for (size_t len = 0; len < rows[1].len; len++) {
-        EXPECT("cut", hallplan_pieces(sheet_of(&rows[1]), len), HALLPLAN_REFUSED + 1);
+    for (size_t r = 0; r < sizeof rows / sizeof rows[0]; r++) {
+        int lags = rows[r].sheet[0] >> 6 & 1 && rows[r].answer < HALLPLAN_REFUSED;
+        for (size_t len = 0; (r == 1 || lags) && len < rows[r].len; len++) {
+            EXPECT("cut", hallplan_pieces(sheet_of(&rows[r]), len), HALLPLAN_REFUSED + 1);
+        }
     }
 }
 
@@ -238,7 +317,9 @@ int main(void)
     small_halls();
     small_hall_in_parts();
     checks();
+    checks_with_lags();
     pieces();
+    longest_sheet();
     notes();
     return failed;
 }

@@ -1,7 +1,7 @@
 /* Random and damaged sheets, plans, notes, lengths and allowances, put to check, pieces and search: fuzz SECONDS SEED
  *
  * Every call is made twice on copies of the same bytes: on heap blocks of exactly their length, so that memcheck sees each access
- * outside, and on blocks with guard bytes around them. Both must return and leave the same, and what document 01 allows. */
+ * outside, and on blocks with guard bytes around them. Both must return and leave the same, and what documents 01 and 02 allow. */
 #include "hallplan.h"
 
 #include <stdio.h>
@@ -13,7 +13,9 @@
 #define GUARD_BYTES 32
 #define GUARD 0xA5
 #define MOST_ALLOWANCE 200
-#define NUMBERS 11
+#define NUMBERS 12
+#define LONGEST_SHEET 351
+#define NO_LAG (HALLPLAN_REFUSED + 11)
 
 struct bytes {
     size_t len;
@@ -68,10 +70,10 @@ static void put_size(struct bytes *b, unsigned map, unsigned bound)
     }
 }
 
-static void put_orders(struct bytes *b, unsigned pieces)
+/* Orders of so many pieces, each with one chance in `one_in`: how many. */
+static unsigned put_orders(struct bytes *b, unsigned pieces, unsigned one_in)
 {
     size_t count = b->len;
-    unsigned one_in = 1 + below(3 * pieces);
     put(b, 0);
     for (unsigned u = 0; u < pieces; u++) {
         for (unsigned v = 0; v < pieces; v++) {
@@ -82,12 +84,25 @@ static void put_orders(struct bytes *b, unsigned pieces)
             }
         }
     }
+    return b->at[count];
 }
 
-/* A sheet that mostly reads: the number of its pieces. */
+/* Lags: mostly small, now and then all of them 0. */
+static void put_lags(struct bytes *b, unsigned orders)
+{
+    unsigned bound = below(12) == 0 ? 1 : below(3) ? 4 : 256;
+    for (unsigned i = 0; i < orders; i++) {
+        put(b, below(bound));
+    }
+}
+
+/* A sheet that mostly reads, now and then one of the longest: the number of its pieces. */
 static unsigned make_sheet(struct bytes *sheet)
 {
-    unsigned map = below(8) ? 0x0F | (below(4) << 4) : below(64), pieces = map >> 3 & 1 ? 1 + below(10) : 0, bound = 1 + below(6);
+    static const unsigned maps[] = {0x0F, 0x1F, 0x2F, 0x3F, 0x5F, 0x7F};
+    int full = below(64) == 0;
+    unsigned map = full ? 0x7F : below(8) ? maps[below(6)] : below(128), pieces = map >> 3 & 1 ? full ? 10 : 1 + below(10) : 0;
+    unsigned bound = 1 + below(6), orders = 0;
     sheet->len = 0;
     put(sheet, map);
     put_size(sheet, map, 3 * bound);
@@ -95,17 +110,21 @@ static unsigned make_sheet(struct bytes *sheet)
         put(sheet, pieces);
     }
     for (unsigned u = 0; u < pieces; u++) {
-        unsigned bits = below(8);
+        unsigned bits = full ? 7 : below(8);
         put(sheet, bits);
         put_size(sheet, bits, bound);
     }
     if (map >> 4 & 1 && pieces > 0) {
-        put_orders(sheet, pieces);
+        orders = put_orders(sheet, pieces, full ? 1 : 1 + below(3 * pieces));
     }
     if (map >> 5 & 1) {
         put(sheet, 1 + below(255));
         put(sheet, below(256));
     }
+    if (map >> 6 & 1) {
+        put_lags(sheet, orders);
+    }
+    must(!full || sheet->len == LONGEST_SHEET, "the longest sheet");
     return pieces;
 }
 
@@ -208,7 +227,7 @@ static uint32_t check(const struct bytes *sheet, const struct bytes *plan)
 {
     uint32_t answer = check_on(sheet, plan, 0);
     must(answer == check_on(sheet, plan, GUARD_BYTES), "check answers twice");
-    must(answer <= HALLPLAN_YES || (answer > HALLPLAN_REFUSED && answer <= HALLPLAN_REFUSED + 8), "an answer of check");
+    must(answer <= HALLPLAN_YES || (answer > HALLPLAN_REFUSED && answer <= HALLPLAN_REFUSED + 8) || answer == NO_LAG, "an answer of check");
     checks[answer < 2 ? answer : 2 + answer - HALLPLAN_REFUSED]++;
     return answer;
 }
@@ -228,7 +247,7 @@ static void count_pieces(const struct bytes *sheet, const struct bytes *plan, ui
     uint32_t answer = pieces_on(sheet, 0);
     must(answer == pieces_on(sheet, GUARD_BYTES), "pieces answers twice");
     if (answer > HALLPLAN_REFUSED) {
-        must(answer <= HALLPLAN_REFUSED + 7 && checked == answer, "a refusal of pieces");
+        must((answer <= HALLPLAN_REFUSED + 7 || answer == NO_LAG) && checked == answer, "a refusal of pieces");
     } else {
         must(answer <= 10, "an answer of pieces");
         must((checked == HALLPLAN_REFUSED + 8) == (plan->len != HALLPLAN_PIECE_BYTES * (size_t)answer), "the number of pieces");
@@ -276,7 +295,7 @@ static uint32_t search(const struct bytes *sheet, struct lent *lent, uint32_t al
     must(answer == search_on(sheet, &again, allowance, GUARD_BYTES), "search answers twice");
     must(same(&lent->note, &again.note) && same(&lent->steps, &again.steps) && same(&lent->plan, &again.plan), "search leaves twice");
     if (answer > HALLPLAN_REFUSED) {
-        int numbered = answer <= HALLPLAN_REFUSED + 8 || answer == HALLPLAN_REFUSED + 10;
+        int numbered = answer <= HALLPLAN_REFUSED + 8 || answer == HALLPLAN_REFUSED + 10 || answer == NO_LAG;
         must(numbered, "a refusal of search");
         must(same(&lent->note, &before.note) && same(&lent->steps, &before.steps) && same(&lent->plan, &before.plan), "a refusal wrote");
     } else {
@@ -293,7 +312,7 @@ static void one_case(void)
     unsigned pieces = make_sheet(&sheet);
     switch (below(4)) {
     case 0: damage(&sheet); break;
-    case 1: if (below(4) == 0) make_random(&sheet, 300); break;
+    case 1: if (below(4) == 0) make_random(&sheet, LONGEST_SHEET + 1); break;
     default: break;
     }
     make_plan(&lent.plan, pieces);

@@ -1,9 +1,9 @@
-"""Makes crates/test_vectors/stdin and crates/test_vectors/stdout: cases for reading, writing, item records, check and clearance.
+"""Makes crates/test_vectors/stdin and crates/test_vectors/stdout: cases for reading, writing, item records, check, clearance and runs.
 
     python3 tests/make_vectors.py            writes both files
     python3 tests/make_vectors.py --check    says whether they are what it would write
 
-The expected lines come from tests/reference.py. The cases under "by hand" were worked out from document 01:
+The expected lines come from tests/reference.py. The cases under "by hand" were worked out from document 01 and request #101:
 their lines stand here, and the reference has to agree with them.
 
 A case is an op byte, the payload's length in 2 bytes, and the payload; numbers have the low byte first.
@@ -16,9 +16,12 @@ A case is an op byte, the payload's length in 2 bytes, and the payload; numbers 
     5 clearance   instance, positions, u (8), v (8), axis (1)  clearance N or refused ..
     6 rewrite     a sheet, read and then written               rewritten LENGTH HEX or refused ..
     7 valid       instance                                     valid, not valid
+    8 run         a sheet                                      what the program prints, and an empty line
 
-An instance is 264 bytes: container (6), item count (8), ten items (6 each), precedence count (8), ninety
-precedences (2 each), yard number (2). Positions are ten times x, y, t, 2 bytes each.
+An instance is 354 bytes: container (6), item count (8), ten items (6 each), precedence count (8), ninety
+precedences (3 each: u, v, lag), yard number (2). Positions are ten times x, y, t, 2 bytes each.
+A line `read` is WIDTH DEPTH SHIFTS items N and their measures, precedences M and for each U V, and `lag L` where L is above 0, yard
+NUMBER, rest zero or not zero: whether anything past the counts is other than 0.
 A write gets a room of that many bytes, all of them fill; its HEX is the room and the 4 fill bytes after it.
 """
 
@@ -27,10 +30,11 @@ import sys
 
 import reference
 
-READ, WRITE, RECORD, CHECK, CLEARANCE, REWRITE, VALID = range(1, 8)
-KINDS = ["", "read", "write", "record", "check", "clearance", "rewrite", "valid"]
+READ, WRITE, RECORD, CHECK, CLEARANCE, REWRITE, VALID, RUN = range(1, 9)
+KINDS = ["", "read", "write", "record", "check", "clearance", "rewrite", "valid", "run"]
 GUARD = 4
-MOST_ROOM = 300
+MOST_ROOM = 400
+MOST_STDIN = 1048576
 MOST_PAYLOAD = 16384
 
 cases = []
@@ -40,14 +44,19 @@ lines = []
 # Values and their bytes
 
 
+def order(entries):
+    """u, v and the lag, which may be left out."""
+    return (list(entries) + [0])[:3]
+
+
 def instance(container, items=(), precedences=(), yard=0):
-    """The instance with these entries, and 0 past them."""
+    """The instance with these entries, and 0 past them. A precedence is u, v or u, v, lag."""
     return {
         "container": list(container),
         "item_count": len(items),
         "items": [list(items[i]) if i < len(items) else [0, 0, 0] for i in range(10)],
         "precedence_count": len(precedences),
-        "precedences": [list(precedences[i]) if i < len(precedences) else [0, 0] for i in range(90)],
+        "precedences": [order(precedences[i] if i < len(precedences) else [0, 0]) for i in range(90)],
         "yard_number": yard,
     }
 
@@ -58,7 +67,7 @@ def copied(value):
         "item_count": value["item_count"],
         "items": [list(item) for item in value["items"]],
         "precedence_count": value["precedence_count"],
-        "precedences": [list(pair) for pair in value["precedences"]],
+        "precedences": [list(precedence) for precedence in value["precedences"]],
         "yard_number": value["yard_number"],
     }
 
@@ -77,10 +86,10 @@ def instance_bytes(value):
     for item in value["items"]:
         out += b"".join(little(m, 2) for m in item)
     out += little(value["precedence_count"], 8)
-    for u, v in value["precedences"]:
-        out += bytes([u, v])
+    for u, v, lag in value["precedences"]:
+        out += bytes([u, v, lag])
     out += little(value["yard_number"], 2)
-    assert len(out) == 264
+    assert len(out) == 354
     return out
 
 
@@ -109,8 +118,8 @@ def read_line(sheet):
     for item in value["items"][:n]:
         words += item
     words += ["precedences", m]
-    for pair in value["precedences"][:m]:
-        words += pair
+    for u, v, lag in value["precedences"][:m]:
+        words += [u, v] + (["lag", lag] if lag > 0 else [])
     words += ["yard", value["yard_number"]]
     rest = [entry for entries in value["items"][n:] + value["precedences"][m:] for entry in entries]
     words += ["rest", "not zero" if any(rest) else "zero"]
@@ -148,9 +157,13 @@ def rewrite_line(sheet):
     value = reference.read(sheet)
     if is_refused(value):
         return refused(value)
-    answer = reference.write(value, 261)
+    answer = reference.write(value, 351)
     assert answer == sheet
     return "rewritten %d %s" % (len(answer), answer.hex())
+
+
+def run_line(sheet):
+    return reference.program(sheet)
 
 
 def add(op, payload, line, expected):
@@ -190,6 +203,10 @@ def add_valid(value, expected=None):
     add(VALID, instance_bytes(value), "valid" if reference.valid(value) else "not valid", expected)
 
 
+def add_run(sheet, expected=None):
+    add(RUN, sheet, run_line(sheet), expected)
+
+
 # By hand: reading
 
 ALL_PAIRS = [(u, v) for u in range(10) for v in range(10) if u != v]
@@ -210,12 +227,12 @@ READ_BY_HAND = [
     ("00", "read 1 1 1 items 0 precedences 0 yard 0 rest zero"),
     ("1D 02 00 02 00 02 01 02 00 00 01 01 00", "read 2 1 2 items 2 2 1 1 1 1 1 precedences 1 1 0 yard 0 rest zero"),
     # the map byte
-    ("40", "refused 2 0"),
+    ("40", "refused 11 1"),
     ("80", "refused 2 0"),
     ("C0", "refused 2 0"),
     ("FF", "refused 2 0"),
-    ("41 02 00", "refused 2 0"),
-    ("48 00", "refused 2 0"),
+    ("41 02 00", "refused 11 3"),
+    ("48 00", "refused 4 1"),
     # the container
     ("01", "refused 1 1"),
     ("01 02", "refused 1 2"),
@@ -397,7 +414,7 @@ def hand_write():
     # entries past the counts are no part of it
     past = copied(example)
     past["items"][2:] = [[0, 7, 65535] for _ in range(8)]
-    past["precedences"][1:] = [[255, 255] for _ in range(89)]
+    past["precedences"][1:] = [[255, 255, 0] for _ in range(89)]
     add_write(past, 13, "written 13 1d020002000201020000010100" + filled(0))
     add_valid(past, "valid")
     for value in (empty, example, FULL):
@@ -416,6 +433,8 @@ def hand_write():
 
 def changed(value, key, at, entry):
     value = copied(value)
+    if key == "precedences":
+        entry = order(entry)
     if at is None:
         value[key] = entry
     else:
@@ -501,7 +520,7 @@ def hand_record():
     add_record(LONGEST + b"\0", 0, "record 7 261")
     add_record(LONGEST[:-1], 0, "record 1 260")
     add_record(LONGEST[:-1], largest, "record 1 260")
-    add_record(bytes.fromhex("40"), 0, "record 2 0")
+    add_record(bytes.fromhex("40"), 0, "record 11 1")
     add_record(bytes.fromhex("080108"), 0, "record 2 2")
     add_record(bytes.fromhex("08020080"), 0, "record 2 3")
     add_record(bytes.fromhex("010100"), 5, "record 3 1")
@@ -569,7 +588,7 @@ def hand_check():
     add_check(chain, packing([0, 0, 0], [1, 0, 2], [2, 0, 2]), "not feasible")
     # precedences past the count are ignored
     ignored = instance([3, 1, 9], [[1, 1, 1]] * 2)
-    ignored["precedences"] = [[0, 1] for _ in range(90)]
+    ignored["precedences"] = [[0, 1, 0] for _ in range(90)]
     add_check(ignored, packing([0, 0, 0], [1, 0, 0]), "feasible")
     # sums above 65,535
     most = [65535] * 3
@@ -651,6 +670,247 @@ def hand_clearance():
     add_clearance(instance([1, 1, 1]), starts, 0, 0, 0, "refused 5 0")
     add_clearance(FULL, packing(), 9, 8, 2, "clearance -65535")
     add_clearance(FULL, packing(), 10, 8, 2, "refused 5 0")
+
+
+# By hand: lags (request #101)
+
+LONGEST_WITH_LAGS = b"\x7f" + LONGEST[1:] + bytes(range(1, 91))
+FULL_WITH_LAGS = instance([65535] * 3, [[65535] * 3] * 10, [pair + (lag,) for lag, pair in enumerate(ALL_PAIRS, 1)], 65535)
+
+LAGS_BY_HAND = [
+    # an empty field: 11 where it would start, before the bytes that follow
+    ("40", "refused 11 1"),
+    ("40 00", "refused 11 1"),
+    ("40 01", "refused 11 1"),
+    ("40 FF FF FF", "refused 11 1"),
+    ("41", "refused 1 1"),
+    ("41 01 00", "refused 3 1"),
+    ("41 02 00 07", "refused 11 3"),
+    ("48", "refused 1 1"),
+    ("48 01", "refused 1 2"),
+    ("48 01 08", "refused 2 2"),
+    ("48 01 00", "refused 11 3"),
+    ("48 01 00 01", "refused 11 3"),
+    ("60", "refused 1 1"),
+    ("60 00", "refused 1 2"),
+    ("60 00 00", "refused 3 1"),
+    ("60 00 00 01", "refused 3 1"),
+    ("60 01 00", "refused 11 3"),
+    ("60 01 00 05", "refused 11 3"),
+    ("68 01 00 07 00", "refused 11 5"),
+    # orders come first
+    ("50", "refused 1 1"),
+    ("50 00", "refused 4 1"),
+    ("50 01 00 01 05", "refused 5 2"),
+    ("58 02 00 00 01 01 01 05", "refused 5 5"),
+    ("58 02 00 00 02 00 01 00 01 05 05", "refused 6 7"),
+    # one lag
+    ("58 02 00 00 01 00 01", "refused 1 7"),
+    ("58 02 00 00 01 00 01 00", "refused 11 7"),
+    ("58 02 00 00 01 00 01 00 00", "refused 11 7"),
+    ("58 02 00 00 01 00 01 00 01", "refused 11 7"),
+    ("58 02 00 00 01 00 01 01 00", "refused 7 8"),
+    ("18 02 00 00 01 00 01 01", "refused 7 7"),
+    ("58 02 00 00 01 00 01 01", "read 1 1 1 items 2 1 1 1 1 1 1 precedences 1 0 1 lag 1 yard 0 rest zero"),
+    ("58 02 00 00 01 00 01 7F", "read 1 1 1 items 2 1 1 1 1 1 1 precedences 1 0 1 lag 127 yard 0 rest zero"),
+    ("58 02 00 00 01 00 01 80", "read 1 1 1 items 2 1 1 1 1 1 1 precedences 1 0 1 lag 128 yard 0 rest zero"),
+    ("58 02 00 00 01 00 01 FF", "read 1 1 1 items 2 1 1 1 1 1 1 precedences 1 0 1 lag 255 yard 0 rest zero"),
+    # two lags: cut, also after a 0; whole fields of zeros; one of the two
+    ("58 02 00 00 02 00 01 01 00", "refused 1 9"),
+    ("58 02 00 00 02 00 01 01 00 00", "refused 1 10"),
+    ("58 02 00 00 02 00 01 01 00 01", "refused 1 10"),
+    ("58 02 00 00 02 00 01 01 00 00 00", "refused 11 9"),
+    ("58 02 00 00 02 00 01 01 00 00 00 00", "refused 11 9"),
+    ("58 02 00 00 02 00 01 01 00 00 00 01", "refused 11 9"),
+    ("58 02 00 00 02 00 01 01 00 00 01 07", "refused 7 11"),
+    ("58 02 00 00 02 00 01 01 00 00 01", "read 1 1 1 items 2 1 1 1 1 1 1 precedences 2 0 1 1 0 lag 1 yard 0 rest zero"),
+    ("58 02 00 00 02 00 01 01 00 02 00", "read 1 1 1 items 2 1 1 1 1 1 1 precedences 2 0 1 lag 2 1 0 yard 0 rest zero"),
+    ("58 02 00 00 02 00 01 01 00 02 03", "read 1 1 1 items 2 1 1 1 1 1 1 precedences 2 0 1 lag 2 1 0 lag 3 yard 0 rest zero"),
+    # after the yard number
+    ("78 02 00 00 01 00 01", "refused 1 7"),
+    ("78 02 00 00 01 00 01 05", "refused 1 8"),
+    ("78 02 00 00 01 00 01 00 00", "refused 3 7"),
+    ("78 02 00 00 01 00 01 00 00 05", "refused 3 7"),
+    ("78 02 00 00 01 00 01 05 00", "refused 1 9"),
+    ("78 02 00 00 01 00 01 05 00 00", "refused 11 9"),
+    ("78 02 00 00 01 00 01 05 00 03", "read 1 1 1 items 2 1 1 1 1 1 1 precedences 1 0 1 lag 3 yard 5 rest zero"),
+    ("78 02 00 00 01 00 01 05 01 03", "read 1 1 1 items 2 1 1 1 1 1 1 precedences 1 0 1 lag 3 yard 261 rest zero"),
+    ("78 02 00 00 01 00 01 05 00 03 00", "refused 7 10"),
+    # bit 7 has no meaning
+    ("C0 00", "refused 2 0"),
+    ("D8 02 00 00 01 00 01 01", "refused 2 0"),
+]
+
+
+def hand_lags_read():
+    for sheet, line in LAGS_BY_HAND:
+        add_read(bytes.fromhex(sheet), line)
+    sheet = LONGEST_WITH_LAGS
+    assert len(sheet) == 351
+    pairs = "".join(" %d %d lag %d" % (u, v, lag) for lag, (u, v) in enumerate(ALL_PAIRS, 1))
+    add_read(sheet, "read 65535 65535 65535 items 10" + " 65535" * 30 + " precedences 90" + pairs + " yard 65535 rest zero")
+    add_rewrite(sheet, "rewritten 351 " + sheet.hex())
+    add_read(sheet + b"\0", "refused 7 351")
+    add_read(sheet + bytes(1000), "refused 7 351")
+    for length in range(261, 351):
+        add_read(sheet[:length], "refused 1 %d" % length)
+    add_read(sheet[:261] + bytes(89), "refused 1 350")
+    add_read(sheet[:261] + bytes(90), "refused 11 261")
+    add_read(sheet[:261] + bytes(91), "refused 11 261")
+    add_read(sheet[:261] + bytes(90) + b"\1", "refused 11 261")
+    pairs = "".join(" %d %d" % pair for pair in ALL_PAIRS)
+    full = "read 65535 65535 65535 items 10" + " 65535" * 30 + " precedences 90" + pairs
+    add_read(sheet[:261] + bytes(89) + b"\1", full + " lag 1 yard 65535 rest zero")
+    add_read(sheet[:259] + b"\0\0" + sheet[261:], "refused 3 259")
+    add_read(LONGEST + sheet[261:], "refused 7 261")
+    for k in (0, 9):
+        add_record(sheet, k, "record 0 0 07ffffffffffff")
+    add_record(sheet, 10, "record 5 0")
+    add_record(sheet[:261] + bytes(90), 0, "record 11 261")
+    add_record(sheet[:350], 0, "record 1 350")
+    add_record(sheet + b"\0", 9, "record 7 351")
+    add_record(bytes.fromhex("58 02 00 01 05 00 01 00 01 09"), 1, "record 0 0 010500")
+    add_record(bytes.fromhex("58 02 00 01 05 00 01 00 01 00"), 1, "record 11 9")
+    add_record(bytes.fromhex("48 01 00"), 0, "record 11 3")
+
+
+def hand_lags_write():
+    example = instance([2, 1, 2], [[2, 1, 1], [1, 1, 1]], [(1, 0, 3)])
+    add_write(example, 14, "written 14 5d02000200020102000001010003" + filled(0))
+    add_write(example, 13, "refused 8 0 " + filled(13))
+    add_write(example, 15, "written 14 5d02000200020102000001010003" + filled(1))
+    add_write(example, 300, "written 14 5d02000200020102000001010003" + filled(286, "00"), fill=0)
+    add_valid(example, "valid")
+    # a field exactly where a lag is above 0, with all of them
+    three = [[1, 1, 1]] * 3
+    head = "03000000" + "03000100020102"
+    add_write(instance([1, 1, 1], three, [(0, 1, 0), (0, 2, 0), (1, 2, 0)]), 12, "written 12 18" + head + filled(0))
+    add_write(instance([1, 1, 1], three, [(0, 1, 1), (0, 2, 5), (1, 2, 0)]), 15, "written 15 58" + head + "010500" + filled(0))
+    add_write(instance([1, 1, 1], three, [(0, 1, 0), (0, 2, 0), (1, 2, 255)]), 15, "written 15 58" + head + "0000ff" + filled(0))
+    add_write(instance([1, 1, 1], three, [(0, 1, 0), (0, 2, 0), (1, 2, 255)]), 14, "refused 8 0 " + filled(14))
+    # the yard number is before it
+    with_yard = instance([1, 1, 1], three, [(0, 1, 128), (0, 2, 0), (1, 2, 127)], 515)
+    add_write(with_yard, 17, "written 17 78" + head + "0302" + "80007f" + filled(0))
+    add_write(FULL_WITH_LAGS, 351, "written 351 " + LONGEST_WITH_LAGS.hex() + filled(0))
+    add_write(FULL_WITH_LAGS, 350, "refused 8 0 " + filled(350))
+    add_write(FULL_WITH_LAGS, 352, "written 351 " + LONGEST_WITH_LAGS.hex() + filled(1))
+    add_write(FULL_WITH_LAGS, 400, "written 351 " + LONGEST_WITH_LAGS.hex() + filled(49))
+    add_valid(FULL_WITH_LAGS, "valid")
+    # lags past the count are no part of it
+    past = instance([2, 1, 2], [[2, 1, 1], [1, 1, 1]], [(1, 0)])
+    past["precedences"][1:] = [[0, 0, 255] for _ in range(89)]
+    add_write(past, 13, "written 13 1d020002000201020000010100" + filled(0))
+    add_valid(past, "valid")
+    past["precedences"][0][2] = 3
+    add_write(past, 14, "written 14 5d02000200020102000001010003" + filled(0))
+    past["precedence_count"] = 0
+    add_write(past, 10, "written 10 0d020002000201020000" + filled(0))
+    add_write(changed(FULL_WITH_LAGS, "precedence_count", None, 0), 261, "written 80 2f" + LONGEST[1:78].hex() + "ffff" + filled(181))
+    # a greater lag does not put an order above the one before
+    for first, second in ((0, 1), (1, 0), (5, 5), (0, 255)):
+        twice = instance([9, 9, 9], three, [(0, 1, first), (0, 1, second)])
+        add_valid(twice, "not valid")
+        add_write(twice, 300, "refused 9 0 " + filled(300))
+        add_check(twice, packing([0, 0, 0], [0, 0, 9]), "refused 9 0")
+    falling = instance([9, 9, 9], three, [(0, 2, 0), (0, 1, 255)])
+    add_valid(falling, "not valid")
+    add_clearance(falling, packing(), 0, 1, 0, "refused 9 0")
+
+
+def hand_lags_check():
+    def two(shifts, lag, starts, line):
+        value = instance([9, 9, shifts], [[2, 2, 2], [3, 3, 3]], [(0, 1, lag)])
+        add_check(value, packing([0, 0, starts[0]], [4, 4, starts[1]]), line)
+
+    # u ends at 2: v may start at 2 + lag, in a hall that has the shifts
+    two(20, 0, (0, 2), "feasible")
+    two(20, 1, (0, 2), "not feasible")
+    two(20, 1, (0, 3), "feasible")
+    two(20, 1, (0, 4), "feasible")
+    two(20, 5, (3, 9), "not feasible")
+    two(20, 5, (3, 10), "feasible")
+    two(12, 5, (3, 10), "not feasible")
+    two(20, 5, (10, 0), "not feasible")
+    two(300, 128, (0, 129), "not feasible")
+    two(300, 128, (0, 130), "feasible")
+    two(300, 255, (0, 256), "not feasible")
+    two(300, 255, (0, 257), "feasible")
+    two(260, 255, (0, 257), "feasible")
+    two(259, 255, (0, 257), "not feasible")
+    two(65535, 255, (65275, 65532), "feasible")
+    two(65535, 255, (65276, 65532), "not feasible")
+    two(65535, 255, (65533, 65532), "not feasible")
+    two(65535, 255, (65533, 65535), "not feasible")
+    # on x and y nothing changes: touching is allowed
+    beside = instance([4, 1, 9], [[2, 1, 2], [2, 1, 2]], [(0, 1, 3)])
+    add_check(beside, packing([0, 0, 0], [2, 0, 5]), "feasible")
+    add_check(beside, packing([2, 0, 0], [0, 0, 5]), "feasible")
+    add_check(beside, packing([0, 0, 0], [0, 0, 5]), "feasible")
+    add_check(beside, packing([0, 0, 0], [2, 0, 4]), "not feasible")
+    # each order has its own lag: 1 is due at 2, and 2 at 6 and after 1's end
+    three = instance([1, 1, 7], [[1, 1, 1]] * 3, [(0, 1, 1), (0, 2, 5), (1, 2, 0)])
+    for starts, line in (
+        ((0, 2, 6), "feasible"),
+        ((0, 5, 6), "feasible"),
+        ((0, 1, 6), "not feasible"),
+        ((0, 2, 5), "not feasible"),
+        ((0, 6, 6), "not feasible"),
+        ((0, 2, 7), "not feasible"),
+        ((1, 3, 6), "not feasible"),
+    ):
+        add_check(three, packing(*[[0, 0, start] for start in starts]), line)
+    # an order that only follows from others has none: 2 may follow 1 at once
+    follows = instance([1, 1, 9], [[1, 1, 1]] * 3, [(0, 1, 2), (1, 2, 0)])
+    add_check(follows, packing([0, 0, 0], [0, 0, 3], [0, 0, 4]), "feasible")
+    add_check(follows, packing([0, 0, 0], [0, 0, 2], [0, 0, 4]), "not feasible")
+    # another piece may stand in the lag
+    between = instance([1, 1, 3], [[1, 1, 1]] * 3, [(0, 1, 1)])
+    add_check(between, packing([0, 0, 0], [0, 0, 2], [0, 0, 1]), "feasible")
+    # a circle
+    add_check(instance([9, 1, 99], [[1, 1, 1]] * 2, [(0, 1, 1), (1, 0, 0)]), packing([0, 0, 0], [1, 0, 9]), "not feasible")
+    # lags past the count are no part of it
+    past = instance([9, 9, 9], [[1, 1, 1]] * 2, [(0, 1, 1)])
+    past["precedences"][1:] = [[0, 1, 255] for _ in range(89)]
+    add_check(past, packing([0, 0, 0], [0, 0, 2]), "feasible")
+    # the clearance is as it was
+    for axis, line in enumerate(("2", "2", "4")):
+        value = instance([9, 9, 20], [[2, 2, 2], [3, 3, 3]], [(0, 1, 200)])
+        add_clearance(value, packing([0, 0, 0], [4, 4, 6]), 0, 1, axis, "clearance " + line)
+
+
+def hand_lags_run():
+    units = [[1, 1, 1]] * 3
+
+    def row(container, items, precedences, first, *starts):
+        text = first + "\n" + "".join("%d %d %d %d\n" % (piece, *start) for piece, start in enumerate(starts))
+        add_run(reference.encode(instance(container, items, precedences)), text)
+
+    add_run(bytes.fromhex("40"), "refused 11 1\n")
+    add_run(bytes.fromhex("58 02 00 00 01 00 01 00"), "refused 11 7\n")
+    add_run(LONGEST_WITH_LAGS, "none 1\n")
+    add_run(EXAMPLE, "placed 1\n0 0 0 1\n1 0 0 0\n")
+    # compare/src/table.rs says how these were worked out
+    direct = [(0, 1, 1), (0, 2, 5), (1, 2, 0)]
+    row([1, 1, 7], units, direct, "placed 1", [0, 0, 0], [0, 0, 2], [0, 0, 6])
+    row([1, 1, 6], units, direct, "none 1")
+    row([1, 1, 4], units, [(0, 1, 1)], "placed 3", [0, 0, 0], [0, 0, 2], [0, 0, 3])
+    row([1, 1, 3], units, [(0, 1, 1)], "placed 1", [0, 0, 0], [0, 0, 2], [0, 0, 1])
+    row([1, 1, 2], units, [(0, 1, 1)], "none 1")
+    row([2, 1, 3], units, [(0, 1, 1)], "placed 4", [0, 0, 0], [0, 0, 2], [1, 0, 0])
+    row([3, 1, 4], [[1, 1, 1], [1, 1, 4], [1, 1, 1]], [(0, 2, 2)], "placed 3", [0, 0, 0], [1, 0, 0], [2, 0, 3])
+    row([1, 1, 5], units, [(0, 1, 2), (1, 2, 0)], "placed 1", [0, 0, 0], [0, 0, 3], [0, 0, 4])
+    row([1, 1, 4], units, [(0, 1, 2), (1, 2, 0)], "none 1")
+    row([1, 1, 5], units, [(0, 2, 3), (1, 2, 0)], "placed 1", [0, 0, 0], [0, 0, 1], [0, 0, 4])
+    row([1, 1, 6], units, [(0, 2, 3), (1, 2, 0)], "placed 2", [0, 0, 0], [0, 0, 1], [0, 0, 4])
+    row([2, 1, 4], [[2, 1, 1], [1, 1, 1]], [(1, 0, 2)], "placed 1", [0, 0, 3], [0, 0, 0])
+    row([2, 1, 3], [[2, 1, 1], [1, 1, 1]], [(1, 0, 2)], "none 1")
+    row([1, 1, 130], units[:2], [(0, 1, 128)], "placed 1", [0, 0, 0], [0, 0, 129])
+    row([1, 1, 129], units[:2], [(0, 1, 128)], "none 1")
+    row([1, 1, 257], units[:2], [(0, 1, 255)], "placed 1", [0, 0, 0], [0, 0, 256])
+    row([1, 1, 256], units[:2], [(0, 1, 255)], "none 1")
+    row([1, 1, 65535], [[1, 1, 65024], [1, 1, 256]], [(0, 1, 255)], "placed 1", [0, 0, 0], [0, 0, 65279])
+    row([1, 1, 65535], [[1, 1, 65025], [1, 1, 256]], [(0, 1, 255)], "none 1")
+    row([3, 1, 99], units, [(0, 1, 1), (1, 2, 0), (2, 0, 0)], "none 1")
 
 
 # Made: from a fixed seed
@@ -748,9 +1008,9 @@ def made_writes(numbers):
         for i in range(value["item_count"], 10):
             value["items"][i] = [numbers.below(3), numbers.below(3), numbers.below(65536)]
         for i in range(value["precedence_count"], 90):
-            value["precedences"][i] = [numbers.below(256), numbers.below(12)]
-        room = numbers.one_of([length - 1, length, length, length + 1, length + 2, numbers.below(MOST_ROOM)])
-        add_write(value, min(room, MOST_ROOM), fill=numbers.below(256))
+            value["precedences"][i] = [numbers.below(256), numbers.below(12), 0]
+        room = numbers.one_of([length - 1, length, length, length + 1, length + 2, numbers.below(300)])
+        add_write(value, room, fill=numbers.below(256))
         add_valid(value, "valid")
         fault = copied(value)
         way = numbers.below(4)
@@ -763,7 +1023,7 @@ def made_writes(numbers):
         else:
             fault["item_count"] = numbers.below(13)
         add_valid(fault)
-        add_write(fault, MOST_ROOM - 35, fill=numbers.below(256))
+        add_write(fault, 265, fill=numbers.below(256))
 
 
 def packed(numbers, value, tries):
@@ -772,7 +1032,7 @@ def packed(numbers, value, tries):
     for item in range(value["item_count"]):
         part = copied(value)
         part["item_count"] = item + 1
-        part["precedences"] = [pair for pair in value["precedences"][: value["precedence_count"]] if max(pair) <= item]
+        part["precedences"] = [one for one in value["precedences"][: value["precedence_count"]] if max(one[:2]) <= item]
         part["precedence_count"] = len(part["precedences"])
         for _ in range(tries):
             positions[item] = [numbers.below(part["container"][a]) for a in range(3)]
@@ -815,6 +1075,83 @@ def made_clearances(numbers):
             add_clearance(value, positions, v, u, numbers.below(3))
 
 
+def with_lags(numbers, value):
+    """The value with lags for its orders, most of them small."""
+    for precedence in value["precedences"][: value["precedence_count"]]:
+        precedence[2] = numbers.one_of([0, 0, 1, 2, 3, 255, numbers.below(256)])
+    return value
+
+
+def made_lag_reads(numbers):
+    made = 0
+    while made < 50:
+        value = some_instance(numbers)
+        if value["precedence_count"] > 0 or numbers.below(10) == 0:
+            sheet = reference.encode(with_lags(numbers, value))
+            field = len(sheet) - value["precedence_count"]
+            made += 1
+            add_read(sheet)
+            add_rewrite(sheet)
+            add_record(sheet, numbers.below(11))
+            add_read(damaged(numbers, sheet))
+            add_read(damaged(numbers, damaged(numbers, sheet)))
+            add_read(bytes([sheet[0] ^ 64]) + sheet[1:])
+            add_read(sheet[:field] + bytes(len(sheet) - field) + bytes(numbers.below(2)))
+
+
+def made_lag_writes(numbers):
+    for _ in range(40):
+        value = with_lags(numbers, some_instance(numbers))
+        length = len(reference.encode(value))
+        for i in range(value["precedence_count"], 90):
+            value["precedences"][i] = [numbers.below(12), numbers.below(12), numbers.below(256)]
+        add_write(value, numbers.one_of([length - 1, length, length + 1, 351, 352, MOST_ROOM]), fill=numbers.below(256))
+        add_valid(value, "valid")
+        fault = copied(value)
+        fault["precedence_count"] = numbers.below(min(90, value["precedence_count"] + 2) + 1)
+        add_valid(fault)
+        add_write(fault, 351, fill=numbers.below(256))
+
+
+def small_with_lags(numbers, most):
+    """A small instance with lags in a hall that is about as long as they need."""
+    n = numbers.between(2, most)
+    container = [numbers.between(2, 4), numbers.one_of([1, 1, 2]), 2]
+    items = [[numbers.between(1, m) for m in (container[0], container[1], 2)] for _ in range(n)]
+    pairs = [p for p in some_precedences(numbers, n) if p[0] < p[1]] or [(0, 1)]
+    most_lag = numbers.one_of([1, 2, 3, 200])
+    precedences = [pair + (numbers.below(most_lag + 1),) for pair in pairs]
+    ends = [0] * n
+    for v in range(n):
+        before = [ends[u] + lag for u, w, lag in precedences if w == v]
+        ends[v] = max(before, default=0) + items[v][2]
+    container[2] = max(2, max(ends) + numbers.one_of([-1, 0, 0, 0, 1, 2]))
+    return instance(container, items, precedences)
+
+
+def made_lag_checks(numbers):
+    for _ in range(40):
+        value = small_with_lags(numbers, 5)
+        state, _, _, positions = reference.run(value, 100)
+        if state != reference.PLACED:
+            positions = packed(numbers, value, 60)
+        for i in range(value["item_count"], 10):
+            positions[i] = [numbers.below(65536) for _ in range(3)]
+        add_check(value, positions)
+        u, v, lag = value["precedences"][numbers.below(value["precedence_count"])]
+        positions[v][2] = positions[u][2] + value["items"][u][2] + lag + numbers.below(2) - 1
+        add_check(value, positions)
+
+
+def made_lag_runs(numbers):
+    made = 0
+    while made < 60:
+        value = small_with_lags(numbers, 5)
+        if reference.run(value, 60)[0] != reference.OPEN:
+            add_run(reference.encode(value))
+            made += 1
+
+
 # All of it
 
 
@@ -824,19 +1161,28 @@ def main():
     hand_record()
     hand_check()
     hand_clearance()
+    hand_lags_read()
+    hand_lags_write()
+    hand_lags_check()
+    hand_lags_run()
     by_hand = len(cases)
     made_reads(Numbers(1))
     made_records(Numbers(2))
     made_writes(Numbers(3))
     made_checks(Numbers(4))
     made_clearances(Numbers(5))
-    for number in range(1, 8):
+    made_lag_reads(Numbers(6))
+    made_lag_writes(Numbers(7))
+    made_lag_checks(Numbers(8))
+    made_lag_runs(Numbers(9))
+    for number in (1, 2, 3, 4, 5, 6, 7, 11):
         places = {line.split()[2] for line in lines if line.startswith("refused %d " % number)}
         assert len(places) >= 2, number
     for number in (8, 9):
         assert sum(line.startswith("refused %d 0" % number) for line in lines) >= 2
     stdin = b"".join(bytes([op]) + little(len(payload), 2) + payload for op, payload in cases)
     stdout = "".join(line + "\n" for line in lines).encode()
+    assert len(stdin) <= MOST_STDIN
     folder = os.path.join(os.path.dirname(os.path.abspath(__file__)), "..", "crates", "test_vectors")
     files = [(os.path.join(folder, "stdin"), stdin), (os.path.join(folder, "stdout"), stdout)]
     if sys.argv[1:] == ["--check"]:
@@ -848,7 +1194,7 @@ def main():
         for path, content in files:
             with open(path, "wb") as file:
                 file.write(content)
-    for op in range(1, 8):
+    for op in range(1, 9):
         answers = {}
         for (case_op, _), line in zip(cases, lines):
             if case_op == op:

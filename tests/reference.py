@@ -1,4 +1,4 @@
-"""Instances, packings, item records and clearance, written from document 01 alone and plainly.
+"""Instances, packings, item records, clearance and the search, written plainly from document 01 and request #101 of document 02 alone.
 
 It shares nothing with the crates. tests/make_vectors.py takes the expected lines of crates/test_vectors from here.
 
@@ -7,9 +7,9 @@ An instance is a dict:
     item_count        a number
     items             ten of [width, depth, shifts]
     precedence_count  a number
-    precedences       ninety of [u, v]
+    precedences       ninety of [u, v, lag]
     yard_number       a number
-Entries past the counts are no part of it. A packing is ten of [x, y, t].
+Entries past the counts are no part of it. A packing is ten of [x, y, t]. Axes are x 0, y 1, t 2.
 A refusal is a tuple (number, place).
 """
 
@@ -75,11 +75,11 @@ def read_or_raise(sheet):
         "item_count": 0,
         "items": [[0, 0, 0] for _ in range(MAX_ITEMS)],
         "precedence_count": 0,
-        "precedences": [[0, 0] for _ in range(MAX_PRECEDENCES)],
+        "precedences": [[0, 0, 0] for _ in range(MAX_PRECEDENCES)],
         "yard_number": 0,
     }
     records = []
-    standing = map_at(sheet, 0, 6)
+    standing = map_at(sheet, 0, 7)
     value["container"], place = measures_at(sheet, 1, standing)
     if 3 in standing:
         count = count_at(sheet, place, MAX_ITEMS)
@@ -103,7 +103,7 @@ def read_or_raise(sheet):
             if before is not None and [u, v] <= before:
                 raise Refused(6, place)
             before = [u, v]
-            value["precedences"][precedence] = [u, v]
+            value["precedences"][precedence] = [u, v, 0]
             place += 2
     if 5 in standing:
         yard = two_bytes_at(sheet, place)
@@ -111,6 +111,15 @@ def read_or_raise(sheet):
             raise Refused(3, place)
         value["yard_number"] = yard
         place += 2
+    if 6 in standing:
+        # #101: one byte for each order in its sequence; "11 is a lag field in which no lag is above 0, an empty field included, at its
+        # first byte's place, after its bytes are read"
+        field = place
+        for precedence in value["precedences"][: value["precedence_count"]]:
+            precedence[2] = byte_at(sheet, place)
+            place += 1
+        if not any(sheet[field:place]):
+            raise Refused(11, field)
     if place < len(sheet):
         raise Refused(7, place)
     return value, records
@@ -149,11 +158,11 @@ def valid(value):
         if 0 in measures:
             return False
     precedences = value["precedences"][:m]
-    for u, v in precedences:
+    for u, v, _ in precedences:
         if u >= n or v >= n or u == v:
             return False
     for i in range(1, m):
-        if not precedences[i - 1] < precedences[i]:
+        if not precedences[i - 1][:2] < precedences[i][:2]:
             return False
     return True
 
@@ -187,11 +196,15 @@ def encode(value):
     if m > 0:
         bits += 16
         fields += [m]
-        for u, v in value["precedences"][:m]:
+        for u, v, _ in value["precedences"][:m]:
             fields += [u, v]
     if value["yard_number"] != 0:
         bits += 32
         fields += two_bytes(value["yard_number"])
+    lags = [lag for _, _, lag in value["precedences"][:m]]
+    if any(lags):
+        bits += 64
+        fields += lags
     return bytes([bits] + fields)
 
 
@@ -229,8 +242,9 @@ def feasible(value, positions):
                         apart = True
                 if not apart:
                     return False
-    for u, v in value["precedences"][: value["precedence_count"]]:
-        if end(value, positions, u, 2) > positions[v][2]:
+    for u, v, lag in value["precedences"][: value["precedence_count"]]:
+        # #101: "u's end plus the lag is at most v's start"
+        if end(value, positions, u, 2) + lag > positions[v][2]:
             return False
     return True
 
@@ -254,3 +268,212 @@ def clearance(value, positions, u, v, axis):
         positions[v][axis] - end(value, positions, u, axis),
         positions[u][axis] - end(value, positions, v, axis),
     )
+
+
+# "Knowledge and striking". What is struck is a set for each axis: (u, v) is "u before v", a frozenset of the two is overlap.
+
+
+def overlap(u, v):
+    return frozenset((u, v))
+
+
+def words(u, v):
+    return [overlap(u, v), (u, v), (v, u)]
+
+
+def before_known(struck, axis, u, v):
+    return overlap(u, v) in struck[axis] and (v, u) in struck[axis]
+
+
+def overlap_known(struck, axis, u, v):
+    return (u, v) in struck[axis] and (v, u) in struck[axis]
+
+
+def rows_of(pieces, length):
+    """The rows of so many distinct pieces."""
+    if length == 0:
+        return [[]]
+    return [row + [piece] for row in rows_of(pieces, length - 1) for piece in pieces if piece not in row]
+
+
+def rule_1(struck, pieces):
+    for u, v in rows_of(pieces, 2):
+        for axis in (0, 1, 2):
+            if all(overlap_known(struck, other, u, v) for other in (0, 1, 2) if other != axis):
+                yield axis, overlap(u, v)
+
+
+def rules_2_and_3(struck, pieces):
+    for axis in (0, 1, 2):
+        for u, v, w in rows_of(pieces, 3):
+            first, second = before_known(struck, axis, u, v), before_known(struck, axis, v, w)
+            if first and second:
+                yield axis, overlap(u, w)
+                yield axis, (w, u)
+            if first and (u, w) in struck[axis]:
+                yield axis, (v, w)
+            if second and (u, w) in struck[axis]:
+                yield axis, (u, v)
+
+
+def rule_4(struck, pieces):
+    for axis in (0, 1, 2):
+        known = {(u, v) for u, v in rows_of(pieces, 2) if overlap_known(struck, axis, u, v)}
+        for a, c in rows_of(pieces, 2):
+            if overlap(a, c) in struck[axis]:
+                for b, d in rows_of([piece for piece in pieces if piece not in (a, c)], 2):
+                    if {(a, b), (b, c), (c, d), (d, a)} <= known:
+                        yield axis, (b, d)
+                        yield axis, (d, b)
+
+
+def lag_between(value, axis, u, v):
+    """#101: "On t a chain total adds the lag between neighbours that have an order". An order that only follows from others is none."""
+    if axis == 2:
+        for first, second, lag in value["precedences"][: value["precedence_count"]]:
+            if (first, second) == (u, v):
+                return lag
+    return 0
+
+
+def chain_total(value, axis, row):
+    total = sum(value["items"][piece][axis] for piece in row)
+    return total + sum(lag_between(value, axis, u, v) for u, v in zip(row, row[1:]))
+
+
+def greatest_totals(value, struck, axis, pieces):
+    """For each piece the greatest total of the chains ending in it, and of those starting in it: every chain, one after another."""
+    ending = [0] * len(pieces)
+    starting = [0] * len(pieces)
+    after = {u: [v for v in pieces if v != u and before_known(struck, axis, u, v)] for u in pieces}
+
+    def extend(row):
+        total = chain_total(value, axis, row)
+        starting[row[0]] = max(starting[row[0]], total)
+        ending[row[-1]] = max(ending[row[-1]], total)
+        for piece in after[row[-1]]:
+            if piece not in row:
+                extend(row + [piece])
+
+    for piece in pieces:
+        extend([piece])
+    return ending, starting
+
+
+def rule_5(value, struck, pieces):
+    for axis in (0, 1, 2):
+        ending, starting = greatest_totals(value, struck, axis, pieces)
+        for u, v in rows_of(pieces, 2):
+            # #101: "rule 5's sum adds it between u and v"
+            if ending[u] + lag_between(value, axis, u, v) + starting[v] > value["container"][axis]:
+                yield axis, (u, v)
+
+
+def contradictory(value, struck, pieces):
+    if any(value["items"][piece][axis] > value["container"][axis] for piece in pieces for axis in (0, 1, 2)):
+        return True
+    return any(set(words(u, v)) <= struck[axis] for u, v in rows_of(pieces, 2) for axis in (0, 1, 2))
+
+
+def settle(value, struck):
+    """Strikes "until nothing more can be struck", or until the knowledge is contradictory, which it then stays."""
+    pieces = range(value["item_count"])
+    changed = True
+    while changed and not contradictory(value, struck, pieces):
+        changed = False
+        for strikes in (rule_1(struck, pieces), rules_2_and_3(struck, pieces), rule_4(struck, pieces)):
+            for axis, word in list(strikes):
+                changed = changed or word not in struck[axis]
+                struck[axis].add(word)
+        if not changed:
+            for axis, word in list(rule_5(value, struck, pieces)):
+                changed = changed or word not in struck[axis]
+                struck[axis].add(word)
+
+
+# "The search"
+
+OPEN, NONE, PLACED = "open", "none", "placed"
+
+
+def opening_knowledge(value):
+    struck = [set(), set(), set()]
+    for u, v, _ in value["precedences"][: value["precedence_count"]]:
+        struck[2] |= {overlap(u, v), (v, u)}
+    settle(value, struck)
+    return struck
+
+
+def look(value, struck):
+    """"contradictory", "placed", or the branching pair and axis."""
+    n = value["item_count"]
+    if contradictory(value, struck, range(n)):
+        return "contradictory"
+    for v in range(n):
+        for u in range(v):
+            if not any(before_known(struck, axis, u, v) or before_known(struck, axis, v, u) for axis in (0, 1, 2)):
+                return u, v, [axis for axis in (0, 1, 2) if len(set(words(u, v)) - struck[axis]) > 1][0]
+    return "placed"
+
+
+def with_turn(value, struck, turn):
+    """The knowledge after a turn at the branching point: 0 first, 1 second."""
+    u, v, axis = look(value, struck)
+    struck = [set(one) for one in struck]
+    if overlap(u, v) not in struck[axis]:
+        struck[axis] |= [{overlap(u, v)}, {(u, v), (v, u)}][turn]
+    else:
+        struck[axis].add([(v, u), (u, v)][turn])
+    settle(value, struck)
+    return struck
+
+
+def starts(value, struck):
+    """On each axis a piece starts at the total of the greatest chain ending in it, less its own measure."""
+    pieces = range(value["item_count"])
+    positions = [[0, 0, 0] for _ in range(MAX_ITEMS)]
+    for axis in (0, 1, 2):
+        ending, _ = greatest_totals(value, struck, axis, pieces)
+        for piece in pieces:
+            positions[piece][axis] = ending[piece] - value["items"][piece][axis]
+    return positions
+
+
+def step(value, row, levels):
+    """One step on an open note; `levels` has the knowledge of each beginning of the row. Both are changed; the state is returned."""
+    here = look(value, levels[-1])
+    if here == "placed":
+        return PLACED
+    if here != "contradictory":
+        row.append(0)
+        levels.append(with_turn(value, levels[-1], 0))
+        return OPEN
+    while row and row[-1] == 1:
+        row.pop()
+        levels.pop()
+    if not row:
+        return NONE
+    row[-1] = 1
+    levels[-1] = with_turn(value, levels[-2], 1)
+    return OPEN
+
+
+def run(value, allowance=1000000):
+    """From the opening note: the state, the steps taken, the row of turns, and ten positions where it is placed, else ten zeros."""
+    state, steps, row, levels = OPEN, 0, [], [opening_knowledge(value)]
+    while state == OPEN and steps < allowance:
+        state = step(value, row, levels)
+        steps += 1
+    return state, steps, row, starts(value, levels[-1]) if state == PLACED else [[0, 0, 0] for _ in range(MAX_ITEMS)]
+
+
+def program(sheet, allowance=1000000):
+    """What `hallplan` prints for a sheet."""
+    value = read(sheet)
+    if isinstance(value, tuple):
+        return "refused %d %d\n" % value
+    state, steps, _, positions = run(value, allowance)
+    lines = ["%s %d" % ("spent" if state == OPEN else state, steps)]
+    if state == PLACED:
+        lines += ["%d %d %d %d" % (piece, *positions[piece]) for piece in range(value["item_count"])]
+    return "".join(line + "\n" for line in lines)

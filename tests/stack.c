@@ -12,7 +12,7 @@
 #define STACK_BYTES 65536
 #define PATTERN 0xA5
 
-static uint8_t sheet[262], note[HALLPLAN_NOTE_BYTES], steps[HALLPLAN_STEP_BYTES], plan[10 * HALLPLAN_PIECE_BYTES];
+static uint8_t sheet[HALLPLAN_MAX_SHEET_BYTES + 1], note[HALLPLAN_NOTE_BYTES], steps[HALLPLAN_STEP_BYTES], plan[10 * HALLPLAN_PIECE_BYTES];
 static size_t sheet_len, plan_len;
 static uint32_t answer, fits;
 
@@ -66,7 +66,7 @@ static void read_sheet(const char *hex)
 int main(void)
 {
     static const char *const words[] = {"spent", "placed", "none"};
-    char line[1024], name[64], hex[600], word[16];
+    char line[1024], name[64], hex[704], word[16];
     unsigned count;
     int wrong = 0, sheets = 0;
     size_t most = 0;
@@ -76,7 +76,7 @@ int main(void)
         return 2;
     }
     while (fgets(line, sizeof line, stdin) != NULL) {
-        if (line[0] == '#' || sscanf(line, "%63s %599s %15s %u", name, hex, word, &count) != 4) {
+        if (line[0] == '#' || sscanf(line, "%63s %703s %15s %u", name, hex, word, &count) != 4) {
             continue;
         }
         read_sheet(hex);

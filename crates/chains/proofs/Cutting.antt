@@ -1,6 +1,6 @@
 -- What the totals find too long: the set of items, and removing it for the items of a set.
 use Rattle.prelude.specs.Names.{Bool, true, false, not, _&&_, or-false, and-false, List, ⊎-elim, _≢_, _≡_, refl, sym, _∙_, ap, ℕ, _+_, _-_, _*_, _/_}
-use Rattle.prelude.specs.Names.{_%_, _^_, _≤_, _<_, eq-or-lt-of-le, arith, bitAnd, bitOr, bitXor, or-lt, eqb, ltb, pow-lt, eqb-true, lt-ltb, le-ltb}
+use Rattle.prelude.specs.Names.{_%_, _^_, _≤_, _<_, ℕ-discrete, eq-or-lt-of-le, arith, bitAnd, bitOr, bitXor, or-lt, eqb, ltb, pow-lt, eqb-true, lt-ltb, le-ltb}
 use Rattle.prelude.specs.Names.{ltb-true, ltb-false, eq-eqb, ne-eqb, eqb-false, not-true, not-false}
 use Rattle.model.specs.Domains.{Domains}
 use Rattle.model.specs.Order.{_⊑_}
@@ -13,12 +13,12 @@ use Rattle.model.proofs.Toward.{by-direction}
 use Rattle.domains.specs.Bits.{bit-at, Gives, lowest-bit, Lowest, TakenOut}
 use Rattle.domains.specs.Rows.{row-at}
 use Rattle.domains.specs.Queue.{queue-end, Good, Long}
-use Rattle.domains.specs.Narrowed.{Narrowed, Refuted, FilledWith, RemovedOnly, RemovedIf, Each, Spares, All, Askable}
-use Rattle.chains.specs.Totals.{table-start, capacity-at, Tabled}
+use Rattle.domains.specs.Narrowed.{Narrowed, Refuted, NarrowedIf, FilledWith, RemovedOnly, RemovedIf, Each, Spares, All, Askable}
+use Rattle.chains.specs.Totals.{table-start, measure-at, capacity-at, gapped-at, step-at, gap-at, Tabled}
 use Rattle.chains.specs.Links.{total-at}
-use Rattle.chains.specs.Cuts.{above-both, exceeds, Comparable, CutFrom, CutAll, CutOf}
+use Rattle.chains.specs.Cuts.{above-both, exceeds, Stepping, Comparable, CutFrom, CutAll, CutBoth, CutOf, CutAround}
 use Rattle.domains.proofs.BitLaws.{bit-and, bit-or, bit-not, bit-power, bit-above, bit-below, bit-zero, bit-shr, bit-shl, shl-small, and-small}
-use Rattle.domains.proofs.Narrowed.{narrowed-none, narrowed-as, narrowed-then, refuted-later}
+use Rattle.domains.proofs.Narrowed.{narrowed-none, narrowed-as, narrowed-then, refuted-later, outcome-as, outcome-then}
 use Rattle.domains.proofs.RemoveSet.{Emptied, nothing-left, next-spares}
 use Rattle.domains.proofs.Through.{Through, through-none, through-one, through-all}
 use Rattle.chains.proofs.Relaxing.{total-within}
@@ -55,16 +55,41 @@ compared {t} {o} {r} {a} {u} c =
     total-within {t = t} {o = o} {a = a} (record { tabled = c .tabled; aligned = c .aligned; most = omega (arith, c .other); axis = c .axis }) u (c .item)
 
 pub too-long : {t : List ℕ} {o r a u m : ℕ} → Comparable t o r a u
-    → Gives 10 m (λ v. ltb (capacity-at t a - total-at t o a u) (total-at t r a v))
+    → Gives 10 m (λ v. ltb (capacity-at t a - total-at t o a u) (gap-at t o a u v + total-at t r a v))
     → Gives 10 (bitAnd m (bitXor (2 ^ u) 1023)) (λ v. above-both t o r a u v && not (eqb v u))
 too-long {t} {o} {r} {a} {u} {m} c g = record {
   small = and-small 10 m (bitXor (2 ^ u) 1023) (g .small);
   is = λ v h. simp (bit-and, g .is v h, moved v (above-both t o r a u v) refl, bit-not 10 (2 ^ u) v h, bit-power);
 }
   where
-    moved : (v : ℕ) (b : Bool) → above-both t o r a u v ≡ b → ltb (capacity-at t a - total-at t o a u) (total-at t r a v) ≡ b
-    moved v true e = lt-ltb (capacity-at t a - total-at t o a u) (total-at t r a v) (omega (arith, compared c, ltb-true (capacity-at t a) _ e))
-    moved v false e = le-ltb (capacity-at t a - total-at t o a u) (total-at t r a v) (omega (arith, compared c, ltb-false (capacity-at t a) _ e))
+    moved : (v : ℕ) (b : Bool) → above-both t o r a u v ≡ b → ltb (capacity-at t a - total-at t o a u) (gap-at t o a u v + total-at t r a v) ≡ b
+    moved v true e = lt-ltb (capacity-at t a - total-at t o a u) _ (omega (arith, compared c, ltb-true (capacity-at t a) _ e))
+    moved v false e = le-ltb (capacity-at t a - total-at t o a u) _ (omega (arith, compared c, ltb-false (capacity-at t a) _ e))
+
+-- the steps of u in the table at o are no less than the measures, and just these where nothing lies between items
+step-of : {t : List ℕ} {o r a u : ℕ} → Comparable t o r a u → (v : ℕ) → v < 10
+    → (measure-at t a v ≤ step-at t o a u v) × (gapped-at t a ≡ 0 → step-at t o a u v ≡ measure-at t a v)
+step-of {t} {o} {r} {a} {u} c v h = elim (ℕ-discrete o 0) [
+  | yes z ↦ rw z (c .tabled .least 2 a u v (omega arith) (c .axis) (c .item) h, c .tabled .plain 2 a u v (omega arith) (c .axis) (c .item) h)
+  | no z ↦ let q : o ≡ 30 = omega (arith, c .aligned, c .other) in
+      rw q (c .tabled .least 1 a u v (omega arith) (c .axis) (c .item) h, c .tabled .plain 1 a u v (omega arith) (c .axis) (c .item) h)
+]
+
+pub stepping : {t : List ℕ} {o r a u : ℕ} → Comparable t o r a u → Stepping t (r + a * 10) (96 + (o + a * 10 + u) * 10) (60 + a * 10)
+stepping c = record {
+  totals = omega (arith, c .axis, c .other);
+  room = omega (arith, c .axis, c .item, c .other);
+  measures = omega (arith, c .axis);
+  least = λ v h. step-of c v h .0;
+}
+
+pub too-long-plain : {t : List ℕ} {o r a u m : ℕ} → Comparable t o r a u → gapped-at t a ≡ 0
+    → Gives 10 m (λ v. ltb (capacity-at t a - total-at t o a u) (total-at t r a v))
+    → Gives 10 (bitAnd m (bitXor (2 ^ u) 1023)) (λ v. above-both t o r a u v && not (eqb v u))
+too-long-plain {t} {o} {r} {a} {u} {m} c e g = too-long c (record {
+  small = g .small;
+  is = λ v h. g .is v h ∙ ap (ltb (capacity-at t a - total-at t o a u)) (omega (arith, step-of c v h .1 e));
+})
 
 -- The relation x of u is removed with the items of a set: with those that are left of it
 module _ {k : Domains} {rows q : List ℕ} (g : Good k rows q) {x a u items : ℕ} (d : Direction x) (ha : a < 3) (hu : u < 10)
@@ -189,3 +214,34 @@ module _ {t : List ℕ} {x a items : ℕ} {k : Domains} {q : List ℕ} where
             (λ less p each. through-one p (rw (low .0) w) (λ v i p z y e. gone-mono l j less x a v z (p z y e))
             (λ v y e. each v (y .item-v) (g .is v (y .item-v) ∙ and-intro e (ap not (ne-eqb v u (λ b. y .distinct (sym b)))))));
       }
+
+-- the tables of a direction, by where the code takes them to start
+module _ (t : List ℕ) (a u x : ℕ) (d : Direction x) where
+  abbrev own : ℕ → ℕ
+  own x = 30 * (x - 1)
+
+  pub compared-from : Comparable t (table-start (converse x)) (table-start x) a u → Comparable t (own x) (30 - own x) a u
+  compared-from = by-direction (λ x. Comparable t (table-start (converse x)) (table-start x) a u → Comparable t (own x) (30 - own x) a u) (λ h. h) (λ h. h) x d
+
+  pub exceeds-from : {m : ℕ} → Gives 10 m (λ v. above-both t (own x) (30 - own x) a u v && not (eqb v u))
+      → Gives 10 m (λ v. exceeds t x a u v && not (eqb v u))
+  exceeds-from {m} = by-direction (λ x. Gives 10 m (λ v. above-both t (own x) (30 - own x) a u v && not (eqb v u))
+      → Gives 10 m (λ v. exceeds t x a u v && not (eqb v u))) (λ h. h) (λ h. h) x d
+
+-- First around the items of one set, then around those of the other
+module _ (t : List ℕ) (a : ℕ) (k : Domains) where
+  one-of : (f : Domains) → FilledWith (CutBoth t a) f → FilledWith (CutAll t 1 a) f × FilledWith (CutAll t 2 a) f
+  one-of f h = (record { all = h .all .0; filled = h .filled }, record { all = h .all .1; filled = h .filled })
+
+  pub around-refused : {j : Domains} {rows r : List ℕ} → Long j rows r × Refuted (FilledWith (CutAll t 1 a)) k
+      → Long j rows r × Refuted (FilledWith (CutBoth t a)) k
+  around-refused (long, none) = (long, λ f h b. none f (one-of f h .0) b)
+
+  pub around-answer : (ends starts : ℕ) {rows q : List ℕ} → Good k rows q → {i : Domains} {rows₁ q₁ : List ℕ}
+      → Narrowed (FilledWith (CutAll t 1 a)) (CutOf t 1 a ends) k q i rows₁ q₁ → (j : Domains) (rows₂ r : List ℕ) (b : Bool)
+      → NarrowedIf (FilledWith (CutAll t 2 a)) (CutOf t 2 a starts) i q₁ j rows₂ r b
+      → NarrowedIf (FilledWith (CutBoth t a)) (CutAround t a ends starts) k q j rows₂ r b
+  around-answer ends starts g {i} n j rows₂ r b h =
+      outcome-then {D = CutOf t 1 a ends} (CutOf t 2 a starts) (CutAround t a ends starts) j rows₂ r b (g .least) (narrowed-as (λ f w _. one-of f w .0) (λ _ d. d) n)
+      (outcome-as _ (FilledWith (CutBoth t a)) _ (CutOf t 2 a starts) i _ j rows₂ r b (λ f w _. one-of f w .1) (λ _ d. d) h)
+      (λ less d e. ((λ u m v c x. gone-mono j i less 1 a u v (d u m v c x)), e))

@@ -1,7 +1,7 @@
 -- Rule 5 where a link is new: totals raised along the links of the domains stay under every goal's chains, and with the cuts around the items that
 -- grew nothing is left open but the links of pairs on the queue.
 use Rattle.prelude.specs.Names.{Bool, true, false, _&&_, List, _⊎_, inl, inr, ⊎-elim, ⊎-map, _≡_, refl, sym, _∙_, ap₂, ℕ, _+_, _*_, _^_, _≤_}
-use Rattle.prelude.specs.Names.{_<_, ℕ-discrete, arith, getD, set, getD-set-other, ltb-true, lt-ltb}
+use Rattle.prelude.specs.Names.{_<_, ℕ-discrete, arith, getD, set, getD-set-other, ltb, ltb-true, lt-ltb}
 use Rattle.model.specs.Problem.{Problem}
 use Rattle.model.specs.Domains.{Domains, fixed-before}
 use Rattle.model.specs.Rules.{joined}
@@ -13,24 +13,19 @@ use Rattle.model.specs.Toward.{Goal, Direction, greatest, Linked, extended, Tab
 use Rattle.model.proofs.Below.{and-both, and-intro, clash}
 use Rattle.model.proofs.Facts.{gone-mono, gone-converse, gone-self, forced-converse, forced-before-is, forced-after-is}
 use Rattle.model.proofs.Slots.{proper-sym}
-use Rattle.model.proofs.Toward.{by-direction, goal-fits, under-link, under-cut, closed-grown, closed-less, closed-wider}
+use Rattle.model.proofs.Toward.{by-direction, goal-fits, extended-sum, under-link, under-cut, closed-grown, closed-less, closed-wider}
 use Rattle.model.proofs.Untouched.{goal-lawful}
 use Rattle.domains.specs.Bits.{bit-at}
 use Rattle.domains.specs.Rows.{row-at, Mirror}
 use Rattle.domains.specs.Queue.{SamePair, queue-end, Queued, Good, Long}
 use Rattle.domains.specs.Narrowed.{Grown, Narrowed, Refuted, NarrowedIf, FilledWith}
-use Rattle.chains.specs.Totals.{table-start, table, capacity-at, Tabled, Measured, SameMeasures, Fitting}
+use Rattle.chains.specs.Totals.{table-start, table, measure-at, Tabled, Measured, SameMeasures, Fitting}
 use Rattle.chains.specs.Links.{onward, LinkSet, Raised, none, more, Raises, Bursts, Linkable, Only, InRows, On, Plain}
-use Rattle.chains.specs.Cuts.{CutAll, CutOf}
+use Rattle.chains.specs.Cuts.{exceeds, CutBoth, CutAround}
 use Rattle.chains.specs.NewLinks.{Charted, ExtendedAlong, KeptIf}
 use Rattle.domains.proofs.Narrowed.{good-long, grown-then, queued-on}
 use Rattle.domains.proofs.Mirror.{row-first}
 use Rattle.chains.proofs.Relaxing.{table-start-is, grows, grows-far, stored-same}
-
--- a chain that goes on
-extended-is : (p : Problem) (a v z m : ℕ) (x : ℕ) → Direction x → extended x p a v z m ≡ m + p .size a z
-unfolding joined
-extended-is p a v z m = by-direction (λ x. extended x p a v z m ≡ m + p .size a z) (omega arith) refl
 
 -- The rows have the links of the domains
 module _ {k : Domains} {rows : List ℕ} (m : Mirror k rows) {x a v z : ℕ} (d : Direction x) (ha : a < 3) where
@@ -56,6 +51,7 @@ measured-same e m = record {
   ten = m .ten;
   capacity = λ a h. m .capacity a h ∙ sym (e .kept (90 + a) (omega arith));
   size = λ a u h i. m .size a u h i ∙ sym (e .kept (60 + a * 10 + u) (omega arith));
+  step = λ x a v z d h i j. m .step x a v z d h i j ∙ sym (e .kept (96 + (table-start x + a * 10 + v) * 10 + z) (omega arith));
 }
 
 same-measures : {L : LinkSet} {o a : ℕ} {t s : List ℕ} {g : ℕ} → Linkable t o a → Raised L o a t s g → SameMeasures t s
@@ -67,8 +63,9 @@ module _ {p : Problem} {k : Domains} {rows : List ℕ} (m : Mirror k rows) {x a 
       → onward s (table-start x) a v z ≤ greatest x p f a z
   link-under {s} l w under v z t =
       let hz : z < p .items = omega (arith, w .ten, t .item-z) in
-      let most = under-link p f goal (table s) under k b x a v z d (l .axis) (omega (arith, w .ten, t .item-v)) hz (in-rows-linked m d (l .axis) t) in
-      omega (arith, most, extended-is p a v z (table s x a v) x d, w .size a z (l .axis) hz)
+      let hv : v < p .items = omega (arith, w .ten, t .item-v) in
+      let most = under-link p f goal (table s) under k b x a v z d (l .axis) hv hz (in-rows-linked m d (l .axis) t) in
+      omega (arith, most, extended-sum p a x v z (table s x a v) d, w .step x a v z d (l .axis) hv hz)
 
   raised-under : {t s : List ℕ} {g : ℕ} → Linkable t (table-start x) a → Measured p t → Raised (InRows rows x a) (table-start x) a t s g
       → Under p (table t) f → Under p (table s) f
@@ -95,20 +92,34 @@ module _ {p : Problem} {k : Domains} {rows : List ℕ} (m : Mirror k rows) {x a 
       let fits = goal-fits p f goal x a (burst .to) d (l .axis) (omega (arith, w .ten, burst .item-to)) in
       omega (arith, most, fits, ws .capacity a (l .axis), burst .over)
 
--- what is too long is removed in a goal
-fitting-cut : {p : Problem} {s : List ℕ} → Measured p s → (x a : ℕ) → Direction x → a < 3 → (f : Domains) → Fitting p s f → FilledWith (CutAll s x a) f
-unfolding joined
-fitting-cut {p} {s} w x a d ha f fit = record {
-  all = by-direction (λ x. CutAll s x a f) before
-      (λ u v c e. let q : table s 2 a v + table s 1 a u ≡ table s 1 a u + table s 2 a v = omega arith in
-      sym (gone-converse f 2 a u v (omega arith)) ∙ before v u (proper-sym c) (rw q e)) x d;
+-- what the totals find too long, from either end, is what the problem does
+module _ {p : Problem} {s : List ℕ} (w : Measured p s) (a u v : ℕ) (c : Proper 10 a u v) where
+  abbrev pub over : Bool
+  over = ltb (p .capacity a) (joined p a u v (table s 2 a u) (table s 1 a v))
+
+  pub exceeds-joined : (exceeds s 1 a u v ≡ over) × (exceeds s 2 a v u ≡ over)
+  unfolding joined
+  exceeds-joined =
+      let hu : u < p .items = omega (arith, w .ten, c .item-u) in
+      let hv : v < p .items = omega (arith, w .ten, c .item-v) in
+      let capacity = sym (w .capacity a (c .axis)) in
+      let ends = w .step 2 a u v (omega arith) (c .axis) hu hv in
+      let starts = w .step 1 a v u (omega arith) (c .axis) hv hu in
+      let sizes : (p .size a u ≡ measure-at s a u) × (p .size a v ≡ measure-at s a v) = (w .size a u (c .axis) hu, w .size a v (c .axis) hv) in
+      (ap₂ ltb capacity (omega arith), ap₂ ltb capacity (omega arith))
+
+-- it is removed in a goal
+fitting-cut : {p : Problem} {s : List ℕ} → Measured p s → (a : ℕ) → a < 3 → (f : Domains) → Fitting p s f → FilledWith (CutBoth s a) f
+fitting-cut {p} {s} w a ha f fit = record {
+  all = (
+    (λ u v c e. before u v c (sym (exceeds-joined w a u v c .0) ∙ e)),
+    (λ u v c e. sym (gone-converse f 2 a u v (omega arith)) ∙ before v u (proper-sym c) (sym (exceeds-joined w a v u (proper-sym c) .1) ∙ e)),
+  );
   filled = goal-lawful p f (fit .goal) .filled;
 }
   where
-    before : CutAll s 1 a f
-    before u v c e =
-        under-cut p f (fit .goal) (table s) (fit .under) a u v (rw (w .ten) c)
-        (omega (arith, ltb-true (capacity-at s a) (table s 2 a u + table s 1 a v) e, w .capacity a ha))
+    before : (u v : ℕ) (c : Proper 10 a u v) → over w a u v c ≡ true → gone f 1 a u v ≡ true
+    before u v c e = under-cut p f (fit .goal) (table s) (fit .under) a u v (rw (w .ten) c) (ltb-true (p .capacity a) _ e)
 
 -- one of two orders is known at most
 one-way : (k : Domains) (a u v : ℕ) → Filled k → Proper 10 a u v → (x : ℕ) → Direction x → Linked x k a u v → Linked x k a v u → ⊥
@@ -172,8 +183,8 @@ module _ {k : Domains} {rows q : List ℕ} (good : Good k rows q) {t : List ℕ}
           → Only u v i z ⊎ (bit-at g i ≡ true) → extended y p b i z (table s y b i) ≤ table s y b z
       on p w y b i z e f h n c = rw (e, f)
           (let link = linked-in-rows mirror d (pair .axis) (omega (arith, w .ten, h .item-u)) (omega (arith, w .ten, h .item-v)) (rw (e, f) at n) in
-          let size = measured-same (same-measures linkable (r .raised)) w .size a z (pair .axis) (h .item-v) in
-          omega (arith, r .on i z (link, c), extended-is p a i z (table s x a i) x d, size))
+          let step = measured-same (same-measures linkable (r .raised)) w .step x a i z d (pair .axis) (h .item-u) (h .item-v) in
+          omega (arith, r .on i z (link, c), extended-sum p a x i z (table s x a i) d, step))
 
       settled : (p : Problem) → Measured p t → {A : Type 0} (y b i z : ℕ) → Proper (p .items) b i z → Linked y k b i z
           → (A ⊎ ((y ≡ x) × SamePair a u v b i z)) ⊎ Grew x a g y b i → (extended y p b i z (table s y b i) ≤ table s y b z) ⊎ A
@@ -229,8 +240,8 @@ module _ {k : Domains} {rows q t : List ℕ} {a u v : ℕ} (pre : (Good k rows q
       starts-moved : Moved k 1 a v u starts t₁ s
       starts-moved = link-moved (pre .0 .0) (ends-moved .tabled) {x = 1} (omega arith) (proper-sym (pre .1 .0)) starts-link r₁
 
-      pub cut-asked : Good k rows q × Tabled s × (a < 3) × (ends < 2 ^ 10)
-      cut-asked = (pre .0 .0, starts-moved .tabled, pre .1 .0 .axis, ends-moved .small)
+      pub cut-asked : Good k rows q × Tabled s × (a < 3) × (ends < 2 ^ 10) × (starts < 2 ^ 10)
+      cut-asked = (pre .0 .0, starts-moved .tabled, pre .1 .0 .axis, ends-moved .small, starts-moved .small)
 
       same : SameMeasures t s
       same = same-then (ends-moved .same) (starts-moved .same)
@@ -238,73 +249,56 @@ module _ {k : Domains} {rows q t : List ℕ} {a u v : ℕ} (pre : (Good k rows q
       fitting : (p : Problem) → Measured p t → (f : Domains) → Fitting p t f → f ⊑ k → Fitting p s f
       fitting p w f fit b = starts-moved .fitting p (measured-same (ends-moved .same) w) f (ends-moved .fitting p w f fit b) b
 
-      cut : (p : Problem) → Measured p t → (x : ℕ) → Direction x → (f : Domains) → Fitting p t f → f ⊑ k → FilledWith (CutAll s x a) f
-      cut p w x d f fit b = fitting-cut (measured-same same w) x a d (pre .1 .0 .axis) f (fitting p w f fit b)
+      cut : (p : Problem) → Measured p t → (f : Domains) → Fitting p t f → f ⊑ k → FilledWith (CutBoth s a) f
+      cut p w f fit b = fitting-cut (measured-same same w) a (pre .1 .0 .axis) f (fitting p w f fit b)
 
-      pub cut-refused : {j : Domains} {rows′ r : List ℕ} → Long j rows′ r × Refuted (FilledWith (CutAll s 1 a)) k → Answer j rows′ r s false
-      cut-refused (long, nil) = ((long, same, tt), λ p from c f fit b. nil f (cut p (c .measured) 1 (omega arith) f fit b) b)
+      -- both directions followed, and the cuts made around the items that grew
+      all-closed : {j : Domains} {rows′ r : List ℕ} → Narrowed (FilledWith (CutBoth s a)) (CutAround s a ends starts) k q j rows′ r
+          → (p : Problem) (from : ℕ) → Charted p k q t from a u v → ClosedBut (λ x. Queued r from (queue-end r)) NoPair p j (table s)
+      all-closed {j} {rows′} {r} n p from c = record {
+        size = closed .size;
+        on = closed .on;
+        cut = λ b w z h l. made b w z (rw (c .measured .ten) at h) (lt-ltb (p .capacity b) _ l) (closed .cut b w z h l);
+      }
+        where
+          m : Measured p s
+          m = measured-same same (c .measured)
 
-      module _ {i : Domains} {rows₁ q₁ : List ℕ} (n₁ : Narrowed (FilledWith (CutAll s 1 a)) (CutOf s 1 a ends) k q i rows₁ q₁) where
-        pub cut-asked-2 : Good i rows₁ q₁ × Tabled s × (a < 3) × (starts < 2 ^ 10)
-        cut-asked-2 = (n₁ .grown .good, starts-moved .tabled, pre .1 .0 .axis, starts-moved .small)
+          Cut : Cuts
+          Cut b w z = (⊥ ⊎ (Grew 2 a ends 2 b w ⊎ Grew 2 a ends 1 b z)) ⊎ (Grew 1 a starts 2 b w ⊎ Grew 1 a starts 1 b z)
 
-        below : (p : Problem) → Measured p t → (f : Domains) → Fitting p t f → f ⊑ k → FilledWith (CutAll s 2 a) f × (f ⊑ i)
-        below p w f fit l = (cut p w 2 (omega arith) f fit l, n₁ .low f (cut p w 1 (omega arith) f fit l) l)
+          Left : Links
+          Left y b w z = Queued q from (queue-end q) b w z ⊎ ((y ≡ 1) × SamePair a v u b w z)
 
-        -- both directions followed, and the cuts made around the items that grew
-        all-closed : {j : Domains} {rows₂ r : List ℕ} → Narrowed (FilledWith (CutAll s 2 a)) (CutOf s 2 a starts) i q₁ j rows₂ r
-            → (p : Problem) (from : ℕ) → Charted p k q t from a u v → ClosedBut (λ x. Queued r from (queue-end r)) NoPair p j (table s)
-        unfolding joined
-        all-closed {j} {rows₂} {r} n₂ p from c =
-            let m = measured-same same (c .measured) in
-            record {
-              size = closed .size;
-              on = closed .on;
-              cut = λ b w z n l. made b w z (rw (c .measured .ten) at n)
-                  (omega (arith, m .capacity b (n .axis))) (closed .cut b w z n l);
-            }
-          where
-            Cut : Cuts
-            Cut b w z = (⊥ ⊎ (Grew 2 a ends 2 b w ⊎ Grew 2 a ends 1 b z)) ⊎ (Grew 1 a starts 2 b w ⊎ Grew 1 a starts 1 b z)
+          closed : ClosedBut (λ x. Queued r from (queue-end r)) Cut p j (table s)
+          closed =
+              closed-on (n .grown) (omega (arith, c .measured .ten)) from (c .first) (c .within)
+              (starts-moved .closed p (measured-same (ends-moved .same) (c .measured)) Left (λ x. Queued q from (queue-end q)) _ (λ y b w z d o. o)
+              (ends-moved .closed p (c .measured) _ Left NoPair
+              (λ y b w z d o. ⊎-elim (λ o. inl (inl o)) (λ (f, o). by-direction (λ y. Left y b w z ⊎ ((y ≡ 2) × SamePair a u v b w z))
+              (inl (inr (refl, (f, ⊎-elim inr inl o)))) (inr (refl, (f, o))) y d) o) (c .closed)))
 
-            Left : Links
-            Left y b w z = Queued q from (queue-end q) b w z ⊎ ((y ≡ 1) × SamePair a v u b w z)
+          made : (b w z : ℕ) (c : Proper 10 b w z) → over m b w z c ≡ true → (gone j 1 b w z ≡ true) ⊎ Cut b w z → (gone j 1 b w z ≡ true) ⊎ ⊥
+          made b w z c l (inl e) = inl e
+          made b w z c l (inr (inl (inl o))) = inr o
+          made b w z c l (inr (inl (inr (inl (_, e, h))))) =
+              let f = rw e at (exceeds-joined m b w z c .0 ∙ l) in
+              inl (rw e (n .done .0 w h z (rw e at c) f))
+          made b w z c l (inr (inl (inr (inr (o, _, _))))) = absurd (omega arith)
+          made b w z c l (inr (inr (inl (o, _, _)))) = absurd (omega arith)
+          made b w z c l (inr (inr (inr (_, e, h)))) =
+              let f = rw e at (exceeds-joined m b w z c .1 ∙ l) in
+              inl (rw e (sym (gone-converse j 1 a w z (omega arith)) ∙ n .done .1 z h w (proper-sym (rw e at c)) f))
 
-            closed : ClosedBut (λ x. Queued r from (queue-end r)) Cut p j (table s)
-            closed =
-                closed-on (grown-then (pre .0 .0 .least) (n₁ .grown) (n₂ .grown)) (omega (arith, c .measured .ten)) from (c .first) (c .within)
-                (starts-moved .closed p (measured-same (ends-moved .same) (c .measured)) Left (λ x. Queued q from (queue-end q)) _ (λ y b w z d o. o)
-                (ends-moved .closed p (c .measured) _ Left NoPair
-                (λ y b w z d o. ⊎-elim (λ o. inl (inl o)) (λ (f, o). by-direction (λ y. Left y b w z ⊎ ((y ≡ 2) × SamePair a u v b w z))
-                (inl (inr (refl, (f, ⊎-elim inr inl o)))) (inr (refl, (f, o))) y d) o) (c .closed)))
-
-            made : (b w z : ℕ) → Proper 10 b w z → capacity-at s b < table s 2 b w + table s 1 b z → (gone j 1 b w z ≡ true) ⊎ Cut b w z
-                → (gone j 1 b w z ≡ true) ⊎ ⊥
-            made b w z c l (inl e) = inl e
-            made b w z c l (inr (inl (inl o))) = inr o
-            made b w z c l (inr (inl (inr (inl (_, e, h))))) =
-                let f = lt-ltb (capacity-at s a) (table s 2 a w + table s 1 a z) (rw e at l) in
-                inl (rw e (gone-mono j i (n₂ .grown .less) 1 a w z (n₁ .done w h z (rw e at c) f)))
-            made b w z c l (inr (inl (inr (inr (o, _, _))))) = absurd (omega arith)
-            made b w z c l (inr (inr (inl (o, _, _)))) = absurd (omega arith)
-            made b w z c l (inr (inr (inr (_, e, h)))) =
-                let f = lt-ltb (capacity-at s a) (table s 1 a z + table s 2 a w) (omega (arith, rw e at l)) in
-                inl (rw e (sym (gone-converse j 1 a w z (omega arith)) ∙ n₂ .done z h w (proper-sym (rw e at c)) f))
-
-        pub cuts-answer : (j : Domains) (rows₂ r : List ℕ) (b : Bool) → NarrowedIf (FilledWith (CutAll s 2 a)) (CutOf s 2 a starts) i q₁ j rows₂ r b
-            → Answer j rows₂ r s b
-        cuts-answer j rows₂ r false (long, nil) =
-            ((long, same, tt), λ p from c f fit l. let (o, d) = below p (c .measured) f fit l in nil f o d)
-        cuts-answer j rows₂ r true n₂ = (
-          (good-long (n₂ .grown .good), same, (n₂ .grown .good, starts-moved .tabled)),
-          λ p from c. record {
-            narrowed = record {
-              grown = grown-then (pre .0 .0 .least) (n₁ .grown) (n₂ .grown);
-              low = λ f fit l. let (o, d) = below p (c .measured) f fit l in n₂ .low f o d;
-              done = all-closed n₂ p from c;
-            };
-            measured = measured-same same (c .measured);
-            tabled = starts-moved .tabled;
-            under = λ f fit l. fitting p (c .measured) f fit l .under;
-          },
-        )
+      pub cut-answer : (j : Domains) (rows′ r : List ℕ) (b : Bool)
+          → NarrowedIf (FilledWith (CutBoth s a)) (CutAround s a ends starts) k q j rows′ r b → Answer j rows′ r s b
+      cut-answer j rows′ r false (long, nil) = ((long, same, tt), λ p from c f fit l. nil f (cut p (c .measured) f fit l) l)
+      cut-answer j rows′ r true n = (
+        (good-long (n .grown .good), same, (n .grown .good, starts-moved .tabled)),
+        λ p from c. record {
+          narrowed = record { grown = n .grown; low = λ f fit l. n .low f (cut p (c .measured) f fit l) l; done = all-closed n p from c };
+          measured = measured-same same (c .measured);
+          tabled = starts-moved .tabled;
+          under = λ f fit l. fitting p (c .measured) f fit l .under;
+        },
+      )

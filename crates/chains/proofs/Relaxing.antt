@@ -53,6 +53,9 @@ module _ {s : List ℕ} {o a : ℕ} (l : Linkable s o a) {z : ℕ} (hz : z < 10)
   stored-linkable : y ≤ capacity-at s a → Linkable after o a
   stored-linkable fits = record { tabled = tabled; aligned = l .aligned; most = l .most; axis = l .axis }
     where
+      step : ℕ → ℕ → ℕ → ℕ → ℕ
+      step x b v w = 96 + (table-start x + b * 10 + v) * 10 + w
+
       tabled : Tabled after
       tabled = record {
         long = length-set s (o + a * 10 + z) y ∙ l .tabled .long;
@@ -62,6 +65,10 @@ module _ {s : List ℕ} {o a : ℕ} (l : Linkable s o a) {z : ℕ} (hz : z < 10)
             let capacity : getD s (90 + b) 0 ≡ getD s (90 + a) 0 = rw same refl in
             omega (arith, stored-far (90 + b) (omega arith)))
             (λ (e, f). omega (arith, stored-far (90 + b) (omega arith), l .tabled .within x b u d hb hu)) (stored (table-start x + b * 10 + u));
+        least = λ x b v w d hb hv hw.
+            omega (arith, stored-far (step x b v w) (omega arith), stored-far (60 + b * 10 + w) (omega arith), l .tabled .least x b v w d hb hv hw);
+        plain = λ x b v w d hb hv hw e. stored-far (step x b v w) (omega arith)
+            ∙ l .tabled .plain x b v w d hb hv hw (sym (stored-far (93 + b) (omega arith)) ∙ e) ∙ sym (stored-far (60 + b * 10 + w) (omega arith));
       }
 
 -- What raising totals comes to: numbers only grow, those of the set and no others, each by a link
@@ -115,7 +122,7 @@ module _ {L : LinkSet} {o a : ℕ} {t s : List ℕ} {g : ℕ} (h : Grows L o a t
   grows-on v z f e =
       let same : total-at s o a v ≡ total-at t o a v =
       ⊎-elim (λ e. e) (λ (z, hz, e, b). let q : z ≡ v = omega arith in absurd (clash (rw q at b) f)) (h .kept (o + a * 10 + v)) in
-      omega (arith, grows-far (60 + a * 10 + z) (omega arith), h .up (o + a * 10 + z))
+      omega (arith, grows-far (96 + (o + a * 10 + v) * 10 + z) (omega arith), h .up (o + a * 10 + z))
 
 or-assoc : (a b c : ℕ) → bitOr (bitOr a b) c ≡ bitOr a (bitOr b c)
 or-assoc = bin-ind (λ n. (b c : ℕ) → bitOr (bitOr n b) c ≡ bitOr n (bitOr b c)) (λ b c. refl) (λ n ih b c.
@@ -155,8 +162,8 @@ pub link-longer : {o a v z : ℕ} {t : List ℕ} → Linkable t o a → v ≢ z 
 link-longer {o} {a} {v} {z} {t} l ne w =
     let total = onward t o a v z in
     let apart = getD-set-other t (o + a * 10 + z) (o + a * 10 + v) total 0 (λ e. ne (omega arith)) in
-    let size = stored-far l (w .item-z) total (60 + a * 10 + z) (omega arith) in
-    record { raised = more v z none (refl, refl) w; on = λ m y (e, f). rw (e, f) (omega (arith, stored-same l (w .item-z) total, size, apart)) }
+    let step = stored-far l (w .item-z) total (96 + (o + a * 10 + v) * 10 + z) (omega arith) in
+    record { raised = more v z none (refl, refl) w; on = λ m y (e, f). rw (e, f) (omega (arith, stored-same l (w .item-z) total, step, apart)) }
 
 pub link-bursts : {o a v z : ℕ} {t : List ℕ} → v < 10 → z < 10 → capacity-at t a < onward t o a v z → Bursts (Only v z) o a t t
 link-bursts {v = v} {z = z} hv hz h =

@@ -2,14 +2,14 @@
 use Rattle.prelude.specs.Names.{Bool, true, false, _&&_, List, _⊎_, _≡_, ℕ, _+_, _*_, _%_, _^_, _≤_, _<_, bitOr, getD, length, set}
 use Rattle.domains.specs.Bits.{bit-at}
 use Rattle.domains.specs.Rows.{row-at}
-use Rattle.chains.specs.Totals.{measure-at, capacity-at, Tabled}
+use Rattle.chains.specs.Totals.{capacity-at, step-at, Tabled}
 
 abbrev pub total-at : List ℕ → ℕ → ℕ → ℕ → ℕ
 total-at t o a u = getD t (o + a * 10 + u) 0
 
 -- the total of z where its chain goes on from that of v
 abbrev pub onward : List ℕ → ℕ → ℕ → ℕ → ℕ → ℕ
-onward t o a v z = total-at t o a v + measure-at t a z
+onward t o a v z = total-at t o a v + step-at t o a v z
 
 -- sets of links, from one item to another
 abbrev pub LinkSet : Type 1

@@ -6,8 +6,8 @@ ghost use Rattle.model.specs.Order.{Proper};
 ghost use Rattle.domains.specs.Queue.{Good};
 ghost use Rattle.chains.specs.Totals.{Tabled};
 ghost use Rattle.chains.specs.NewLinks.{KeepsIf, ExtendsAlong};
-use crate::cuts::cut_ends;
-use crate::cuts::cut_starts;
+use crate::cuts::Grown;
+use crate::cuts::cut_around;
 use crate::totals::STARTS;
 use crate::totals::TOTALS;
 use crate::totals::link_on;
@@ -43,8 +43,10 @@ pub fn apply_link(
     if !starts.fits {
         return false;
     }
-    if !cut_ends(k, rows, queue, t, a, ends.items) {
-        return false;
-    }
-    cut_starts(k, rows, queue, t, a, starts.items)
+    let grown = Grown {
+        axis: a,
+        ends: ends.items,
+        starts: starts.items,
+    };
+    cut_around(k, rows, queue, t, grown)
 }

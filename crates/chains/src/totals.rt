@@ -1,5 +1,6 @@
 // The totals of greatest chains, beside the measures they are made of: at axis * 10 + item the total of the chains ending in the item, from
-// STARTS on that of those starting in it, from SIZES on the item's measure; at CAPACITY + axis the container's.
+// STARTS on that of those starting in it, from SIZES on the item's measure; at CAPACITY + axis the container's. At GAPPED + axis is 0 where nothing
+// lies between any two items; from STEPS + 10 * i on, for the total at i, what its chain grows by where it goes on with each item.
 ghost use mathlib.Core.Path.{_≡_};
 ghost use mathlib.Core.Bool.{false, _&&_};
 ghost use mathlib.Core.Logic.{_≢_};
@@ -20,8 +21,12 @@ pub const SIZES: usize = 60;
 
 pub const CAPACITY: usize = 90;
 
-// How many numbers these are in all: ends, starts and sizes, and three capacities.
-pub const TOTALS: usize = 93;
+pub const GAPPED: usize = 93;
+
+pub const STEPS: usize = 96;
+
+// How many numbers these are in all.
+pub const TOTALS: usize = 696;
 
 // Items whose totals have grown, and whether all totals are within the container.
 pub struct Growth {
@@ -34,20 +39,21 @@ fn link(t: &mut [u16; TOTALS], own: usize, a: usize, v: usize, z: usize) -> Grow
     requires { ⌜ Linkable (now t) own a × (v < 10) × (z < 10) × (v ≢ z) ⌝ }
     ensures { λ r. ⌜ RaisesIf (Only v z) (Only v z) own a (now (t .entry)) (now (t .exit)) (r .fits) (r .items) ⌝ }
 {
-    let total = t[own + a * 10 + v] as u32 + t[SIZES + a * 10 + z] as u32;
-    if total <= t[own + a * 10 + z] as u32 {
-        return Growth {
-            fits: true,
-            items: 0,
-        };
-    }
+    let row = own + a * 10;
+    let total = t[row + v] as u32 + t[STEPS + (row + v) * 10 + z] as u32;
     if total > t[CAPACITY + a] as u32 {
         return Growth {
             fits: false,
             items: 0,
         };
     }
-    t[own + a * 10 + z] = total as u16;
+    if total <= t[row + z] as u32 {
+        return Growth {
+            fits: true,
+            items: 0,
+        };
+    }
+    t[row + z] = total as u16;
     Growth {
         fits: true,
         items: bit(z),

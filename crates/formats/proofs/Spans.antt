@@ -1,10 +1,11 @@
 -- The faults of some bytes by their places: over bytes s, what a reading from a place on reads, how far, and which faults it meets on the way,
 -- if it reads on after each as if there were none. How each combinator puts these together.
 use Rattle.prelude.specs.Names.{_≡_, refl, sym, ap, _∙_, Bool, true, false, cond, _||_, false≢true, List, [], _∷_, _⊎_, inl, inr, _↔_, ℕ, zero, suc}
-use Rattle.prelude.specs.Names.{_+_, _≤_, _<_, arith, eq-or-lt-of-le, add-one, eqb, ltb, leb, length, getD, drop, drop-of-length-le, drop-cons}
+use Rattle.prelude.specs.Names.{_+_, _≤_, _<_, min, arith, eq-or-lt-of-le, add-one, eqb, ltb, leb, length, getD, drop, drop-of-length-le, drop-cons}
 use Rattle.prelude.specs.Names.{eqb-true, eq-eqb, ltb-true, lt-ltb, leb-true, le-leb}
 use Rattle.refusal.specs.declared.Refusal.{Refusal}
-use Rattle.refusal.specs.declared.Refusal.the-variants.{EndsEarly, UnknownBit, BadCount, TrailingBytes}
+use Rattle.refusal.specs.declared.Refusal.the-variants.{EndsEarly, UnknownBit, WrittenDefault, BadCount, BadItem, NotRising, TrailingBytes}
+use Rattle.refusal.specs.declared.Refusal.the-variants.{BadArgument, InvalidInstance, NotFollowing, NoLag}
 use Rattle.refusal.specs.Numbers.{place-of}
 use Rattle.formats.specs.Reading.{Reading, done, due, end, _>>=_, Read, got, refused, run, Before}
 use Rattle.formats.specs.Formats.{up-to, Format, byte, Test, testing, tested, row-reading, count, whole}
@@ -34,6 +35,23 @@ from-both (inl q) h = sym q
 from-both (inr b) (inl q) = q
 from-both (inr (inl l)) (inr b) = absurd (elim b [ inl m ↦ omega arith | inr (q, _) ↦ omega arith ])
 from-both (inr (inr (q, l))) (inr b) = absurd (elim b [ inl m ↦ omega arith | inr (_, m) ↦ omega arith ])
+
+-- 11 is the first of its place
+no-lag-first : (f : Refusal) → From (NoLag (place-of f)) f
+no-lag-first (EndsEarly p) = inr (inr (refl, omega arith))
+no-lag-first (UnknownBit p) = inr (inr (refl, omega arith))
+no-lag-first (WrittenDefault p) = inr (inr (refl, omega arith))
+no-lag-first (BadCount p) = inr (inr (refl, omega arith))
+no-lag-first (BadItem p) = inr (inr (refl, omega arith))
+no-lag-first (NotRising p) = inr (inr (refl, omega arith))
+no-lag-first (TrailingBytes p) = inr (inr (refl, omega arith))
+no-lag-first BadArgument = inr (inr (refl, omega arith))
+no-lag-first InvalidInstance = inr (inr (refl, omega arith))
+no-lag-first NotFollowing = inr (inr (refl, omega arith))
+no-lag-first (NoLag p) = inl refl
+
+from-no-lag : (at : ℕ) (f : Refusal) → at ≤ place-of f → From (NoLag at) f
+from-no-lag at f l = elim (eq-or-lt-of-le l) [ inl q ↦ rw q (no-lag-first f) | inr h ↦ inr (inl h) ]
 
 module _ (s : List ℕ) where
   -- of the faults M the first is given; where there is none, x was read, and s is left from `stop` on
@@ -72,10 +90,28 @@ module _ (s : List ℕ) where
   abbrev pub OrEarly : (Refusal → Type 0) → ℕ → Refusal → Type 0
   OrEarly W stop e = W e ⊎ ((length s < stop) × (e ≡ EndsEarly (length s)))
 
+  -- a fault of a part from `at` up to `stop`: at one of its bytes that is there, or 11, which may be after them: an empty field of lags gets it
+  abbrev pub Inside : ℕ → ℕ → Refusal → Type 0
+  Inside at stop e =
+      let last = min stop (length s) in
+      (at ≤ place-of e) × (place-of e ≤ last) × ((place-of e < last) ⊎ (e ≡ NoLag (place-of e)))
+
+  -- it is met before what is after the part
+  inside-first : {at : ℕ} (stop : ℕ) {e : Refusal} → Inside at stop e → (f : Refusal) → min stop (length s) ≤ place-of f → From e f
+  inside-first stop (a, b, inl h) f l = inr (inl (omega arith))
+  inside-first stop (a, b, inr q) f l = rw q (from-no-lag _ f (omega arith))
+
+  -- a part's first byte is inside, and its place for 11 even where the part is empty
+  pub first-inside : {at stop : ℕ} {e : Refusal} → place-of e ≡ at → at < stop → stop ≤ length s → Inside at stop e
+  first-inside q h l = (omega arith, omega arith, inl (omega arith))
+
+  pub no-lag-inside : {at stop : ℕ} → at ≤ stop → stop ≤ length s → Inside at stop (NoLag at)
+  no-lag-inside h l = (omega arith, omega arith, inr refl)
+
   -- r reads x from `at` up to `stop`, and meets the faults W there
   pub record Spans {A : Type 0} (r : Reading A) (at : ℕ) (x : A) (stop : ℕ) (W : Refusal → Type 0) : Type 0 where
     pub onward : at ≤ stop
-    pub within : (e : Refusal) → W e → (at ≤ place-of e) × (place-of e < stop) × (place-of e < length s)
+    pub within : (e : Refusal) → W e → Inside at stop e
     pub gives : at ≤ length s → Gives x stop (OrEarly W stop) (run r at (drop at s))
 
   module _ {A : Type 0} {at : ℕ} {x : A} {stop : ℕ} {W : Refusal → Type 0} where
@@ -90,7 +126,7 @@ module _ (s : List ℕ) where
     unfolding run
     spans-due {next} σ = record {
       onward = omega arith;
-      within = λ e w. omega (arith, σ .within e w);
+      within = λ e w. let (a, b, c) = σ .within e w in (omega arith, b, c);
       gives = λ l. elim (eq-or-lt-of-le l) [
         | inl q ↦ rw (drop-of-length-le s {i = at} (omega arith), q) (refuses (EndsEarly (length s)) (inr (omega arith, refl))
             (λ f. elim [ inl w ↦ absurd (omega (arith, σ .within f w)) | inr (_, p) ↦ inl p ]))
@@ -121,7 +157,10 @@ module _ (s : List ℕ) where
     pub spans-then : (r : Reading A) (k : A → Reading B) → Spans r at x mid U → Spans (k x) mid y stop W → Spans (r >>= k) at y stop (λ e. U e ⊎ W e)
     spans-then r k σ τ = record {
       onward = omega arith;
-      within = λ e. elim [ inl u ↦ omega (arith, σ .within e u) | inr w ↦ omega (arith, τ .within e w) ];
+      within = λ e. elim [
+        | inl u ↦ let (a, b, c) = σ .within e u in (a, omega arith, elim c [ inl h ↦ inl (omega arith) | inr q ↦ inr q ])
+        | inr w ↦ let (a, b, c) = τ .within e w in (omega arith, b, c)
+      ];
       gives = λ l. rw run-then (gives-as (gives-then _ (σ .gives l) (τ .gives) across) (λ e. (
         elim [ inl (inl u) ↦ inl (inl u) | inl (inr (m, q)) ↦ inr (omega arith, q) | inr (inl w) ↦ inl (inr w) | inr (inr q) ↦ inr q ],
         elim [ inl (inl u) ↦ inl (inl u) | inl (inr w) ↦ inr (inl w) | inr q ↦ inr (inr q) ],
@@ -129,8 +168,8 @@ module _ (s : List ℕ) where
     }
       where
         across : (e f : Refusal) → OrEarly U mid e → OrEarly W stop f → From e f
-        across e f (inl u) (inl w) = inr (inl (omega (arith, σ .within e u, τ .within f w)))
-        across e f (inl u) (inr (_, q)) = inr (inl (rw q (σ .within e u .2)))
+        across e f (inl u) (inl w) = inside-first mid (σ .within e u) f (omega (arith, τ .within f w))
+        across e f (inl u) (inr (_, q)) = inside-first mid (σ .within e u) f (rw q (omega arith))
         across e f (inr (l, _)) (inl w) = absurd (omega (arith, τ .within f w))
         across e f (inr (_, p)) (inr (_, q)) = inl (q ∙ sym p)
 
@@ -142,26 +181,26 @@ module _ (s : List ℕ) where
 
   module _ {A : Type 0} (f : Format A) {at : ℕ} {x : A} {stop : ℕ} where
     -- a value with no fault of its own is tested, at its place
-    pub spans-tested : (tests : A → List Test) {M : Refusal → Type 0} → at < stop → ((e : Refusal) → M e → place-of e ≡ at)
+    pub spans-tested : (tests : A → List Test) {M : Refusal → Type 0} → ((e : Refusal) → M e → stop ≤ length s → Inside at stop e)
         → (stop ≤ length s → Gives x stop M (run (testing (tests x) at x) stop (drop stop s)))
         → Spans (f .reading) at x stop (λ e. ⊥) → Spans (tested f tests .reading) at x stop (λ e. (stop ≤ length s) × M e)
     unfolding tested run
-    spans-tested tests {M} h placed g σ = record {
+    spans-tested tests {M} placed g σ = record {
       onward = σ .onward;
-      within = λ e (l, m). omega (arith, placed e m);
+      within = λ e (l, m). placed e m l;
       gives = λ l. rw run-then (gives-as
           (gives-then {N = λ e. (stop ≤ length s) × M e} _ (σ .gives l) (λ m. gives-as (g m) (λ e. (λ n. (m, n), λ (_, n). n)))
           (λ e f. elim [ inl w ↦ absurd w | inr (m, _) ↦ λ (n, _). absurd (omega arith) ]))
           (λ e. (elim [ inl (inl w) ↦ absurd w | inl (inr q) ↦ inr q | inr m ↦ inl m ], elim [ inl m ↦ inr m | inr q ↦ inl (inr q) ])));
     }
 
-    pub spans-one-test : (fault : A → Bool) (refusal : ℕ → Refusal) {C : Type 0} → at < stop → place-of (refusal at) ≡ at → ((fault x ≡ true) ↔ C)
+    pub spans-one-test : (fault : A → Bool) (refusal : ℕ → Refusal) {C : Type 0} → (stop ≤ length s → Inside at stop (refusal at)) → ((fault x ≡ true) ↔ C)
         → Spans (f .reading) at x stop (λ e. ⊥)
         → Spans (tested f (λ y. record { fault = fault y; refusal = refusal } ∷ []) .reading) at x stop
         (λ e. (stop ≤ length s) × C × (e ≡ refusal at))
     unfolding testing run
-    spans-one-test fault refusal h p c σ = spans-as
-        (spans-tested _ h (λ e. elim [ inl (_, q) ↦ rw q p | inr w ↦ absurd w ])
+    spans-one-test fault refusal placed c σ = spans-as
+        (spans-tested _ (λ e. elim [ inl (_, q) ↦ rw q placed | inr w ↦ absurd w ])
         (λ l. gives-test (fault x) c (λ f w. absurd w) (reads l (λ e w. w))) σ)
         (λ e. (λ (l, w). elim w [ inl (t, q) ↦ (l, t, q) | inr w ↦ absurd w ], λ (l, t, q). (l, inl (t, q))))
 
@@ -174,7 +213,7 @@ module _ (s : List ℕ) where
 
   pub spans-map : (n at : ℕ) → Spans (map-byte n .reading) at (getD s at 0) (at + 1) (Unknown n at)
   unfolding map-byte
-  spans-map n at = spans-one-test byte (λ map. leb (maps n) map) UnknownBit (omega arith) refl (leb-true _ _, le-leb _ _) (spans-byte at)
+  spans-map n at = spans-one-test byte (λ map. leb (maps n) map) UnknownBit (first-inside refl (omega arith)) (leb-true _ _, le-leb _ _) (spans-byte at)
 
   -- 4 at a count
   abbrev pub Miscounted : ℕ → ℕ → Refusal → Type 0
@@ -184,7 +223,7 @@ module _ (s : List ℕ) where
   unfolding count
   spans-count limit at =
       let n = getD s at 0 in
-      spans-one-test byte (λ n. eqb n 0 || ltb limit n) BadCount (omega arith) refl
+      spans-one-test byte (λ n. eqb n 0 || ltb limit n) BadCount (first-inside refl (omega arith))
       (or-exactly (eqb n 0) (ltb limit n) (eqb-true n 0, eq-eqb n 0) (ltb-true limit n, lt-ltb limit n)) (spans-byte at)
 
   -- the parts of a row: part k is at its place, after a state that is known
@@ -216,7 +255,7 @@ module _ (s : List ℕ) where
     pub gives-whole : Gives x stop OrTrailing (run (whole f) 0 s)
     unfolding whole run
     gives-whole = rw run-then (gives-then _ (σ .gives (omega arith)) (λ l. elim (eq-or-lt-of-le l) [ inl q ↦ over q | inr h ↦ left h ]) (λ e f. elim [
-      | inl w ↦ λ (l, q). inr (inl (rw q (σ .within e w .1)))
+      | inl w ↦ λ (l, q). inside-first stop (σ .within e w) f (rw q (omega arith))
       | inr (m, _) ↦ λ (l, q). absurd (omega arith)
     ]))
       where

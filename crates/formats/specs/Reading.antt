@@ -1,5 +1,5 @@
 -- Reading bytes from left to right, as data: what is due and what is tested; and what reading gives of some bytes.
-use Rattle.prelude.specs.Names.{ℕ, _+_, _<_, Bool, cond, List, [], _∷_, _⊎_, _≡_, getD}
+use Rattle.prelude.specs.Names.{ℕ, _+_, _<_, Bool, cond, List, [], _∷_, _⊎_, _≡_, eqb, getD}
 use Rattle.refusal.specs.declared.Refusal.{Refusal}
 use Rattle.refusal.specs.declared.Refusal.the-variants.{EndsEarly, TrailingBytes}
 use Rattle.refusal.specs.Numbers.{number-of, place-of}
@@ -46,9 +46,14 @@ run (refuse-if c e next) at rest = cond c (refused e) (run next at rest)
 run (end next) at [] = run next at []
 run (end next) at (b ∷ rest) = refused (TrailingBytes at)
 
+-- the rank of a refusal among those at its place: its number; but 11 is the first, since a field of lags gets it "when it is empty, before anything
+-- that follows it"
+abbrev pub turn-of : Refusal → ℕ
+turn-of e = cond (eqb (number-of e) 11) 0 (number-of e)
+
 -- e is met before f: "left to right .. at one place the lower number"
 abbrev pub Before : Refusal → Refusal → Type 0
-Before e f = (place-of e < place-of f) ⊎ ((place-of e ≡ place-of f) × (number-of e < number-of f))
+Before e f = (place-of e < place-of f) ⊎ ((place-of e ≡ place-of f) × (turn-of e < turn-of f))
 
 -- the same of another value
 abbrev pub read-as : {A B : Type 0} → (A → B) → Read A → Read B

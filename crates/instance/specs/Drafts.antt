@@ -17,15 +17,18 @@ pub record Draft (i : Instance) : Type 0 where
 abbrev pub later : {n : ℕ} → Fields Sheet (suc n) → Sheet → Fields Sheet n
 later (field get o rest) draft = rest (get draft)
 
--- the fields after the container's, after the items, after the precedences
-abbrev pub after-container : Sheet → Fields Sheet 3
+-- the fields after the container's, after the items, after the precedences, after the yard number
+abbrev pub after-container : Sheet → Fields Sheet 4
 after-container s = later (later (later sheet-fields s) s) s
 
-abbrev pub after-items : Sheet → Fields Sheet 2
+abbrev pub after-items : Sheet → Fields Sheet 3
 after-items s = later (after-container s) s
 
-abbrev pub after-precedences : Sheet → Fields Sheet 1
+abbrev pub after-precedences : Sheet → Fields Sheet 2
 after-precedences s = later (after-items s) s
+
+abbrev pub after-yard-number : Sheet → Fields Sheet 1
+after-yard-number s = later (after-precedences s) s
 
 -- fields by their bits of the map, from a weight on, and the end of the sheet
 abbrev pub to-the-end : {n : ℕ} → Fields Sheet n → ℕ → ℕ → ℕ → List ℕ → Read Instance
@@ -39,3 +42,6 @@ from-precedences map draft = to-the-end (after-items draft) map 16
 
 unfoldable pub from-yard-number : ℕ → Sheet → ℕ → List ℕ → Read Instance
 from-yard-number map draft = to-the-end (after-precedences draft) map 32
+
+unfoldable pub from-lags : ℕ → Sheet → ℕ → List ℕ → Read Instance
+from-lags map draft = to-the-end (after-yard-number draft) map 64

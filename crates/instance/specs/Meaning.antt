@@ -23,7 +23,7 @@ start (suc zero) p = p .y
 start (suc (suc a)) p = p .t
 
 abbrev pub precedence-of : Precedence → M.Precedence
-precedence-of o = record { predecessor = o .predecessor; successor = o .successor }
+precedence-of o = record { predecessor = o .predecessor; successor = o .successor; lag = o .lag }
 
 -- what an instance asks for
 unfoldable pub problem-of : Instance → M.Problem

@@ -1,9 +1,9 @@
 -- When a value is an instance (document 01, refusal 9).
-use Rattle.prelude.specs.Names.{Bool, _&&_, List, leb, take}
+use Rattle.prelude.specs.Names.{Bool, _&&_, List, map, leb, take}
 use Rattle.parts.specs.declared.Item.{Item}
 use Rattle.parts.specs.declared.Precedence.{Precedence}
 use Rattle.parts.specs.declared.Previous.the-variants.{Nothing}
-use Rattle.parts.specs.Precedences.{all-allowed}
+use Rattle.parts.specs.Precedences.{arc-of, all-allowed}
 use Rattle.parts.specs.Sizes.{positive, all-have-size}
 use Rattle.sheet.specs.Sheet.{max-items, max-precedences}
 use Rattle.instance.specs.declared.Instance.{Instance}
@@ -22,4 +22,4 @@ valid i =
     && (leb (i .«precedence_count») max-precedences
     && (positive (i .container)
     && (all-have-size (items-of i)
-    && all-allowed (i .«item_count») Nothing (precedences-of i))))
+    && all-allowed (i .«item_count») Nothing (map arc-of (precedences-of i)))))

@@ -63,8 +63,8 @@ impl Instance {
 
     pub const MAX_BRANCHES: usize = 270;
 
-    // "The longest sheet has 261 bytes."
-    pub const MAX_BYTES: usize = 261;
+    // "The longest sheet is 351 bytes."
+    pub const MAX_BYTES: usize = 351;
 
     // The opening checkpoint: open with an empty path.
     pub fn opening() -> Checkpoint

@@ -1,11 +1,10 @@
 // Reading a sheet, field by field. What has been read so far is held in an instance, the draft.
 ghost use mathlib.Core.Path.{_≡_};
-ghost use lib.ListN.{length};
 ghost use Rattle.formats.specs.Reading.{refused};
 ghost use Rattle.parts.specs.Answers.{PlacesFit};
 ghost use Rattle.instance.specs.Answers.{read-result, empty-instance};
 ghost use Rattle.instance.specs.Sheets.{sheet-of, decode};
-ghost use Rattle.instance.specs.Drafts.{Draft, from-items, from-precedences, from-yard-number};
+ghost use Rattle.instance.specs.Drafts.{Draft, from-items, from-precedences, from-yard-number, from-lags};
 use crate::Instance;
 use crate::ReadAnswer;
 use crate::ReadResult;
@@ -45,7 +44,34 @@ fn refuse(e: Refusal) -> ReadResult
     }
 }
 
-// The yard number, and the end of the sheet.
+// The lags, and the end of the sheet.
+fn read_from_lags(rest: &[u8], at: usize, map: u8, draft: Instance) -> ReadResult
+    requires { ⌜ PlacesFit at (now rest) × Draft draft ⌝ }
+    ensures { λ r. ⌜ r ≡ read-result (from-lags map (sheet-of draft) at (now (rest .entry))) ⌝ }
+{
+    let m = draft.precedence_count;
+    let list = lists::read_lags(rest, at, m, parts::read::bit_is_set(map, 64));
+    let stop = list.stop;
+    match stop {
+        Stop::Refused(e) => refuse(e),
+        Stop::After(used) => {
+            if used < rest.len() {
+                return refuse(Refusal::TrailingBytes(at + used));
+            }
+            let unlagged = draft.precedences;
+            let lags = list.lags;
+            let precedences = lists::with_lags(unlagged, lags);
+            let mut instance = draft;
+            instance.precedences = precedences;
+            ReadResult {
+                answer: ReadAnswer::Read,
+                instance,
+            }
+        }
+    }
+}
+
+// The yard number, and what follows it.
 fn read_from_yard_number(rest: &[u8], at: usize, map: u8, draft: Instance) -> ReadResult
     requires { ⌜ PlacesFit at (now rest) × Draft draft ⌝ }
     ensures { λ r. ⌜ r ≡ read-result (from-yard-number map (sheet-of draft) at (now (rest .entry))) ⌝ }
@@ -53,15 +79,9 @@ fn read_from_yard_number(rest: &[u8], at: usize, map: u8, draft: Instance) -> Re
     match parts::read::read_field(rest, at, parts::read::bit_is_set(map, 32), 0) {
         FieldRead::Refused(e) => refuse(e),
         FieldRead::Value(yard, used) => {
-            if used < rest.len() {
-                return refuse(Refusal::TrailingBytes(at + used));
-            }
-            let mut instance = draft;
-            instance.yard_number = yard;
-            ReadResult {
-                answer: ReadAnswer::Read,
-                instance,
-            }
+            let mut next = draft;
+            next.yard_number = yard;
+            read_from_lags(&rest[used..], at + used, map, next)
         }
     }
 }
@@ -114,7 +134,7 @@ impl Instance {
             return refuse(Refusal::EndsEarly(0));
         }
         let map = bytes[0];
-        if 63 < map {
+        if 127 < map {
             return refuse(Refusal::UnknownBit(0));
         }
         match parts::read::read_size(&bytes[1..], 1, map) {

@@ -2,10 +2,10 @@
 use Rattle.prelude.specs.Names.{Bool, true, false, not, _&&_, false≢true, cond, _||_, List, [], _∷_, _≡_, refl, _∙_, ap, ℕ, zero, suc, _+_, _≤_, _<_}
 use Rattle.prelude.specs.Names.{zero-le, decLe, le-refl, le-trans, arith, eqb, eqb-true, eq-eqb, ne-eqb, not-true}
 use Rattle.model.specs.Below.{most-below}
-use Rattle.model.specs.Problem.{Problem}
+use Rattle.model.specs.Problem.{Problem, gap}
 use Rattle.model.specs.Domains.{Domains, fixed-before}
 use Rattle.model.specs.Rules.{listed, joined, longest, ending, starting, greatest-ending, greatest-starting}
-use Rattle.model.specs.Chain.{Chain, alone, link, total-from, Starting, starting-total, Ending, ending-total, measure-sum}
+use Rattle.model.specs.Chain.{Chain, alone, link, total-from, Starting, starting-total, Ending, ending-total, measure-sum, gap-sum}
 use Rattle.model.proofs.Below.{and-both, or-elim, or-left, or-right, or-neither, neither-or, most-some, refuted, clash, Implies, most-at}
 use Rattle.model.proofs.Below.{most-le, below-suc}
 use Rattle.model.proofs.Ends.{joined-mono}
@@ -197,13 +197,13 @@ module _ (p : Problem) (k : Domains) (a u : ℕ) where
   unfolding greatest-starting starting
   greatest-starting-attained hu = longest-attained p a (λ u v. fixed-before k a u v) _ (front-mono p a) u hu
 
--- a chain's total is the sum of its measures, read from either end
-pub starting-total-measures : (p : Problem) (a u : ℕ) (l : List ℕ) → starting-total p a u l ≡ measure-sum p a (u ∷ l)
+-- a chain's total is the sum of its measures and of what lies between neighbours, read from either end
+pub starting-total-sum : (p : Problem) (a u : ℕ) (l : List ℕ) → starting-total p a u l ≡ measure-sum p a (u ∷ l) + gap-sum (gap p a) (u ∷ l)
 unfolding joined
-starting-total-measures p a u [] = omega arith
-starting-total-measures p a u (v ∷ l) = ap (λ (x : ℕ). p .size a u + x) (starting-total-measures p a v l)
+starting-total-sum p a u [] = omega arith
+starting-total-sum p a u (v ∷ l) = omega (arith, starting-total-sum p a v l)
 
-pub ending-total-measures : (p : Problem) (a u : ℕ) (l : List ℕ) → ending-total p a u l ≡ measure-sum p a (u ∷ l)
+pub ending-total-sum : (p : Problem) (a u : ℕ) (l : List ℕ) → ending-total p a u l ≡ measure-sum p a (u ∷ l) + gap-sum (λ x y. gap p a y x) (u ∷ l)
 unfolding joined
-ending-total-measures p a u [] = omega arith
-ending-total-measures p a u (v ∷ l) = omega (arith, ending-total-measures p a v l)
+ending-total-sum p a u [] = omega arith
+ending-total-sum p a u (v ∷ l) = omega (arith, ending-total-sum p a v l)

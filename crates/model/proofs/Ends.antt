@@ -1,6 +1,6 @@
 -- What is used of "ends before" and of the total of two chains joined: whatever lies between neighbours enters here and nowhere above.
 use Rattle.prelude.specs.Names.{_⊎_, inl, inr, ℕ, _+_, _≤_, decLe, arith}
-use Rattle.model.specs.Problem.{Problem, Positions, EndsBefore}
+use Rattle.model.specs.Problem.{Problem, Positions, EndsBefore, EndsAhead, gap}
 use Rattle.model.specs.Rules.{joined}
 
 module _ (p : Problem) (q : Positions) (a : ℕ) where
@@ -22,18 +22,19 @@ module _ (p : Problem) (q : Positions) (a : ℕ) where
   unfolding EndsBefore
   ends-cross x y u v d e = elim (decLe (q a x + p .size a x) (q a v)) [ yes l ↦ inl l | no l ↦ inr (omega arith) ]
 
-  -- where u ends before v: a chain with room up to the end of u goes on with one that has room from the start of v
-  pub joined-room : (u v x y c : ℕ) → EndsBefore p q a u v → x ≤ q a u + p .size a u → q a v + y ≤ c → joined p a u v x y ≤ c
-  unfolding joined EndsBefore
+  -- where u ends ahead of v by what lies between them: a chain with room up to the end of u goes on with one that has room from the start of v
+  pub joined-room : (u v x y c : ℕ) → EndsAhead p q a (gap p a u v) u v → x ≤ q a u + p .size a u → q a v + y ≤ c → joined p a u v x y ≤ c
+  unfolding joined EndsAhead
   joined-room u v x y c e h g = omega arith
 
-  pub joined-from : (u v y c : ℕ) → EndsBefore p q a u v → q a v + y ≤ c → q a u + joined p a u v (p .size a u) y ≤ c
-  unfolding joined EndsBefore
+  pub joined-from : (u v y c : ℕ) → EndsAhead p q a (gap p a u v) u v → q a v + y ≤ c → q a u + joined p a u v (p .size a u) y ≤ c
+  unfolding joined EndsAhead
   joined-from u v y c e g = omega arith
 
   -- and the other way round, where the ends have room for the chain
-  pub joined-ends : (u v x y : ℕ) → q a u + p .size a u ≤ x → y ≤ q a v + p .size a v → joined p a u v x (p .size a v) ≤ y → EndsBefore p q a u v
-  unfolding joined EndsBefore
+  pub joined-ends : (u v x y : ℕ) → q a u + p .size a u ≤ x → y ≤ q a v + p .size a v → joined p a u v x (p .size a v) ≤ y
+      → EndsAhead p q a (gap p a u v) u v
+  unfolding joined EndsAhead
   joined-ends u v x y h g e = omega arith
 
 pub joined-mono : (p : Problem) (a u v : ℕ) {x y x′ y′ : ℕ} → x ≤ x′ → y ≤ y′ → joined p a u v x y ≤ joined p a u v x′ y′

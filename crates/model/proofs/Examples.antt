@@ -1,13 +1,13 @@
--- Document 01's "Plausible errors", each refuted by a small example; by computation.
+-- Document 01's "Plausible errors", each refuted by a small example, and halls with lags (document 02, #101); by computation.
 use Rattle.prelude.specs.Names.{Bool, true, false, cond, _&&_, List, [], _∷_, List·Memᴰ·not-nil, _≡_, refl, ℕ, zero, suc, _+_, _*_, arith, leb, ltb}
 use Rattle.prelude.specs.Names.{getD, leb-true}
 use Rattle.model.specs.Below.{all-below}
-use Rattle.model.specs.Problem.{Problem, Positions, time, Feasible, ends-before, feasible}
+use Rattle.model.specs.Problem.{Problem, Precedence, Positions, time, Feasible, ends-before, feasible}
 use Rattle.model.specs.Domains.{Domains, may-before, may-overlap, remove-overlap, fix-before, fix-overlap, full-domains}
 use Rattle.model.specs.Rules.{rule4}
 use Rattle.model.specs.Propagate.{propagate}
 use Rattle.model.specs.Search.{infeasible}
-use Rattle.model.specs.Calls.{budget-spent, no-packing}
+use Rattle.model.specs.Calls.{budget-spent, no-packing, packing}
 use Rattle.model.specs.Run.{run-end}
 use Rattle.model.specs.Trials.{Triple, trial, problem, xyt, unit, with-budget, trial-right}
 use Rattle.model.specs.Admits.{Sound}
@@ -105,3 +105,34 @@ pub second-due :
     (with-budget 2 budget-spent 2 ∷ with-budget 1 no-packing 1 ∷ with-budget 1 no-packing 0 ∷ [])) ≡ true
 unfolding trial-right
 second-due = refl
+
+-- Lags. Three items of 1×1×1 in a hall of 1×1; orders 0, 1 with lag 1, 0, 2 with lag 5 and 1, 2 with lag 0. Item 2 waits for the direct order, 1 + 5 shifts, not for the
+-- row 0, 1, 2, which is 1 + 1 + 1 + 0 long before it: so 7 shifts are needed, and 6 are one too few
+abbrev order : ℕ → ℕ → ℕ → Precedence
+order u v lag = record { predecessor = u; successor = v; lag = lag }
+
+abbrev three-orders : List Precedence
+three-orders = order 0 1 1 ∷ order 0 2 5 ∷ order 1 2 0 ∷ []
+
+pub lags-kept : trial-right (trial (xyt 1 1 7) (unit ∷ unit ∷ unit ∷ []) three-orders
+    (with-budget 9 (packing (xyt 0 0 0 ∷ xyt 0 0 2 ∷ xyt 0 0 6 ∷ [])) 1 ∷ [])) ≡ true
+unfolding trial-right
+lags-kept = refl
+
+pub lags-too-late : trial-right (trial (xyt 1 1 6) (unit ∷ unit ∷ unit ∷ []) three-orders (with-budget 9 no-packing 1 ∷ [])) ≡ true
+unfolding trial-right
+lags-too-late = refl
+
+-- orders 0, 1 and 1, 2 with lag 2 each: what follows of 0 and 2 has no lag, and 3 + 2 + 2 shifts are enough
+pub lags-follow : trial-right (trial (xyt 1 1 7) (unit ∷ unit ∷ unit ∷ []) (order 0 1 2 ∷ order 1 2 2 ∷ [])
+    (with-budget 9 (packing (xyt 0 0 0 ∷ xyt 0 0 3 ∷ xyt 0 0 6 ∷ [])) 1 ∷ [])) ≡ true
+unfolding trial-right
+lags-follow = refl
+
+-- fit asks for the lag on t: one shift less, and it does not
+abbrev lagged : Problem
+lagged = problem (trial (xyt 2 1 4) (unit ∷ unit ∷ []) (order 0 1 2 ∷ []) [])
+
+pub lag-missed : (feasible lagged (at-starts (xyt 0 0 0 ∷ xyt 0 0 3 ∷ [])) ≡ true) × (feasible lagged (at-starts (xyt 0 0 0 ∷ xyt 1 0 2 ∷ [])) ≡ false)
+unfolding trial-right
+lag-missed = (refl, refl)

@@ -2,7 +2,7 @@
 use Rattle.prelude.specs.Names.{Bool, true, _&&_, _||_, _⊎_, ⊎-elim, ⊎-map, _↔_, _≡_, ℕ, _+_, _<_, ℕ-discrete, leb, eqb, leb-true, le-leb, eqb-true}
 use Rattle.prelude.specs.Names.{eq-eqb}
 use Rattle.model.specs.Below.{all-below}
-use Rattle.model.specs.Problem.{Problem, Precedence, Positions, EndsBefore, ends-before, Feasible, feasible, inside-test, apart-test}
+use Rattle.model.specs.Problem.{Problem, Precedence, Positions, EndsBefore, EndsAhead, ends-before, ends-ahead, Feasible, feasible, inside-test, apart-test}
 use Rattle.model.specs.Problem.{ordered-test, apart-on-some-axis, time}
 use Rattle.model.proofs.Below.{and-intro, and-both, or-left, or-right, or-case, all-at, all-of, some-at, some-of, in-at, in-of}
 
@@ -30,11 +30,11 @@ module _ (p : Problem) (q : Positions) where
   clear u v = eqb u v || apart-on-some-axis p q u v
 
   abbrev kept : Precedence → Bool
-  kept o = ends-before p q time (o .predecessor) (o .successor)
+  kept o = ends-ahead p q time (o .lag) (o .predecessor) (o .successor)
 
   -- the test and the record agree
   pub feasible-exactly : (feasible p q ≡ true) ↔ Feasible p q
-  unfolding feasible inside-test apart-test ordered-test ends-before EndsBefore
+  unfolding feasible inside-test apart-test ordered-test ends-ahead EndsAhead
   feasible-exactly = (
     λ e.
         let (i, r) = and-both (inside-test p q) (apart-test p q && ordered-test p q) e in

@@ -5,6 +5,7 @@ pub mod Order
 pub mod Slots
 pub mod Domains
 pub mod Ends
+pub mod Gap
 pub mod Chain
 pub mod Monotone
 pub mod Without

@@ -1,6 +1,6 @@
 -- Packed and consistent at rest, with the precedences fixed: starts by greatest chains are feasible.
 use Rattle.prelude.specs.Names.{true, false, _||_, List·Memᴰ, _⊎_, inl, inr, ⊎-map, ⊎-elim, _≡_, ℕ, _≤_, _<_, le-refl, le-trans, decLe, arith}
-use Rattle.model.specs.Problem.{Problem, Precedence, EndsBefore, Feasible, time}
+use Rattle.model.specs.Problem.{Problem, Precedence, EndsBefore, EndsAhead, Feasible, time, gap}
 use Rattle.model.specs.Domains.{Domains, fixed-before}
 use Rattle.model.specs.Rules.{joined, greatest-ending, greatest-starting}
 use Rattle.model.specs.Branching.{inconsistent, separated, packed, starts}
@@ -11,6 +11,7 @@ use Rattle.model.proofs.Asks.{not-before, ask-c2}
 use Rattle.model.proofs.Slots.{lt-or-gt, pairs-at}
 use Rattle.model.proofs.Domains.{fixed-distinct}
 use Rattle.model.proofs.Ends.{joined-mono, joined-ends}
+use Rattle.model.proofs.Gap.{lag-gap, ahead-less, ahead-before}
 use Rattle.model.proofs.GreatestChains.{greatest-ending-size, greatest-starting-size, greatest-ending-bound, greatest-starting-bound}
 use Rattle.model.proofs.GreatestChains.{greatest-ending-step}
 use Rattle.model.proofs.Clauses.{rest-obeyed}
@@ -37,13 +38,17 @@ module _ (p : Problem) (k : Domains) (rest : AtRest p k) (consistent : inconsist
       greatest-starting-bound p k a v (p .capacity a) hv (size-fits p k consistent a v ha hv)
       (λ u hu b. le-trans (joined-mono p a v u (greatest-ending-size p k a v) (le-refl _)) (joined-fits a v u ha hv hu b))
 
-  -- where "before" is fixed, the starts keep it
-  pub starts-before : (a u v : ℕ) → a < 3 → u < p .items → v < p .items → fixed-before k a u v ≡ true → EndsBefore p (starts p k) a u v
+  -- where "before" is fixed, the starts keep it and what lies between
+  pub starts-ahead : (a u v : ℕ) → a < 3 → u < p .items → v < p .items → fixed-before k a u v ≡ true
+      → EndsAhead p (starts p k) a (gap p a u v) u v
   unfolding starts
-  starts-before a u v ha hu hv b =
+  starts-ahead a u v ha hu hv b =
       joined-ends p (starts p k) a u v (greatest-ending p k a u) (greatest-ending p k a v)
       (omega (arith, greatest-ending-size p k a u)) (omega (arith, greatest-ending-size p k a v))
       (greatest-ending-step p k a (before-transitive p k consistent a ha (rest-obeyed p k rest)) (before-irreflexive p k consistent a ha) u v hu hv b)
+
+  starts-before : (a u v : ℕ) → a < 3 → u < p .items → v < p .items → fixed-before k a u v ≡ true → EndsBefore p (starts p k) a u v
+  starts-before a u v ha hu hv b = ahead-before p (starts p k) a u v (gap p a u v) (starts-ahead a u v ha hu hv b)
 
   separated-apart : (u v : ℕ) → u < p .items → v < p .items → separated k u v ≡ true
       → (a : ℕ) × (a < 3) × (EndsBefore p (starts p k) a u v ⊎ EndsBefore p (starts p k) a v u)
@@ -63,5 +68,7 @@ module _ (p : Problem) (k : Domains) (rest : AtRest p k) (consistent : inconsist
       | inl l ↦ separated-apart u v hu hv (pairs-at (p .items) (separated k) d u v l hv)
       | inr l ↦ let (a, ha, s) = separated-apart v u hv hu (pairs-at (p .items) (separated k) d v u l hu) in (a, ha, ⊎-elim inr inl s)
     ];
-    ordered = λ o m. let s = sound .named o m in starts-before time (o .predecessor) (o .successor) (s .axis) (s .item-u) (s .item-v) (fixed o m);
+    ordered = λ o m. let s = sound .named o m in
+        ahead-less p (starts p k) time (o .predecessor) (o .successor) (lag-gap p o m)
+        (starts-ahead time (o .predecessor) (o .successor) (s .axis) (s .item-u) (s .item-v) (fixed o m));
   }

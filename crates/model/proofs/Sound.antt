@@ -14,6 +14,7 @@ use Rattle.model.proofs.Slots.{proper-sym, proper-up}
 use Rattle.model.proofs.Consistent.{consistent-of}
 use Rattle.model.proofs.Domains.{gone-is, fixed-before-says, fixed-overlap-says, before-distinct, overlap-distinct}
 use Rattle.model.proofs.Ends.{ends?, ends-trans, ends-asym, ends-cross, joined-room, joined-from}
+use Rattle.model.proofs.Gap.{gap-kept}
 use Rattle.model.proofs.GreatestChains.{greatest-ending-within, greatest-starting-within}
 use Rattle.model.proofs.Pass.{pass-well-formed, left-pass}
 use Rattle.model.proofs.Propagate.{propagate-keeps}
@@ -99,19 +100,25 @@ module _ (p : Problem) (sound : Sound p) (q : Positions) (feasible : Feasible p 
   ending-room : (a u : ℕ) → a < 3 → u < p .items → greatest-ending p k a u ≤ q a u + p .size a u
   ending-room a u ha hu =
       greatest-ending-within p k a (λ x. q a x + p .size a x) (λ x hx. omega arith)
-      (λ v w x hv hw b h. joined-room p q a v w x (p .size a w) (q a w + p .size a w) (fixed-before-holds ha hv hw b) h (le-refl _)) u hu
+      (λ v w x hv hw b h. joined-room p q a v w x (p .size a w) (q a w + p .size a w) (gap-kept p q feasible a v w (fixed-before-holds ha hv hw b)) h (le-refl _))
+      u hu
 
   starting-room : (a u : ℕ) → a < 3 → u < p .items → greatest-starting p k a u ≤ p .capacity a - q a u
   starting-room a u ha hu =
       greatest-starting-within p k a (λ x. p .capacity a - q a x) (λ x hx. omega (arith, feasible .inside a x ha hx))
       (λ v w y hv hw b h.
-      omega (arith, joined-from p q a v w y (p .capacity a) (fixed-before-holds ha hv hw b) (omega (arith, feasible .inside a w ha hw)))) u hu
+      omega (
+        arith,
+        joined-from p q a v w y (p .capacity a) (gap-kept p q feasible a v w (fixed-before-holds ha hv hw b))
+            (omega (arith, feasible .inside a w ha hw)),
+      )) u hu
 
   rule5-sound : (a u v : ℕ) → Proper (p .items) a u v → rule5 p k a u v ≡ true → EndsBefore p q a u v → ⊥
   unfolding rule5
   rule5-sound a u v s e h =
       let l = ltb-true (p .capacity a) _ e in
-      let m = joined-room p q a u v (greatest-ending p k a u) (greatest-starting p k a v) (p .capacity a) h (ending-room a u (s .axis) (s .item-u))
+      let m = joined-room p q a u v (greatest-ending p k a u) (greatest-starting p k a v) (p .capacity a) (gap-kept p q feasible a u v h)
+      (ending-room a u (s .axis) (s .item-u))
       (omega (arith, starting-room a v (s .axis) (s .item-v), feasible .inside a v (s .axis) (s .item-v))) in
       omega arith
 

@@ -1,6 +1,6 @@
 -- Rule 5 inside the event loop. A table under the chains of every goal stays under them as its numbers go on along links, and what it finds too long no
 -- goal has. Where nothing is pending, the domains are the propagation and the table is exact.
-use Rattle.prelude.specs.Names.{true, false, _⊎_, inl, inr, ⊎-elim, ⊎-map, _≡_, sym, _∙_, ℕ, _≤_, _<_, le-refl, le-trans, arith, ltb-true}
+use Rattle.prelude.specs.Names.{true, false, _⊎_, inl, inr, ⊎-elim, ⊎-map, _≡_, sym, _∙_, ℕ, _+_, _≤_, _<_, le-refl, le-trans, arith, ltb-true}
 use Rattle.prelude.specs.Names.{not-true}
 use Rattle.model.specs.Problem.{Problem}
 use Rattle.model.specs.Domains.{Domains, may-before}
@@ -11,7 +11,7 @@ use Rattle.model.specs.Order.{Proper, WellFormed, _⊑_, AtRest}
 use Rattle.model.specs.Relations.{gone, Untouched}
 use Rattle.model.specs.Facts.{forced}
 use Rattle.model.specs.Clauses.{of, Obeyed}
-use Rattle.model.specs.Toward.{Goal, Direction, greatest, Linked, extended, Table, Under, Toward, Links, Cuts, ClosedBut, Closed}
+use Rattle.model.specs.Toward.{Goal, Direction, greatest, Linked, extended, between, Table, Under, Toward, Links, Cuts, ClosedBut, Closed}
 use Rattle.model.proofs.Below.{stays, clash}
 use Rattle.model.proofs.Order.{implies-eq, below-eq}
 use Rattle.model.proofs.Ends.{joined-mono}
@@ -27,6 +27,11 @@ use Rattle.model.proofs.Untouched.{propagate-untouched, linked-proper}
 use Rattle.model.proofs.Consistent.{before-irreflexive, before-transitive}
 use Rattle.model.proofs.Packed.{chain-fits, starting-fits}
 pub use Rattle.model.proofs.Clauses.{by-direction}
+
+-- it is the total of v, what lies between, and the measure of z
+pub extended-sum : (p : Problem) (a x v z m : ℕ) → Direction x → extended x p a v z m ≡ m + between x p a v z + p .size a z
+unfolding joined
+extended-sum p a x v z m d = by-direction (λ x. extended x p a v z m ≡ m + between x p a v z + p .size a z) (omega arith) (omega arith) x d
 
 -- a longer chain makes a longer one
 extended-mono : (p : Problem) (a x v z : ℕ) → Direction x → {m n : ℕ} → m ≤ n → extended x p a v z m ≤ extended x p a v z n

@@ -1,20 +1,22 @@
 -- A problem with items of measure 0 added up to ten (specs/Wide): where nothing is removed of the items added, propagation comes to the same.
-use Rattle.prelude.specs.Names.{Bool, true, false, List, _∷_, _⊎_, inl, inr, _≡_, sym, _∙_, ap₂, ℕ, zero, suc, _+_, _≤_, _<_, le-trans, decLt, arith}
+use Rattle.prelude.specs.Names.{Bool, true, false, List, _∷_, _⊎_, inl, inr, _≡_, refl, sym, _∙_, ap₂, ℕ, zero, suc, _+_, _≤_, _<_, le-trans, decLt, arith}
 use Rattle.prelude.specs.Names.{ltb-true, lt-ltb, le-ltb}
-use Rattle.model.specs.Problem.{Problem}
+use Rattle.model.specs.Problem.{Problem, gap}
 use Rattle.model.specs.Domains.{Domains, fixed-before}
 use Rattle.model.specs.Rules.{joined, greatest-ending, greatest-starting, rule5}
-use Rattle.model.specs.Chain.{Chain, alone, link, measure-sum}
+use Rattle.model.specs.Chain.{Chain, alone, link, measure-sum, gap-sum}
 use Rattle.model.specs.Propagate.{propagate}
 use Rattle.model.specs.Branching.{empty, inconsistent}
 use Rattle.model.specs.Order.{WellFormed, _⊑_, AtRest}
 use Rattle.model.specs.Relations.{gone, Untouched}
-use Rattle.model.specs.Toward.{Goal, Direction, greatest}
+use Rattle.model.specs.Toward.{Goal, Direction, greatest, between}
+use Rattle.model.specs.Admits.{Sound}
 use Rattle.model.specs.Wide.{wide}
 use Rattle.model.proofs.Below.{stays, clash}
 use Rattle.model.proofs.Order.{implies-eq}
+use Rattle.model.proofs.Gap.{gap-past}
 use Rattle.model.proofs.GreatestChains.{greatest-starting-bound, greatest-ending-bound}
-use Rattle.model.proofs.Chain.{first-item, ending-total-measures, starting-total-measures, greatest-ending-greatest, greatest-ending-attained}
+use Rattle.model.proofs.Chain.{first-item, ending-total-sum, starting-total-sum, greatest-ending-greatest, greatest-ending-attained}
 use Rattle.model.proofs.Chain.{greatest-starting-greatest, greatest-starting-attained}
 use Rattle.model.proofs.Pass.{at-rest-rests}
 use Rattle.model.proofs.Propagate.{propagate-well-formed, propagate-at-rest, propagate-less, propagate-greatest, between-rest}
@@ -34,10 +36,10 @@ module _ (p : Problem) (a u : ℕ) where
   unfolding wide
   wide-past h = rw (le-ltb u (p .items) h)
 
--- m is the greatest sum of measures of chains from u
-record Greatest (p : Problem) (linked : ℕ → ℕ → Bool) (a u m : ℕ) : Type 0 where
-  most : (l : List ℕ) → Chain p linked (u ∷ l) → measure-sum p a (u ∷ l) ≤ m
-  attained : (l : List ℕ) × Chain p linked (u ∷ l) × (measure-sum p a (u ∷ l) ≡ m)
+-- m is the greatest total of chains from u, with g between neighbours
+record Greatest (p : Problem) (linked : ℕ → ℕ → Bool) (g : ℕ → ℕ → ℕ) (a u m : ℕ) : Type 0 where
+  most : (l : List ℕ) → Chain p linked (u ∷ l) → measure-sum p a (u ∷ l) + gap-sum g (u ∷ l) ≤ m
+  attained : (l : List ℕ) × Chain p linked (u ∷ l) × (measure-sum p a (u ∷ l) + gap-sum g (u ∷ l) ≡ m)
 
 -- what may be next to u in a chain, followed in the direction x
 abbrev linked : ℕ → Domains → ℕ → ℕ → ℕ → Bool
@@ -45,16 +47,17 @@ linked zero k a u v = fixed-before k a u v
 linked (suc zero) k a u v = fixed-before k a u v
 linked (suc (suc x)) k a u v = fixed-before k a v u
 
-total-greatest : (p : Problem) (k : Domains) (a u : ℕ) → u < p .items → (x : ℕ) → Direction x → Greatest p (linked x k a) a u (greatest x p k a u)
+total-greatest : (p : Problem) (k : Domains) (a u : ℕ) → u < p .items → (x : ℕ) → Direction x
+    → Greatest p (linked x k a) (λ u v. between x p a v u) a u (greatest x p k a u)
 total-greatest p k a u hu =
-    by-direction (λ x. Greatest p (linked x k a) a u (greatest x p k a u))
+    by-direction (λ x. Greatest p (linked x k a) (λ u v. between x p a v u) a u (greatest x p k a u))
     (record {
-      most = λ l c. omega (arith, starting-total-measures p a u l, greatest-starting-greatest p k a u l c);
-      attained = let (l, c, e) = greatest-starting-attained p k a u hu in (l, c, sym (starting-total-measures p a u l) ∙ e);
+      most = λ l c. omega (arith, starting-total-sum p a u l, greatest-starting-greatest p k a u l c);
+      attained = let (l, c, e) = greatest-starting-attained p k a u hu in (l, c, sym (starting-total-sum p a u l) ∙ e);
     })
     (record {
-      most = λ l c. omega (arith, ending-total-measures p a u l, greatest-ending-greatest p k a u l c);
-      attained = let (l, c, e) = greatest-ending-attained p k a u hu in (l, c, sym (ending-total-measures p a u l) ∙ e);
+      most = λ l c. omega (arith, ending-total-sum p a u l, greatest-ending-greatest p k a u l c);
+      attained = let (l, c, e) = greatest-ending-attained p k a u hu in (l, c, sym (ending-total-sum p a u l) ∙ e);
     })
 
 -- A chain stays one, of the same measures, as items are added
@@ -68,8 +71,8 @@ module _ (p : Problem) (limited : p .items ≤ 10) (linked : ℕ → ℕ → Boo
   wide-measures (alone h) = rw (wide-size p a _ h)
   wide-measures (link h b d c) = ap₂ _+_ (wide-size p a _ h) (wide-measures c)
 
-  wide-no-less : {u m n : ℕ} → Greatest p linked a u m → Greatest (wide p) linked a u n → m ≤ n
-  wide-no-less f g = let (l, c, e) = f .attained in omega (arith, g .most l (chain-wide c), wide-measures c)
+  wide-no-less : {u m n : ℕ} (between : ℕ → ℕ → ℕ) → Greatest p linked between a u m → Greatest (wide p) linked between a u n → m ≤ n
+  wide-no-less between f g = let (l, c, e) = f .attained in omega (arith, g .most l (chain-wide c), wide-measures c)
 
   -- and where no item added is linked, there are no others
   module _ (inside : (u v : ℕ) → u < 10 → v < 10 → linked u v ≡ true → v < p .items) where
@@ -77,6 +80,18 @@ module _ (p : Problem) (limited : p .items ≤ 10) (linked : ℕ → ℕ → Boo
     unfolding wide
     chain-own hu (alone h) = alone hu
     chain-own hu (link h b d c) = link hu b d (chain-own (inside _ _ h (first-item c) b) c)
+
+-- the items added change nothing between the others
+pub wide-between : (p : Problem) (a v z x : ℕ) → Direction x → between x (wide p) a v z ≡ between x p a v z
+unfolding wide gap
+wide-between p a v z = by-direction (λ x. between x (wide p) a v z ≡ between x p a v z) refl refl
+
+wide-total : (p : Problem) (k : Domains) (a u : ℕ) → u < 10 → (x : ℕ) → Direction x
+    → Greatest (wide p) (linked x k a) (λ u v. between x p a v u) a u (greatest x (wide p) k a u)
+unfolding wide gap
+wide-total p k a u hu x d =
+    by-direction (λ x. Greatest (wide p) (linked x k a) (λ u v. between x p a v u) a u (greatest x (wide p) k a u))
+    (total-greatest (wide p) k a u hu 1 (omega arith)) (total-greatest (wide p) k a u hu 2 (omega arith)) x d
 
 module _ (p : Problem) (limited : p .items ≤ 10) (f : Domains) (plain : Untouched (p .items) f) where
   module _ (x a u : ℕ) (d : Direction x) (ha : a < 3) where
@@ -90,10 +105,10 @@ module _ (p : Problem) (limited : p .items ≤ 10) (f : Domains) (plain : Untouc
     unfolding wide
     wide-greatest hu =
         let own = total-greatest p f a u hu x d in
-        let all = total-greatest (wide p) f a u (omega arith) x d in
+        let all = wide-total p f a u (omega arith) x d in
         let (l, c, e) = all .attained in
         let c = chain-own p limited _ a inside hu c in
-        omega (arith, own .most l c, wide-measures p limited _ a c, wide-no-less p limited _ a own all)
+        omega (arith, own .most l c, wide-measures p limited _ a c, wide-no-less p limited _ a _ own all)
 
     past-greatest : u < 10 → p .items ≤ u → greatest x (wide p) f a u ≤ 0
     unfolding wide
@@ -105,25 +120,26 @@ module _ (p : Problem) (limited : p .items ≤ 10) (f : Domains) (plain : Untouc
   pub wide-ending : (a u : ℕ) → a < 3 → u < p .items → greatest-ending (wide p) f a u ≡ greatest-ending p f a u
   wide-ending a u ha hu = wide-greatest 2 a u (omega arith) ha hu
 
--- A goal is at rest and consistent with the items added: their chains are 0, and every other has room
-module _ (p : Problem) (limited : p .items ≤ 10) (f : Domains) (goal : Goal p f) where
+-- A goal is at rest and consistent with the items added: their chains are 0 with nothing between, and every other has room
+module _ (p : Problem) (sound : Sound p) (f : Domains) (goal : Goal p f) where
   own-or-none : (x a u : ℕ) → Direction x → a < 3 → u < 10
-      → ((u < p .items) × (greatest x (wide p) f a u ≡ greatest x p f a u) × (greatest x p f a u ≤ p .capacity a)) ⊎ (greatest x (wide p) f a u ≤ 0)
+      → ((u < p .items) × (greatest x (wide p) f a u ≡ greatest x p f a u) × (greatest x p f a u ≤ p .capacity a)) ⊎ ((p .items ≤ u) × (greatest x (wide p) f a u ≤ 0))
   own-or-none x a u d ha hu = elim (decLt u (p .items)) [
-    | yes h ↦ inl (h, wide-greatest p limited f (goal .untouched) x a u d ha h, goal-fits p f goal x a u d ha h)
-    | no h ↦ inr (past-greatest p limited f (goal .untouched) x a u d ha hu (omega arith))
+    | yes h ↦ inl (h, wide-greatest p (sound .limited) f (goal .untouched) x a u d ha h, goal-fits p f goal x a u d ha h)
+    | no h ↦ inr (omega arith, past-greatest p (sound .limited) f (goal .untouched) x a u d ha hu (omega arith))
   ]
 
   wide-rest : AtRest (wide p) f
-  unfolding wide rule5 joined
+  unfolding wide rule5 joined gap
   wide-rest = obeyed-at-rest (wide p) f (goal-lawful p f goal .obeyed) λ a u v s e.
-      let l : p .capacity a < greatest-ending (wide p) f a u + greatest-starting (wide p) f a v = ltb-true _ _ e in
+      let l : p .capacity a < greatest-ending (wide p) f a u + gap p a u v + greatest-starting (wide p) f a v = ltb-true _ _ e in
       elim (own-or-none 2 a u (omega arith) (s .axis) (s .item-u)) [
         | inl (hu, eu, fu) ↦ elim (own-or-none 1 a v (omega arith) (s .axis) (s .item-v)) [
           | inl (hv, ev, fv) ↦ not-before (goal .rest) a u v (omega arith) (ask-c2 p f a u v (omega arith))
-          | inr z ↦ absurd (omega arith)
+          | inr (past, z) ↦ absurd (omega (arith, gap-past p sound a u v (inr past)))
         ]
-        | inr z ↦ absurd (elim (own-or-none 1 a v (omega arith) (s .axis) (s .item-v)) [ inl (hv, ev, fv) ↦ omega arith | inr y ↦ omega arith ])
+        | inr (past, z) ↦ let none = gap-past p sound a u v (inl past) in
+            absurd (elim (own-or-none 1 a v (omega arith) (s .axis) (s .item-v)) [ inl (hv, ev, fv) ↦ omega arith | inr (y, n) ↦ omega arith ])
       ]
 
   wide-consistent : inconsistent (wide p) f ≡ false
@@ -135,7 +151,10 @@ module _ (p : Problem) (limited : p .items ≤ 10) (f : Domains) (goal : Goal p 
       ])
       (λ a u v r. goal-lawful p f goal .filled a u v (omega arith))
 
-module _ (p : Problem) (limited : p .items ≤ 10) (k : Domains) (w : WellFormed k) (plain : Untouched (p .items) k) where
+module _ (p : Problem) (sound : Sound p) (k : Domains) (w : WellFormed k) (plain : Untouched (p .items) k) where
+  limited : p .items ≤ 10
+  limited = sound .limited
+
   abbrev f : Domains
   f = propagate p k
 
@@ -152,10 +171,10 @@ module _ (p : Problem) (limited : p .items ≤ 10) (k : Domains) (w : WellFormed
   -- ten items remove no less: their chains are no shorter
   no-less : (x a u : ℕ) → Direction x → u < p .items → greatest x p g a u ≤ greatest x (wide p) g a u
   unfolding wide
-  no-less x a u d hu = wide-no-less p limited _ a (total-greatest p g a u hu x d) (total-greatest (wide p) g a u (omega arith) x d)
+  no-less x a u d hu = wide-no-less p limited _ a _ (total-greatest p g a u hu x d) (wide-total p g a u (omega (arith, limited)) x d)
 
   wide-less : g ⊑ f
-  unfolding wide rule5 joined
+  unfolding wide rule5 joined gap
   wide-less =
       let rest = propagate-at-rest (wide p) (omega arith) k w in
       let own : AtRest p g = obeyed-at-rest p g (obeyed-fewer (p .items) limited g (rest-obeyed (wide p) g rest)) (λ a u v s e.
@@ -168,9 +187,9 @@ module _ (p : Problem) (limited : p .items ≤ 10) (k : Domains) (w : WellFormed
   pub wide-propagates : inconsistent p (propagate p k) ≡ false → propagate (wide p) k ≡ propagate p k
   wide-propagates c =
       sym (between-rest (wide p) k w f (record { well-formed = propagate-well-formed p k w; low = wide-less; high = propagate-less p k })
-      (wide-rest p limited f (end-goal p limited k w plain c)))
+      (wide-rest p sound f (end-goal p limited k w plain c)))
 
   pub wide-verdict : inconsistent (wide p) (propagate (wide p) k) ≡ inconsistent p (propagate p k)
   wide-verdict =
-      implies-eq (λ e. stays _ (λ c. clash (rw (wide-propagates c) at e) (wide-consistent p limited f (end-goal p limited k w plain c))))
+      implies-eq (λ e. stays _ (λ c. clash (rw (wide-propagates c) at e) (wide-consistent p sound f (end-goal p limited k w plain c))))
       (λ e. stays _ (λ c. clash (inconsistent-mono p g f wide-less e) (consistent-own c)))

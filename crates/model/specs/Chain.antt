@@ -10,7 +10,7 @@ module _ (p : Problem) (linked : ℕ → ℕ → Bool) where
     alone : {u : ℕ} → u < p .items → Chain (u ∷ [])
     link : {u v : ℕ} {l : List ℕ} → u < p .items → linked u v ≡ true → listed u (v ∷ l) ≡ false → Chain (v ∷ l) → Chain (u ∷ v ∷ l)
 
--- "its total the sum of measures" (proofs/Chain shows that it is `measure-sum`)
+-- "its total the sum of measures", with what lies between neighbours (proofs/Chain shows that it is `measure-sum` and `gap-sum`)
 module _ (p : Problem) (a : ℕ) (on : ℕ → ℕ → ℕ → ℕ) where
   abbrev pub total-from : ℕ → List ℕ → ℕ
   total-from u [] = p .size a u
@@ -33,3 +33,8 @@ ending-total p a = total-from p a (λ u v rest. joined p a v u rest (p .size a u
 abbrev pub measure-sum : Problem → ℕ → List ℕ → ℕ
 measure-sum p a [] = 0
 measure-sum p a (u ∷ l) = p .size a u + measure-sum p a l
+
+abbrev pub gap-sum : (ℕ → ℕ → ℕ) → List ℕ → ℕ
+gap-sum between [] = 0
+gap-sum between (u ∷ []) = 0
+gap-sum between (u ∷ v ∷ l) = between u v + gap-sum between (v ∷ l)

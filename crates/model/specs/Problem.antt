@@ -1,16 +1,17 @@
--- A packing problem with precedences, and its feasible packings (document 01, "Fit").
+-- A packing problem with precedences, and its feasible packings (document 01, "Fit"; lags: document 02, #101).
 -- Axes are 0 (x), 1 (y) and 2 (t); items count from 0.
-use Rattle.prelude.specs.Names.{Bool, _&&_, _||_, List, List·Memᴰ, _⊎_, _≢_, ℕ, _+_, _<_, _≤_, leb, eqb}
+use Rattle.prelude.specs.Names.{Bool, cond, _&&_, _||_, List, [], _∷_, List·Memᴰ, _⊎_, _≢_, ℕ, _+_, _<_, _≤_, max, leb, eqb}
 use Rattle.model.specs.Below.{some-below, all-below, all-in}
 
 -- the axis t, on which precedences act
 abbrev pub time : ℕ
 time = 2
 
--- "order u, v": u is lifted before v is set
+-- "order u, v": u is lifted before v is set, and the lag is "some shifts between lifting a piece and setting the next that waits for it"
 pub record Precedence : Type 0 where
   pub predecessor : ℕ
   pub successor : ℕ
+  pub lag : ℕ
 
 -- a hall with its pieces and orders: how many items, their measures by axis and item, the container's measures by axis, the precedences
 pub record Problem : Type 0 where
@@ -27,18 +28,25 @@ Positions = ℕ → ℕ → ℕ
 unfoldable pub EndsBefore : Problem → Positions → ℕ → ℕ → ℕ → Type 0
 EndsBefore p q a u v = q a u + p .size a u ≤ q a v
 
+-- .. and g more: u's end plus g is at most v's start
+unfoldable pub EndsAhead : Problem → Positions → ℕ → ℕ → ℕ → ℕ → Type 0
+EndsAhead p q a g u v = q a u + p .size a u + g ≤ q a v
+
 -- "A plan fits when:"
 pub record Feasible (p : Problem) (q : Positions) : Type 0 where
   -- "on each axis, start plus measure is at most the hall's measure"
   pub inside : (a u : ℕ) → a < 3 → u < p .items → q a u + p .size a u ≤ p .capacity a
   -- "each two pieces are apart on some axis"
   pub apart : (u v : ℕ) → u < p .items → v < p .items → u ≢ v → (a : ℕ) × (a < 3) × (EndsBefore p q a u v ⊎ EndsBefore p q a v u)
-  -- "for each order u, v: u's end in t is at most v's start"
-  pub ordered : (o : Precedence) → List·Memᴰ o (p .precedences) → EndsBefore p q time (o .predecessor) (o .successor)
+  -- "for each order u, v: u's end in t" "plus the lag is at most v's start"
+  pub ordered : (o : Precedence) → List·Memᴰ o (p .precedences) → EndsAhead p q time (o .lag) (o .predecessor) (o .successor)
 
 -- The same as tests. proofs/Feasible shows that they agree.
 unfoldable pub ends-before : Problem → Positions → ℕ → ℕ → ℕ → Bool
 ends-before p q a u v = leb (q a u + p .size a u) (q a v)
+
+unfoldable pub ends-ahead : Problem → Positions → ℕ → ℕ → ℕ → ℕ → Bool
+ends-ahead p q a g u v = leb (q a u + p .size a u + g) (q a v)
 
 unfoldable pub inside-test : Problem → Positions → Bool
 inside-test p q = all-below 3 (λ a. all-below (p .items) (λ u. leb (q a u + p .size a u) (p .capacity a)))
@@ -50,7 +58,16 @@ unfoldable pub apart-test : Problem → Positions → Bool
 apart-test p q = all-below (p .items) (λ u. all-below (p .items) (λ v. eqb u v || apart-on-some-axis p q u v))
 
 unfoldable pub ordered-test : Problem → Positions → Bool
-ordered-test p q = all-in (λ (o : Precedence). ends-before p q time (o .predecessor) (o .successor)) (p .precedences)
+ordered-test p q = all-in (λ (o : Precedence). ends-ahead p q time (o .lag) (o .predecessor) (o .successor)) (p .precedences)
 
 unfoldable pub feasible : Problem → Positions → Bool
 feasible p q = inside-test p q && (apart-test p q && ordered-test p q)
+
+-- "the lag between neighbours that have an order": that of the precedence u, v itself, the greatest if several name the two; 0 if none does
+abbrev pub lag-between : List Precedence → ℕ → ℕ → ℕ
+lag-between [] u v = 0
+lag-between (o ∷ l) u v = max (cond (eqb (o .predecessor) u && eqb (o .successor) v) (o .lag) 0) (lag-between l u v)
+
+-- what lies between two items that are neighbours in a chain: on t their lag, on x and y nothing. proofs/Gap joins it to `ordered`
+unfoldable pub gap : Problem → ℕ → ℕ → ℕ → ℕ
+gap p a u v = cond (eqb a time) (lag-between (p .precedences) u v) 0

@@ -2,7 +2,7 @@
 -- "These hold for distinct pieces": nothing is removed of an item and itself, so that items in a premise differ.
 use Rattle.prelude.specs.Names.{Bool, true, false, not, _&&_, _||_, List, [], _∷_, ℕ, zero, suc, _+_, max, ltb, eqb}
 use Rattle.model.specs.Below.{some-below, all-below, most-below}
-use Rattle.model.specs.Problem.{Problem}
+use Rattle.model.specs.Problem.{Problem, gap}
 use Rattle.model.specs.Domains.{Domains, may-overlap, may-before, fixed-before, fixed-overlap}
 
 -- the item is in the list
@@ -10,9 +10,10 @@ abbrev pub listed : ℕ → List ℕ → Bool
 listed u [] = false
 listed u (x ∷ l) = eqb u x || listed u l
 
--- "its total the sum of measures": the total where a chain that ends in u, of the total `front`, goes on with one that starts in v, of the total `back`
+-- "its total the sum of measures"; "on t a chain total adds the lag between neighbours that have an order": the total where a chain that ends in u, of
+-- the total `front`, goes on with one that starts in v, of the total `back`
 unfoldable pub joined : Problem → ℕ → ℕ → ℕ → ℕ → ℕ → ℕ
-joined p a u v front back = front + back
+joined p a u v front back = front + gap p a u v + back
 
 -- "A chain is a row of distinct pieces, each known before the next": the greatest total of u and at most f further items, none of them in `had`.
 -- v may follow u where `linked u v`; `on u v rest` is the total of u followed by what has the total `rest` from v on. proofs/Chain shows that
@@ -63,7 +64,8 @@ module _ (p : Problem) (k : Domains) (a u v : ℕ) where
       (λ x. (fixed-overlap k a x u && fixed-overlap k a v x)
       && some-below (p .items) (λ y. (fixed-overlap k a u y && fixed-overlap k a y v) && not (may-overlap k a x y)))
 
-  -- 5, for u before v: "If the greatest chain ending in u and the greatest starting in v add up to more than the hall"
+  -- 5, for u before v: "If the greatest chain ending in u and the greatest starting in v add up to more than the hall"; "rule 5's sum adds" the lag
+  -- "between u and v"
   unfoldable pub rule5 : Bool
   rule5 = ltb (p .capacity a) (joined p a u v (greatest-ending p k a u) (greatest-starting p k a v))
 

@@ -1,7 +1,7 @@
 -- Rule 5 inside the event loop: chain totals that are kept while rules 1 to 4 are not yet at rest, where "before" need not be a strict order.
 -- All of it is stated once for both directions x: 1 is of the chains that start in an item, 2 of those that end in it.
 use Rattle.prelude.specs.Names.{true, false, _⊎_, _≡_, ℕ, zero, suc, _≤_, _<_}
-use Rattle.model.specs.Problem.{Problem}
+use Rattle.model.specs.Problem.{Problem, gap}
 use Rattle.model.specs.Domains.{Domains}
 use Rattle.model.specs.Rules.{joined, greatest-ending, greatest-starting}
 use Rattle.model.specs.Branching.{inconsistent}
@@ -30,6 +30,12 @@ greatest (suc (suc x)) p k a u = greatest-ending p k a u
 -- a chain of v may go on with z: z is known before v (1), or v before z (2)
 abbrev pub Linked : ℕ → Domains → ℕ → ℕ → ℕ → Type 0
 Linked x k a v z = Holds k (of (forced x) a v z)
+
+-- what lies between v and z there
+abbrev pub between : ℕ → Problem → ℕ → ℕ → ℕ → ℕ
+between zero p a v z = gap p a z v
+between (suc zero) p a v z = gap p a z v
+between (suc (suc x)) p a v z = gap p a v z
 
 -- the total where a chain of v, of the total m, goes on with z
 abbrev pub extended : ℕ → Problem → ℕ → ℕ → ℕ → ℕ → ℕ

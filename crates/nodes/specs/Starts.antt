@@ -12,7 +12,7 @@ start-at t a u = table t 2 a u - measure-at t a u
 -- the chains of n items have them in it
 pub record Startable (n : ℕ) (t : List ℕ) : Type 0 where
   pub limited : n ≤ 10
-  pub long : length t ≡ 93
+  pub long : length t ≡ 696
   pub whole : (a u : ℕ) → a < 3 → u < n → measure-at t a u ≤ table t 2 a u
 
 -- positions past the items are 0

@@ -13,7 +13,7 @@ use instance::Position;
 
 // Where an item starts on an axis: the greatest chain ending in it, less its own measure.
 fn start_at(t: &[u16; TOTALS], a: usize, u: usize) -> u16
-    requires { ⌜ (length (now t) ≡ 93) × (a < 3) × (u < 10) × (measure-at (now t) a u ≤ table (now t) 2 a u) ⌝ }
+    requires { ⌜ (length (now t) ≡ 696) × (a < 3) × (u < 10) × (measure-at (now t) a u ≤ table (now t) 2 a u) ⌝ }
     ensures { λ r. ⌜ r ≡ T.start-at (now (t .entry)) a u ⌝ }
 {
     t[a * 10 + u] - t[SIZES + a * 10 + u]

@@ -3,3 +3,5 @@ pub mod Openings
 pub mod PairCuts
 pub mod Roots
 pub mod Layouts
+pub mod Lags
+pub mod Fitting

@@ -3,7 +3,7 @@ use Rattle.prelude.specs.Names.{Bool, true, false, List, [], _∷_, map, List·
 use Rattle.prelude.specs.Names.{_+_, _^_, _≤_, _<_, arith, bitOr, getD, length, take, drop, getD-take, length-take-le}
 use Rattle.parts.specs.declared.Precedence.{Precedence}
 use Rattle.parts.specs.declared.Previous.the-variants.{Nothing}
-use Rattle.parts.specs.Precedences.{all-allowed}
+use Rattle.parts.specs.Precedences.{arc-of, all-allowed}
 use Rattle.parts.specs.Sizes.{no-precedence}
 use Rattle.formats.proofs.Entries.{part-next, part-done}
 use Rattle.instance.specs.Meaning.{precedence-of}
@@ -44,15 +44,23 @@ getD-in d [] i h = absurd (omega arith)
 getD-in d (x ∷ l) zero h = List·Memᴰ·head refl
 getD-in d (x ∷ l) (suc i) h = List·Memᴰ·tail (getD-in d l i (omega arith))
 
+-- each of the first m precedences is in their list
+pub nth-in : (m : ℕ) (os : List Precedence) → m ≤ length os → (i : ℕ) → i < m → List·Memᴰ (getD os i no-precedence) (take m os)
+nth-in m os room i more =
+    rw (getD-take m os i no-precedence more) at (getD-in no-precedence (take m os) i (rw (length-take-le m os room) more))
+
+-- and where they are allowed names two items
+pub allowed-at : (m : ℕ) (os : List Precedence) → m ≤ length os → all-allowed 10 Nothing (map arc-of (take m os)) ≡ true → (i : ℕ) → i < m
+    → let o = getD os i no-precedence in Proper 10 2 (o .predecessor) (o .successor)
+allowed-at m os room allowed i more = allowed-proper 10 Nothing allowed (nth-in m os room i more)
+
 module _ {m : ℕ} {os : List Precedence} {k : Domains} {q : List ℕ} {i : ℕ} {j : Domains} {rows r : List ℕ} (f : Fixing m os k q i j rows r) where
   abbrev o : Precedence
   o = getD os i no-precedence
 
-  module _ (allowed : all-allowed 10 Nothing (take m os) ≡ true) (more : i < m) where
+  module _ (allowed : all-allowed 10 Nothing (map arc-of (take m os)) ≡ true) (more : i < m) where
     pub next-proper : Proper 10 2 (o .predecessor) (o .successor)
-    next-proper =
-        let inner = getD-in no-precedence (take m os) i (rw (length-take-le m os (f .room)) more) in
-        allowed-proper 10 Nothing allowed (rw (getD-take m os i no-precedence more) at inner)
+    next-proper = allowed-at m os (f .room) allowed i more
 
     abbrev next : Domains
     next = fix-before j 2 (o .predecessor) (o .successor)

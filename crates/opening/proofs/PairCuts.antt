@@ -1,5 +1,5 @@
 -- Rule 5 for chains of one item each: one item after another.
-use Rattle.prelude.specs.Names.{Bool, true, not, _&&_, not-eq-not, List, _≢_, _≡_, refl, sym, _∙_, ap, ℕ, _+_, _*_, _%_, _^_, _≤_, _<_, max}
+use Rattle.prelude.specs.Names.{Bool, true, not, _&&_, not-eq-not, List, inl, inr, _≢_, _≡_, refl, sym, _∙_, ap, ℕ, _+_, _*_, _%_, _^_, _≤_, _<_, max}
 use Rattle.prelude.specs.Names.{ℕ-discrete, decLt, arith, eqb, getD, set, length, getD-set-same, getD-set-other, eqb-true, ne-eqb, ltb-true, lt-ltb}
 use Rattle.prelude.specs.Names.{eqb-false, not-true}
 use Rattle.model.specs.Domains.{Domains, index-of}
@@ -14,8 +14,8 @@ use Rattle.model.proofs.Facts.{gone-mono}
 use Rattle.domains.specs.Bits.{bit-at, Gives}
 use Rattle.domains.specs.Queue.{queue-end, Good}
 use Rattle.domains.specs.Narrowed.{Narrowed, Refuted, All, Asked, Askable}
-use Rattle.chains.specs.Totals.{table, capacity-at, Tabled}
-use Rattle.chains.specs.Cuts.{above-both}
+use Rattle.chains.specs.Totals.{capacity-at, Tabled}
+use Rattle.chains.specs.Cuts.{above-both, exceeds, CutFrom}
 use Rattle.opening.specs.Openings.{PairsCut, PairsAsked, Past, Outside}
 use Rattle.nodes.proofs.BranchRemovals.{filled-more}
 use Rattle.nodes.proofs.Loops.{written}
@@ -24,24 +24,31 @@ use Rattle.domains.proofs.Narrowed.{narrowed-none, narrowed-as, narrowed-then, 
 
 -- "u before v" is removed of two items too long together, of the first i places of axis and item u
 pub record CutTo (t : List ℕ) (i : ℕ) (f : Domains) : Type 0 where
-  pub cut : (a u v : ℕ) → Proper 10 a u v → a * 10 + u < i → capacity-at t a < table t 2 a u + table t 1 a v → gone f 1 a u v ≡ true
+  pub cut : (a u : ℕ) → a * 10 + u < i → CutFrom t 1 a f u
 
 pub cut-start : {t : List ℕ} {k : Domains} {rows q : List ℕ} → Good k rows q → Narrowed (PairsAsked t) (CutTo t 0) k q k rows q
-cut-start g = narrowed-none g (record { cut = λ a u v s h. absurd (omega arith) })
+cut-start g = narrowed-none g (record { cut = λ a u h. absurd (omega arith) })
 
 pub cut-end : {t : List ℕ} {k : Domains} {q : List ℕ} {j : Domains} {rows r : List ℕ} (i : ℕ) → 30 ≤ i
     → Narrowed (PairsAsked t) (CutTo t i) k q j rows r → Narrowed (PairsAsked t) (PairsCut t) k q j rows r
-cut-end i h n = narrowed-as (λ f g l. g) (λ l d a u v s. d .cut a u v s (omega (arith, s .axis, s .item-u))) n
+cut-end i h n = narrowed-as (λ f g l. g) (λ l d a u v s. d .cut a u (omega (arith, s .axis, s .item-u)) v s) n
 
 -- two items that are too long together have a total each
-pub too-inside : {t : List ℕ} {n a u v : ℕ} → Tabled t → Past t n → Proper 10 a u v → capacity-at t a < table t 2 a u + table t 1 a v → Proper n a u v
+pub too-inside : {t : List ℕ} {n a u v : ℕ} → Tabled t → Past t n → Proper 10 a u v → exceeds t 1 a u v ≡ true → Proper n a u v
 too-inside {t} {n} {a} {u} {v} tabled past s too =
-    let own : (w : ℕ) → w < 10 → (x : ℕ) → Direction x → 0 < table t x a w → w < n =
-    λ w hw x d l. elim (decLt w n) [ yes q ↦ q | no q ↦ absurd (omega (arith, past x a w d (s .axis) (omega arith) hw)) ] in
+    let over = ltb-true (capacity-at t a) _ too in
+    let ends = tabled .within 2 a u (omega arith) (s .axis) (s .item-u) in
+    let starts = tabled .within 1 a v (omega arith) (s .axis) (s .item-v) in
     record {
       axis = s .axis;
-      item-u = own u (s .item-u) 2 (omega arith) (omega (arith, tabled .within 1 a v (omega arith) (s .axis) (s .item-v)));
-      item-v = own v (s .item-v) 1 (omega arith) (omega (arith, tabled .within 2 a u (omega arith) (s .axis) (s .item-u)));
+      item-u = elim (decLt u n) [
+        | yes q ↦ q
+        | no q ↦ absurd (omega (arith, past .total 2 a u (omega arith) (s .axis) (omega arith) (s .item-u), past .gap a u v s (inl (omega arith))))
+      ];
+      item-v = elim (decLt v n) [
+        | yes q ↦ q
+        | no q ↦ absurd (omega (arith, past .total 1 a v (omega arith) (s .axis) (omega arith) (s .item-v), past .gap a u v s (inr (omega arith))))
+      ];
       distinct = s .distinct;
     }
 
@@ -74,12 +81,12 @@ module _ (t : List ℕ) (a u m : ℕ) (ha : a < 3) (hu : u < 10) (g : Gives 10 m
   at-set x v h = bit-shl m 1 x v (g .small) (omega arith) h ∙ ap (λ (b : Bool). eqb x 1 && b) (g .is v h)
 
   in-set : (x v : ℕ) → v < 10 → bit-at (shifted m) (x * 10 + v) ≡ true
-      → (x ≡ 1) × Proper 10 a u v × (capacity-at t a < table t 2 a u + table t 1 a v)
+      → (x ≡ 1) × Proper 10 a u v × (exceeds t 1 a u v ≡ true)
   in-set x v h e =
       let q = and-both (eqb x 1) (above-both t 0 30 a u v && not (eqb v u)) (sym (at-set x v h) ∙ e) in
       let r = and-both (above-both t 0 30 a u v) (not (eqb v u)) (q .1) in
       let s : Proper 10 a u v = record { axis = ha; item-u = hu; item-v = h; distinct = λ d. eqb-false v u (not-true (eqb v u) (r .1)) (sym d) } in
-      (eqb-true x 1 (q .0), s, ltb-true _ _ (r .0))
+      (eqb-true x 1 (q .0), s, r .0)
 
   pub pairs-askable : Askable a u (shifted m)
   pairs-askable = record {
@@ -103,13 +110,13 @@ module _ (t : List ℕ) (a u m : ℕ) (ha : a < 3) (hu : u < 10) (g : Gives 10 m
       pairs-next tabled out = (
         narrowed-then {E = All a u (shifted m)} least n (narrowed-as (λ f p h. pairs-all p) (λ h d. d) w)
             (λ less d e. record {
-              cut = λ b y v s h too. elim (ℕ-discrete (b * 10 + y) (a * 10 + u)) [
-                | no c ↦ gone-mono l j less 1 b y v (d .cut b y v s (omega arith) too)
+              cut = λ b y h v s too. elim (ℕ-discrete (b * 10 + y) (a * 10 + u)) [
+                | no c ↦ gone-mono l j less 1 b y v (d .cut b y (omega arith) v s too)
                 | yes c ↦
                     let eb : b ≡ a = omega (arith, s .item-u) in
                     let ey : y ≡ u = omega (arith, s .item-u) in
                     let far = ne-eqb v u (λ d. s .distinct (ey ∙ sym d)) in
-                    rw (eb, ey) (e 1 v (omega arith) (s .item-v) (at-set 1 v (s .item-v) ∙ and-intro (lt-ltb _ _ (rw (eb, ey) at too)) (ap not far)))
+                    rw (eb, ey) (e 1 v (omega arith) (s .item-v) (at-set 1 v (s .item-v) ∙ and-intro (rw (eb, ey) at too) (ap not far)))
               ];
             }),
         λ n′ lim past h.

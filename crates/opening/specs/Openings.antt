@@ -1,15 +1,16 @@
 -- The opening domains by removals.
-use Rattle.prelude.specs.Names.{Bool, true, false, List, [], map, _≡_, ℕ, _+_, _≤_, _<_, take}
+use Rattle.prelude.specs.Names.{Bool, true, false, List, [], map, _⊎_, _≡_, ℕ, _≤_, _<_, take}
 use Rattle.model.specs.Problem.{Problem}
 use Rattle.model.specs.Domains.{Domains}
 use Rattle.model.specs.Order.{Proper}
 use Rattle.model.specs.Branching.{fix-precedences}
-use Rattle.model.specs.Relations.{gone, Filled, Untouched}
+use Rattle.model.specs.Relations.{Filled, Untouched}
 use Rattle.model.specs.Toward.{Direction}
 use Rattle.model.specs.Run.{look}
 use Rattle.domains.specs.Queue.{Long}
 use Rattle.domains.specs.Narrowed.{Grown, Narrowed, Refuted, FilledWith}
-use Rattle.chains.specs.Totals.{table, capacity-at}
+use Rattle.chains.specs.Totals.{table, gap-at}
+use Rattle.chains.specs.Cuts.{CutAll}
 use Rattle.parts.specs.declared.Precedence.{Precedence}
 use Rattle.instance.specs.Meaning.{precedence-of}
 use Rattle.nodes.specs.Nodes.{At}
@@ -27,15 +28,16 @@ FixedIf m os k q j rows r false = Long j rows r × (Filled (first-fixed m os k) 
 
 -- "u before v" is removed of every two items that are too long together
 abbrev pub PairsCut : List ℕ → Domains → Type 0
-PairsCut t f = (a u v : ℕ) → Proper 10 a u v → capacity-at t a < table t 2 a u + table t 1 a v → gone f 1 a u v ≡ true
+PairsCut t f = (a : ℕ) → CutAll t 1 a f
 
 -- and every pair has a relation left
 abbrev pub PairsAsked : List ℕ → Domains → Type 0
 PairsAsked t = FilledWith (PairsCut t)
 
--- the totals are 0 past n items
-abbrev pub Past : List ℕ → ℕ → Type 0
-Past t n = (x a u : ℕ) → Direction x → a < 3 → n ≤ u → u < 10 → table t x a u ≡ 0
+-- the totals are 0 past n items, and nothing lies between two of which one is past them
+pub record Past (t : List ℕ) (n : ℕ) : Type 0 where
+  pub total : (x a u : ℕ) → Direction x → a < 3 → n ≤ u → u < 10 → table t x a u ≡ 0
+  pub gap : (a u v : ℕ) → Proper 10 a u v → (n ≤ u) ⊎ (n ≤ v) → gap-at t 0 a u v ≡ 0
 
 -- and nothing is removed of them
 abbrev pub Outside : List ℕ → Domains → Domains → Type 0

@@ -1,20 +1,30 @@
 // An instance's measures beside the totals of chains.
 ghost use mathlib.Core.Path.{_≡_};
-ghost use Prim.Native.Nat.{_≤_, _<_};
-ghost use lib.ListN.{length};
+ghost use mathlib.Core.Bool.{true, false};
+ghost use mathlib.Core.List.{map};
+ghost use Prim.Native.Nat.{_+_, _≤_, _<_};
+ghost use lib.ListN.{getD, length, take};
+ghost use Rattle.sheet.specs.Sheet.{max-precedences};
+ghost use Rattle.parts.specs.Precedences.{arc-of, all-allowed};
+ghost use Rattle.parts.specs.declared.Previous.{Previous};
+ghost use Rattle.instance.specs.Valid.{valid};
 ghost use Rattle.instance.specs.Meaning.{problem-of};
-ghost use Rattle.opening.specs.Layout.{put, put-item, LaidOut, LargeIf};
+ghost use Rattle.opening.specs.Layout.{put, put-item, Small, LaidOut, Plain, LargeIf, order-length, LateIf};
+ghost use Rattle.opening.specs.Layout.{RowStepped, Stepped, put-lag, LagsLaid, FitsIf};
 use chains::totals::CAPACITY;
+use chains::totals::GAPPED;
 use chains::totals::SIZES;
 use chains::totals::STARTS;
+use chains::totals::STEPS;
 use chains::totals::TOTALS;
 use domains::ROWS;
 use instance::Instance;
+use parts::Precedence;
 use parts::Size;
 
 // A measure at its place, and as the totals of the item alone.
 fn put_size(t: &mut [u16; TOTALS], i: usize, size: u16)
-    requires { ⌜ (length (now t) ≡ 93) × (i < 30) ⌝ }
+    requires { ⌜ (length (now t) ≡ 696) × (i < 30) ⌝ }
     ensures { λ _. ⌜ now (t .exit) ≡ put (now (t .entry)) i size ⌝ }
 {
     t[i] = size;
@@ -24,7 +34,7 @@ fn put_size(t: &mut [u16; TOTALS], i: usize, size: u16)
 
 // The measures of an item, which are numbers of 16 bits.
 fn put_item(t: &mut [u16; TOTALS], u: usize, size: Size)
-    requires { ⌜ (length (now t) ≡ 93) × (u < 10) ⌝ }
+    requires { ⌜ (length (now t) ≡ 696) × (u < 10) ⌝ }
     ensures { λ _. ⌜ (now (t .exit) ≡ put-item (now (t .entry)) u size) × (size .width < 65536) × (size .depth < 65536) × (size .shifts < 65536) ⌝ }
 {
     put_size(t, u, size.width);
@@ -33,9 +43,9 @@ fn put_item(t: &mut [u16; TOTALS], u: usize, size: Size)
 }
 
 // The measures of an instance, 0 past its items, with chains of one item each.
-pub fn totals_of(instance: Instance) -> [u16; TOTALS]
+fn totals_of(instance: Instance) -> [u16; TOTALS]
     requires { ⌜ instance .«item_count» ≤ 10 ⌝ }
-    ensures { λ r. ⌜ LaidOut (problem-of instance) r ⌝ }
+    ensures { λ r. ⌜ LaidOut (problem-of instance) r × Plain r ⌝ }
 {
     let n = instance.item_count;
     let items = instance.items;
@@ -54,8 +64,8 @@ pub fn totals_of(instance: Instance) -> [u16; TOTALS]
 }
 
 // Whether an item is above the container's measure.
-pub fn any_large(t: &[u16; TOTALS]) -> bool
-    requires { ⌜ length (now t) ≡ 93 ⌝ }
+fn any_large(t: &[u16; TOTALS]) -> bool
+    requires { ⌜ length (now t) ≡ 696 ⌝ }
     ensures { λ r. ⌜ LargeIf (now (t .entry)) r ⌝ }
 {
     let mut i: usize = 0;
@@ -66,4 +76,122 @@ pub fn any_large(t: &[u16; TOTALS]) -> bool
         i = i + 1;
     }
     false
+}
+
+// The length on t of a precedence: its items and its lag.
+fn order_len(t: &[u16; TOTALS], o: Precedence) -> u32
+    requires { ⌜ (length (now t) ≡ 696) × Small (now t) × (o .predecessor < 10) × (o .successor < 10) ⌝ }
+    ensures { λ r. ⌜ r ≡ order-length (now (t .entry)) o ⌝ }
+{
+    let u = o.predecessor as usize;
+    let v = o.successor as usize;
+    t[SIZES + 20 + u] as u32 + o.lag as u32 + t[SIZES + 20 + v] as u32
+}
+
+// Whether one of the first m precedences is longer than the container.
+fn any_late(
+    t: &[u16; TOTALS],
+    precedences: [Precedence; Instance::MAX_PRECEDENCES],
+    m: usize,
+) -> bool
+    requires { ⌜ (length (now t) ≡ 696) × Small (now t) ⌝ }
+    requires { ⌜ (m ≤ max-precedences) × (all-allowed 10 Previous.Nothing (map arc-of (take m precedences)) ≡ true) ⌝ }
+    ensures { λ r. ⌜ LateIf (now (t .entry)) precedences m r ⌝ }
+{
+    let mut i: usize = 0;
+    while i < m {
+        if order_len(t, precedences[i]) > t[CAPACITY + 2] as u32 {
+            return true;
+        }
+        i = i + 1;
+    }
+    false
+}
+
+// A row of steps is the measures on an axis.
+fn put_row(t: &mut [u16; TOTALS], i: usize, a: usize)
+    requires { ⌜ (length (now t) ≡ 696) × (i < 60) × (a < 3) ⌝ }
+    ensures { λ _. ⌜ RowStepped i a (now (t .entry)) (now (t .exit)) ⌝ }
+{
+    let mut z: usize = 0;
+    while z < 10 {
+        t[STEPS + i * 10 + z] = t[SIZES + a * 10 + z];
+        z = z + 1;
+    }
+}
+
+// All sixty rows.
+fn put_steps(t: &mut [u16; TOTALS])
+    requires { ⌜ length (now t) ≡ 696 ⌝ }
+    ensures { λ _. ⌜ Stepped 60 (now (t .entry)) (now (t .exit)) ⌝ }
+{
+    let mut i: usize = 0;
+    while i < 60 {
+        put_row(t, i, i % 30 / 10);
+        i = i + 1;
+    }
+}
+
+// The lag of two items on t, from either end, where it is the greatest of theirs so far.
+fn put_lag(t: &mut [u16; TOTALS], u: usize, v: usize, lag: u16)
+    requires { ⌜ (length (now t) ≡ 696) × (u < 10) × (v < 10) × (getD (now t) (80 + u) 0 + lag + getD (now t) (80 + v) 0 < 65536) ⌝ }
+    ensures { λ _. ⌜ now (t .exit) ≡ put-lag (now (t .entry)) u v lag ⌝ }
+{
+    let ends = STEPS + (20 + u) * 10 + v;
+    let onto = t[SIZES + 20 + v] + lag;
+    let back = t[SIZES + 20 + u] + lag;
+    if t[ends] < onto {
+        t[ends] = onto;
+        t[STEPS + (50 + v) * 10 + u] = back;
+        t[GAPPED + 2] = 1;
+    }
+}
+
+// The lags of the first m precedences, where none was put.
+fn put_lags(t: &mut [u16; TOTALS], precedences: [Precedence; Instance::MAX_PRECEDENCES], m: usize)
+    requires { ⌜ (length (now t) ≡ 696) × (m ≤ max-precedences) × (all-allowed 10 Previous.Nothing (map arc-of (take m precedences)) ≡ true) ⌝ }
+    requires { ⌜ LateIf (now t) precedences m false × Small (now t) ⌝ }
+    ensures { λ _. ⌜ LagsLaid (take m precedences) (now (t .entry)) (now (t .exit)) ⌝ }
+{
+    let mut i: usize = 0;
+    while i < m {
+        let o = precedences[i];
+        put_lag(
+            t,
+            o.predecessor as usize,
+            o.successor as usize,
+            o.lag as u16,
+        );
+        i = i + 1;
+    }
+}
+
+// An instance's measures with the steps of its chains; or that something is too large.
+pub struct Layout {
+    pub fits: bool,
+    pub totals: [u16; TOTALS],
+}
+
+pub fn lay_out(instance: Instance) -> Layout
+    requires { ⌜ valid instance ≡ true ⌝ }
+    ensures { λ r. ⌜ FitsIf (problem-of instance) (r .totals) (r .fits) ⌝ }
+{
+    let precedences = instance.precedences;
+    let m = instance.precedence_count;
+    let mut totals = totals_of(instance);
+    if any_large(&totals) {
+        return Layout {
+            fits: false,
+            totals,
+        };
+    }
+    if any_late(&totals, precedences, m) {
+        return Layout {
+            fits: false,
+            totals,
+        };
+    }
+    put_steps(&mut totals);
+    put_lags(&mut totals, precedences, m);
+    Layout { fits: true, totals }
 }

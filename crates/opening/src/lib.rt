@@ -1,17 +1,18 @@
 // The opening domains of an instance.
 ghost use mathlib.Core.Path.{_≡_};
 ghost use mathlib.Core.Bool.{true, false};
+ghost use mathlib.Core.List.{map};
 ghost use Prim.Native.Nat.{_≤_};
 ghost use lib.ListN.{take};
 ghost use Rattle.sheet.specs.Sheet.{max-precedences};
-ghost use Rattle.parts.specs.Precedences.{all-allowed};
+ghost use Rattle.parts.specs.Precedences.{arc-of, all-allowed};
 ghost use Rattle.parts.specs.declared.Previous.{Previous};
 ghost use Rattle.instance.specs.Valid.{valid};
 ghost use Rattle.instance.specs.Meaning.{problem-of};
 ghost use Rattle.domains.specs.Queue.{Good};
 ghost use Rattle.chains.specs.Totals.{Tabled};
 ghost use Rattle.opening.specs.Openings.{FixedIf, CutIf, RootedIf};
-use chains::cuts::too_long;
+use chains::cuts::too_long_with_gaps;
 use chains::totals::STARTS;
 use chains::totals::TOTALS;
 use domains::DOMAINS;
@@ -41,7 +42,7 @@ fn fix_precedences(
     precedences: [Precedence; Instance::MAX_PRECEDENCES],
     m: usize,
 ) -> bool
-    requires { ⌜ Good (now k) (now rows) (now queue) × (m ≤ max-precedences) × (all-allowed 10 Previous.Nothing (take m precedences) ≡ true) ⌝ }
+    requires { ⌜ Good (now k) (now rows) (now queue) × (m ≤ max-precedences) × (all-allowed 10 Previous.Nothing (map arc-of (take m precedences)) ≡ true) ⌝ }
     ensures { λ r. ⌜ FixedIf m precedences (now (k .entry)) (now (queue .entry)) (now (k .exit)) (now (rows .exit)) (now (queue .exit)) r ⌝ }
 {
     let mut i: usize = 0;
@@ -71,7 +72,14 @@ fn cut_pairs(
     while i < ROWS {
         let a = i / 10;
         let u = i % 10;
-        if !remove(k, rows, queue, a, u, too_long(t, 0, STARTS, a, u) << 10) {
+        if !remove(
+            k,
+            rows,
+            queue,
+            a,
+            u,
+            too_long_with_gaps(t, 0, STARTS, a, u) << 10,
+        ) {
             return false;
         }
         i = i + 1;
@@ -98,8 +106,9 @@ pub fn root_of(instance: Instance) -> Root
     ensures { λ r. ⌜ RootedIf (problem-of instance) r (r .consistent) ⌝ }
 {
     let precedences = instance.precedences;
-    let totals = layout::totals_of(instance);
-    if layout::any_large(&totals) {
+    let layout = layout::lay_out(instance);
+    let totals = layout.totals;
+    if !layout.fits {
         return no_root(totals);
     }
     let mut domains = [7u8; DOMAINS];

@@ -3,7 +3,7 @@ use Rattle.prelude.specs.Names.{Bool, true, false, _&&_, _||_, or-comm, or-true
 use Rattle.prelude.specs.Names.{ap, _∙_, ℕ, zero, suc, _+_, _≤_, _<_, add-one, arith, decLt, leb, eqb, length, getD, take, take-suc, eq-eqb, ne-eqb}
 use mathlib.Core.Path.{fun-ext}
 use Rattle.model.specs.Below.{some-below, all-below, all-in}
-use Rattle.model.specs.Problem.{Problem, Positions, ends-before, inside-test, apart-on-some-axis, apart-test, ordered-test, time}
+use Rattle.model.specs.Problem.{Problem, Positions, ends-before, ends-ahead, inside-test, apart-on-some-axis, apart-test, ordered-test, time}
 use Rattle.model.proofs.Below.{all-at, all-of, all-cons, some-of, fails, or-left, or-right}
 use Rattle.model.proofs.Order.{implies-eq}
 use Rattle.parts.specs.declared.Precedence.{Precedence}
@@ -90,7 +90,7 @@ module _ (items : List Item) (positions : List Position) where
   within-limit-is a limit u p e = rw (e, p)
 
   pub kept-is : (o : Precedence) {t : Bool} {i j : Placed} → i ≡ placed-at items positions (o .predecessor) → j ≡ placed-at items positions (o .successor)
-      → t ≡ leb (end-of time i) (start time (j .position)) → t ≡ precedence-kept items positions o
+      → t ≡ leb (end-of time i + o .lag) (start time (j .position)) → t ≡ precedence-kept items positions o
   unfolding precedence-kept
   kept-is o p r e = e ∙ rw (p, r)
 
@@ -148,11 +148,11 @@ module _ (i : Instance) (q : Packing) where
     not-parted {a} d l = let n : a ≡ 3 = omega arith in rw (parted-by, ← (rw n at (d .fail)))
 
   pub ordered-by : ordered-test (problem-of i) (positions-of q) ≡ all-kept (i .items) (q .positions) (precedences-of i)
-  unfolding ordered-test ends-before all-kept precedence-kept end-of problem-of positions-of
+  unfolding ordered-test ends-ahead all-kept precedence-kept end-of problem-of positions-of
   ordered-by = go (precedences-of i)
     where
       go : (os : List Precedence)
-          → all-in (λ (o : M.Precedence). ends-before (problem-of i) (positions-of q) time (o .predecessor) (o .successor)) (map precedence-of os)
+          → all-in (λ (o : M.Precedence). ends-ahead (problem-of i) (positions-of q) time (o .lag) (o .predecessor) (o .successor)) (map precedence-of os)
           ≡ all-kept (i .items) (q .positions) os
       go [] = refl
       go (o ∷ os) = both-pass (precedence-kept (i .items) (q .positions) o) (go os)

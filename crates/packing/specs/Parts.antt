@@ -35,12 +35,12 @@ placed-at items positions u = record { size = getD items u no-item .size; positi
 unfoldable pub end-of : ℕ → Placed → ℕ
 end-of a i = start a (i .position) + measure-on a (i .size)
 
--- "u's end in t is at most v's start", over the arrays of items and positions
+-- "u's end plus the lag is at most v's start", in t, over the arrays of items and positions
 unfoldable pub precedence-kept : List Item → List Position → Precedence → Bool
 precedence-kept items positions o =
     let u = placed-at items positions (o .predecessor) in
     let v = placed-at items positions (o .successor) in
-    leb (end-of time u) (start time (v .position))
+    leb (end-of time u + o .lag) (start time (v .position))
 
 unfoldable pub all-kept : List Item → List Position → List Precedence → Bool
 all-kept items positions [] = true

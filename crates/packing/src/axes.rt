@@ -1,7 +1,7 @@
 // Starts, measures and ends on one of the axes x 0, y 1, t 2.
 ghost use Rattle.sheet.specs.Sheet.{max-items};
 ghost use mathlib.Core.Path.{_≡_};
-ghost use Prim.Native.Nat.{_<_};
+ghost use Prim.Native.Nat.{_<_, _+_};
 ghost use lib.Dec.{leb};
 ghost use Rattle.instance.specs.Meaning.{measure-on, start};
 ghost use Rattle.packing.specs.Parts.{placed-at, end-of};
@@ -65,4 +65,14 @@ pub fn ends_before(item: Placed, other: Placed, axis: u8) -> bool
 {
     let position = other.position;
     end_on(item, axis) <= start_on(position, axis) as u32
+}
+
+// One item's end plus a lag is at or before the other's start.
+pub fn ends_ahead(item: Placed, other: Placed, axis: u8, lag: u8) -> bool
+    ensures { λ r. ⌜ r ≡ leb (end-of axis item + lag) (start axis (other .position)) ⌝ }
+{
+    let position = other.position;
+    let end = end_on(item, axis);
+    let start = start_on(position, axis) as u32;
+    end + lag as u32 <= start
 }

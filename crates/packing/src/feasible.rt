@@ -104,7 +104,7 @@ pub fn apart(instance: Instance, packing: Packing) -> bool
     true
 }
 
-// The first m precedences are kept on t.
+// The first m precedences are kept on t, each with its lag.
 fn all_are_kept(
     items: [Item; Instance::MAX_ITEMS],
     positions: [Position; Instance::MAX_ITEMS],
@@ -121,7 +121,7 @@ fn all_are_kept(
         let v = o.successor as usize;
         let first = axes::placed_item(items, positions, u);
         let second = axes::placed_item(items, positions, v);
-        if !axes::ends_before(first, second, 2) {
+        if !axes::ends_ahead(first, second, 2, o.lag) {
             return false;
         }
         i = i + 1;
@@ -129,7 +129,7 @@ fn all_are_kept(
     true
 }
 
-// Each precedence is kept on t.
+// Each precedence is kept on t, with its lag.
 pub fn ordered(instance: Instance, packing: Packing) -> bool
     requires { ⌜ valid instance ≡ true ⌝ }
     ensures { λ r. ⌜ r ≡ ordered-test (problem-of instance) (positions-of packing) ⌝ }

@@ -1,16 +1,17 @@
 -- The parts of a sheet have their laws; what may be written of each, and how many bytes it has at most.
-use Rattle.prelude.specs.Names.{_≡_, refl, sym, _∙_, true, false, not, cond, _&&_, and-true, Bool·not-not, [], _∷_, ℕ, _/_, _%_, _≤_, arith, decLe}
-use Rattle.prelude.specs.Names.{ℕ-discrete, eqb, leb, length, length-append, eqb-true, eq-eqb, ne-eqb, leb-false, le-leb, lt-leb, not-true}
-use Rattle.formats.specs.Formats.{byte, word, pair, converted, tested, passes-all, keyed}
+use Rattle.prelude.specs.Names.{_≡_, refl, sym, _∙_, Bool, true, false, not, cond, _&&_, _||_, and-true, and-false, Bool·not-not, List, [], _∷_}
+use Rattle.prelude.specs.Names.{ℕ, zero, suc, _/_, _%_, _≤_, arith, decLe, replicate, length-replicate}
+use Rattle.prelude.specs.Names.{ℕ-discrete, eqb, eqb·suc-zero, leb, length, length-append, eqb-true, eq-eqb, ne-eqb, leb-false, le-leb, lt-leb, not-true}
+use lib.Dec.{eqb·suc-suc}
+use Rattle.formats.specs.Formats.{byte, word, pair, converted, tested, passes-all, keyed, row-bytes, row-valid, row}
 use Rattle.formats.specs.Fields.{optional-bytes, optional-valid, fields-bytes, fields-valid, fields, map-byte, with-map}
-use Rattle.formats.proofs.Laws.{Lawful, both-true, byte-lawful, word-lawful, pair-lawful, converted-lawful, tested-lawful}
+use Rattle.formats.proofs.Laws.{Lawful, both-true, byte-lawful, word-lawful, pair-lawful, converted-lawful, tested-lawful, row-lawful}
 use Rattle.formats.proofs.Maps.{OptionalLaws, FieldsLaws, with-map-lawful, with-map-valid}
 use Rattle.parts.specs.declared.Item.{Item}
-use Rattle.parts.specs.declared.Precedence.{Precedence}
 use Rattle.parts.specs.declared.Previous.{Previous}
 use Rattle.parts.specs.Sizes.{positive}
-use Rattle.parts.specs.Precedences.{names-items, rises}
-use Rattle.parts.specs.Parts.{number, measure, measures, item-fields, item, precedence, precedence-tests}
+use Rattle.parts.specs.Precedences.{Arc, names-items, rises}
+use Rattle.parts.specs.Parts.{number, measure, measures, item-fields, item, precedence, precedence-tests, all-zero, lag-row, lag-list}
 
 pub number-laws : (default : ℕ) → OptionalLaws (number default)
 unfolding number tested passes-all word
@@ -31,7 +32,7 @@ item-lawful = with-map-lawful item-fields item-fields-laws (λ i. refl)
 
 pub precedence-lawful : Lawful precedence
 unfolding precedence
-precedence-lawful = converted-lawful (pair-lawful byte-lawful byte-lawful) _ _ (λ o. refl) (λ p. refl)
+precedence-lawful = converted-lawful (pair-lawful byte-lawful byte-lawful) _ _ (λ a. refl) (λ p. refl)
 
 -- a number may be written from its default on
 pub number-valid : (default v : ℕ) → optional-valid (number default) v ≡ leb default v
@@ -49,10 +50,10 @@ unfolding item item-fields measures measure fields-valid positive
 item-valid i = with-map-valid item-fields i ∙ simp (number-valid, and-true)
 
 -- a precedence is allowed where it passes its tests
-pub precedence-valid : (n : ℕ) (last : Previous) (o : Precedence)
-    → tested precedence (precedence-tests n last) .valid o ≡ (names-items n o && rises last o)
+pub precedence-valid : (n : ℕ) (last : Previous) (a : Arc)
+    → tested precedence (precedence-tests n last) .valid a ≡ (names-items n a && rises last a)
 unfolding precedence tested passes-all converted pair byte
-precedence-valid n last o = simp (Bool·not-not, and-true)
+precedence-valid n last a = simp (Bool·not-not, and-true)
 
 -- two bytes or none
 pub number-most : (default v : ℕ) → length (optional-bytes (number default) v) ≤ 2
@@ -65,3 +66,64 @@ pub item-most : (i : Item) → length (item .bytes i) ≤ 7
 unfolding item item-fields measures measure with-map map-byte keyed tested byte fields fields-bytes
 item-most i =
     simp length-append (omega (arith, number-most 1 (i .size .width), number-most 1 (i .size .depth), number-most 1 (i .size .shifts)))
+
+-- so many lags that are all 0 are the lags that are left out
+zeros : (m : ℕ) (gs : List ℕ) → length gs ≡ m → all-zero gs ≡ true → replicate m 0 ≡ gs
+unfolding all-zero
+zeros zero [] e h = refl
+zeros (suc m) [] e h = absurd (omega arith)
+zeros zero (g ∷ gs) e h = absurd (omega arith)
+zeros (suc m) (g ∷ gs) e h =
+    let (a, b) = both-true (eqb g 0) (all-zero gs) h in
+    let p = eqb-true g 0 a in
+    let q = zeros m gs (omega arith) b in
+    cc
+
+pub zeros-zero : (m : ℕ) → all-zero (replicate m 0) ≡ true
+unfolding all-zero
+zeros-zero zero = refl
+zeros-zero (suc m) = zeros-zero m
+
+pub lag-laws : (m : ℕ) → OptionalLaws (lag-list m)
+unfolding lag-list lag-row tested passes-all
+lag-laws m = record {
+  lawful = tested-lawful (row-lawful _ _ _ byte-lawful tt m) _;
+  out = rw (eq-eqb _ m (length-replicate {A = ℕ} m 0)) (zeros-zero m);
+  only = λ gs h. let (a, b) = both-true (eqb (length gs) m) (all-zero gs) h in zeros m gs (eqb-true _ _ a) b;
+  apart = λ gs h.
+      let k : (not (all-zero gs) && true) ≡ true = both-true (lag-row m .valid gs) _ h .1 in
+      rw (not-true (all-zero gs) (both-true _ true k .0)) (and-false (eqb (length gs) m));
+}
+
+-- a row of lags may be written where there are so many
+row-counts : (m : ℕ) (gs : List ℕ) → lag-row m .valid gs ≡ eqb (length gs) m
+unfolding lag-row row row-valid tested passes-all byte
+row-counts zero [] = refl
+row-counts (suc m) [] = sym (ne-eqb 0 (suc m) (omega arith))
+row-counts zero (g ∷ gs) = rw eqb·suc-zero
+row-counts (suc m) (g ∷ gs) = row-counts m gs ∙ rw eqb·suc-suc
+
+-- the field is written or left out, whatever the lags
+pub lag-valid : (m : ℕ) (gs : List ℕ) → optional-valid (lag-list m) gs ≡ eqb (length gs) m
+unfolding optional-valid lag-list tested passes-all
+lag-valid m gs = rw row-counts (either (eqb (length gs) m) (all-zero gs))
+  where
+    either : (a b : Bool) → ((a && b) || (a && (not b && true))) ≡ a
+    either true true = refl
+    either true false = refl
+    either false b = refl
+
+-- the bytes of the lags are the lags
+pub lag-row-bytes : (gs : List ℕ) → row-bytes (byte .bytes) gs ≡ gs
+unfolding row-bytes byte
+lag-row-bytes [] = refl
+lag-row-bytes (g ∷ gs) = rw (lag-row-bytes gs)
+
+pub lag-bytes : (m : ℕ) (gs : List ℕ) → optional-bytes (lag-list m) gs ≡ cond (eqb (length gs) m && all-zero gs) [] gs
+unfolding optional-bytes lag-list tested lag-row row
+lag-bytes m gs = rw lag-row-bytes
+
+-- one byte each, or none
+pub lags-most : (m : ℕ) (gs : List ℕ) → length (optional-bytes (lag-list m) gs) ≤ length gs
+lags-most m gs =
+    rw lag-bytes (elim (eqb (length gs) m && all-zero gs) as (λ b. length {A = ℕ} (cond b [] gs) ≤ length gs) [ true ↦ omega arith | false ↦ omega arith ])

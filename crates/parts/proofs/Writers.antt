@@ -4,7 +4,7 @@ use Rattle.formats.specs.Formats.{byte, pair, converted, tested, keyed, row-byt
 use Rattle.formats.specs.Fields.{flags, optional-bytes, fields-bytes, fields, map-byte, with-map}
 use Rattle.parts.specs.declared.Size.{Size}
 use Rattle.parts.specs.declared.Item.{Item}
-use Rattle.parts.specs.declared.Precedence.{Precedence}
+use Rattle.parts.specs.Precedences.{Arc}
 use Rattle.parts.specs.Parts.{number, measure, measures, size-fields, item-fields, item, precedence}
 
 module _ (s : Size) where
@@ -24,11 +24,11 @@ item-bytes i = refl
 pub item-length : (i : Item) → length (item .bytes i) ≡ 1 + length (fields-bytes size-fields (i .size))
 item-length i = rw item-bytes (omega arith)
 
-pub precedence-bytes : (o : Precedence) → precedence .bytes o ≡ o .predecessor ∷ o .successor ∷ []
+pub precedence-bytes : (a : Arc) → precedence .bytes a ≡ a .predecessor ∷ a .successor ∷ []
 unfolding precedence converted pair byte
-precedence-bytes o = refl
+precedence-bytes a = refl
 
-pub precedences-length : (l : List Precedence) → length (row-bytes (precedence .bytes) l) ≡ 2 * length l
+pub precedences-length : (l : List Arc) → length (row-bytes (precedence .bytes) l) ≡ 2 * length l
 unfolding row-bytes precedence converted pair byte
 precedences-length [] = refl
-precedences-length (o ∷ os) = omega (arith, precedences-length os)
+precedences-length (a ∷ l) = omega (arith, precedences-length l)

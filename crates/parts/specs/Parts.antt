@@ -1,13 +1,12 @@
 -- The parts of a sheet as formats (document 01, "Sheet bytes").
-use Rattle.prelude.specs.Names.{ℕ, suc, not, cond, List, [], _∷_, eqb, leb}
-use Rattle.refusal.specs.declared.Refusal.the-variants.{WrittenDefault, BadItem, NotRising}
-use Rattle.formats.specs.Formats.{Format, Test, byte, word, pair, converted, tested, count}
+use Rattle.prelude.specs.Names.{ℕ, suc, true, not, cond, _&&_, Bool, List, [], _∷_, eqb, leb, length, replicate}
+use Rattle.refusal.specs.declared.Refusal.the-variants.{WrittenDefault, BadItem, NotRising, NoLag}
+use Rattle.formats.specs.Formats.{Format, Test, byte, word, pair, converted, tested, row, count}
 use Rattle.formats.specs.Fields.{Optional, Fields, made, field, with-map}
 use Rattle.parts.specs.declared.Size.{Size}
 use Rattle.parts.specs.declared.Item.{Item}
-use Rattle.parts.specs.declared.Precedence.{Precedence}
 use Rattle.parts.specs.declared.Previous.{Previous}
-use Rattle.parts.specs.Precedences.{names-items, rises}
+use Rattle.parts.specs.Precedences.{Arc, names-items, rises}
 
 -- a two-byte field that is left out for its default; 3: a value not above that is never written
 unfoldable pub number : ℕ → Optional ℕ
@@ -51,13 +50,30 @@ unfoldable pub item : Format Item
 item = with-map item-fields
 
 -- "orders, 2 bytes each: u, v"
-unfoldable pub precedence : Format Precedence
+unfoldable pub precedence : Format Arc
 precedence =
-    converted (λ p. record { predecessor = p .0; successor = p .1 }) (λ o. (o .predecessor, o .successor)) (pair byte byte)
+    converted (λ p. record { predecessor = p .0; successor = p .1 }) (λ a. (a .predecessor, a .successor)) (pair byte byte)
 
 -- with n items, after `last`: 5: "a piece not on the sheet, or u = v in an order"; 6: "not above the order before"
-abbrev pub precedence-tests : ℕ → Previous → Precedence → List Test
-precedence-tests n last o =
-    record { fault = not (names-items n o); refusal = BadItem }
-    ∷ record { fault = not (rises last o); refusal = NotRising }
+abbrev pub precedence-tests : ℕ → Previous → Arc → List Test
+precedence-tests n last a =
+    record { fault = not (names-items n a); refusal = BadItem }
+    ∷ record { fault = not (rises last a); refusal = NotRising }
     ∷ []
+
+-- no lag is above 0
+unfoldable pub all-zero : List ℕ → Bool
+all-zero [] = true
+all-zero (g ∷ gs) = eqb g 0 && all-zero gs
+
+-- the lags of m orders: "one byte for each order in its sequence, 0 to 255"
+unfoldable pub lag-row : ℕ → Format (List ℕ)
+lag-row = row byte (λ (_ : Unit {0}) _. []) (λ p _. p) tt
+
+-- "left out, they are all 0"; 11: "a lag field in which no lag is above 0, an empty field included"
+unfoldable pub lag-list : ℕ → Optional (List ℕ)
+lag-list m = record {
+  default = replicate m 0;
+  left-out = λ gs. eqb (length gs) m && all-zero gs;
+  written = tested (lag-row m) λ gs. record { fault = all-zero gs; refusal = NoLag } ∷ [];
+}

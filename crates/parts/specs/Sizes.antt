@@ -17,4 +17,4 @@ abbrev pub no-item : Item
 no-item = record { size = record { width = 0; depth = 0; shifts = 0 } }
 
 abbrev pub no-precedence : Precedence
-no-precedence = record { predecessor = 0; successor = 0 }
+no-precedence = record { predecessor = 0; successor = 0; lag = 0 }

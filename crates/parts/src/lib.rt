@@ -18,10 +18,11 @@ pub struct Item {
     pub size: Size,
 }
 
-// An order u, v: the predecessor is lifted before the successor is set.
+// An order u, v: the predecessor is lifted at least `lag` shifts before the successor is set.
 pub struct Precedence {
     pub predecessor: u8,
     pub successor: u8,
+    pub lag: u8,
 }
 
 // The precedence before one, if there is one.

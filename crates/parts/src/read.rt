@@ -1,9 +1,10 @@
 // Readers. Each is handed the bytes that start at its part, and the place of that part on the sheet.
 ghost use mathlib.Core.Path.{_≡_};
 ghost use Prim.Native.Nat.{_≤_};
-ghost use Rattle.formats.specs.Reading.{run};
+ghost use Rattle.formats.specs.Reading.{run, read-as};
 ghost use Rattle.formats.specs.Formats.{tested};
 ghost use Rattle.formats.specs.Fields.{is-set, optional-reading, fields-reading};
+ghost use Rattle.parts.specs.Precedences.{unlagged};
 ghost use Rattle.parts.specs.Parts.{number, measure, count-field, size-fields, item, precedence, precedence-tests};
 ghost use Rattle.parts.specs.Answers.{field-read, size-read, item-read, precedence-read, PlacesFit};
 use crate::FieldRead;
@@ -123,10 +124,11 @@ pub fn read_count(rest: &[u8], at: usize, present: bool, limit: usize) -> FieldR
     FieldRead::Value(wide(n), 1)
 }
 
-// A precedence of a sheet with n items, after `last`.
+// A precedence of a sheet with n items, after `last`. Its lag is on the sheet later: here it is 0.
 pub fn read_precedence(rest: &[u8], at: usize, n: usize, last: Previous) -> PrecedenceRead
     requires { ⌜ PlacesFit at (now rest) ⌝ }
-    ensures { λ r. ⌜ run (tested precedence (precedence-tests n last) .reading) at (now (rest .entry)) ≡ precedence-read at (now (rest .entry)) r ⌝ }
+    ensures { λ r. ⌜ read-as unlagged (run (tested precedence (precedence-tests n last) .reading) at (now (rest .entry)))
+        ≡ precedence-read at (now (rest .entry)) r ⌝ }
 {
     if rest.len() < 2 {
         return PrecedenceRead::Refused(Refusal::EndsEarly(at + rest.len()));
@@ -134,6 +136,7 @@ pub fn read_precedence(rest: &[u8], at: usize, n: usize, last: Previous) -> Prec
     let o = Precedence {
         predecessor: rest[0],
         successor: rest[1],
+        lag: 0,
     };
     if !crate::valid::both_items(o, n) {
         return PrecedenceRead::Refused(Refusal::BadItem(at));

@@ -1,6 +1,6 @@
 // When a part may be on a sheet.
 ghost use mathlib.Core.Path.{_≡_};
-ghost use Rattle.parts.specs.Precedences.{names-items, rises};
+ghost use Rattle.parts.specs.Precedences.{arc-of, names-items, rises};
 ghost use Rattle.parts.specs.Sizes.{positive};
 use crate::Precedence;
 use crate::Previous;
@@ -24,7 +24,7 @@ pub fn is_positive(size: Size) -> bool
 
 // Both are among n items, and they differ.
 pub fn both_items(o: Precedence, n: usize) -> bool
-    ensures { λ r. ⌜ r ≡ names-items n o ⌝ }
+    ensures { λ r. ⌜ r ≡ names-items n (arc-of o) ⌝ }
 {
     if n <= crate::index(o.predecessor) {
         return false;
@@ -40,7 +40,7 @@ pub fn both_items(o: Precedence, n: usize) -> bool
 
 // The precedence is above the one before.
 pub fn is_rising(last: Previous, o: Precedence) -> bool
-    ensures { λ r. ⌜ r ≡ rises last o ⌝ }
+    ensures { λ r. ⌜ r ≡ rises last (arc-of o) ⌝ }
 {
     match last {
         Previous::Nothing => true,

@@ -4,6 +4,7 @@ ghost use Prim.Native.Nat.{_+_, _≤_};
 ghost use lib.ListN.{length};
 ghost use lib.Seq.{sets};
 ghost use Rattle.formats.specs.Fields.{flag, flags, optional-bytes, fields-bytes};
+ghost use Rattle.parts.specs.Precedences.{arc-of};
 ghost use Rattle.parts.specs.Parts.{number, count-bytes, count-flag, size-fields, item, precedence};
 use crate::Item;
 use crate::Precedence;
@@ -99,10 +100,11 @@ pub fn write_item(out: &mut [u8], at: usize, i: Item) -> usize
     write_size(out, at + 1, size)
 }
 
+// The lag is not written here: the lags have a field of their own.
 pub fn write_precedence(out: &mut [u8], at: usize, o: Precedence) -> usize
     requires { ⌜ at + 2 ≤ length (now out) ⌝ }
     ensures { λ r. ⌜ r ≡ at + 2 ⌝ }
-    ensures { λ _. ⌜ now (out .exit) ≡ sets (now (out .entry)) at (precedence .bytes o) ⌝ }
+    ensures { λ _. ⌜ now (out .exit) ≡ sets (now (out .entry)) at (precedence .bytes (arc-of o)) ⌝ }
 {
     out[at] = o.predecessor;
     out[at + 1] = o.successor;

@@ -2,17 +2,17 @@
 use Rattle.prelude.specs.Names.{List, [], _∷_, _≡_, refl, sym, ap, ap₂, _∙_, ℕ, _≤_, arith, getD}
 use Rattle.refusal.specs.declared.Refusal.{Refusal}
 use Rattle.refusal.specs.declared.Refusal.the-variants.{EndsEarly, UnknownBit, WrittenDefault, BadCount, BadItem, NotRising, TrailingBytes}
-use Rattle.refusal.specs.declared.Refusal.the-variants.{BadArgument, InvalidInstance, NotFollowing}
+use Rattle.refusal.specs.declared.Refusal.the-variants.{BadArgument, InvalidInstance, NotFollowing, NoLag}
 use Rattle.refusal.specs.Numbers.{number-of, place-of}
 
 -- the refusal with this number and place; NotFollowing for a number that none has
 abbrev refusal-of : ℕ → ℕ → Refusal
 refusal-of n p =
-    let to-5 = EndsEarly p ∷ UnknownBit p ∷ WrittenDefault p ∷ BadCount p ∷ BadItem p ∷ to-9 in
+    let to-5 = EndsEarly p ∷ UnknownBit p ∷ WrittenDefault p ∷ BadCount p ∷ BadItem p ∷ to-11 in
     getD (NotFollowing ∷ to-5) n NotFollowing
   where
-    to-9 : List Refusal
-    to-9 = NotRising p ∷ TrailingBytes p ∷ BadArgument ∷ InvalidInstance ∷ []
+    to-11 : List Refusal
+    to-11 = NotRising p ∷ TrailingBytes p ∷ BadArgument ∷ InvalidInstance ∷ NotFollowing ∷ NoLag p ∷ []
 
 refusal-back : (e : Refusal) → refusal-of (number-of e) (place-of e) ≡ e
 refusal-back (EndsEarly p) = refl
@@ -25,6 +25,7 @@ refusal-back (TrailingBytes p) = refl
 refusal-back BadArgument = refl
 refusal-back InvalidInstance = refl
 refusal-back NotFollowing = refl
+refusal-back (NoLag p) = refl
 
 pub same-refusal : (e f : Refusal) → number-of e ≡ number-of f → place-of e ≡ place-of f → e ≡ f
 same-refusal e f n p = sym (refusal-back e) ∙ ap₂ refusal-of n p ∙ refusal-back f
@@ -35,7 +36,7 @@ number-not-zero e n =
     let last : NotFollowing ≡ e = rw n at (refusal-back e) in
     omega (arith, ap number-of last)
 
-pub number-most : (e : Refusal) → number-of e ≤ 10
+pub number-most : (e : Refusal) → number-of e ≤ 11
 number-most (EndsEarly place) = omega arith
 number-most (UnknownBit place) = omega arith
 number-most (WrittenDefault place) = omega arith
@@ -46,3 +47,4 @@ number-most (TrailingBytes place) = omega arith
 number-most BadArgument = omega arith
 number-most InvalidInstance = omega arith
 number-most NotFollowing = omega arith
+number-most (NoLag place) = omega arith

@@ -1,8 +1,8 @@
--- The number and the place of each refusal (document 01, "Refusals": the columns "Number" and "What is returned").
+-- The number and the place of each refusal (document 01, "Refusals": the columns "Number" and "What is returned"; 11 is from document 02, #101).
 use Rattle.prelude.specs.Names.{ℕ}
 use Rattle.refusal.specs.declared.Refusal.{Refusal}
 use Rattle.refusal.specs.declared.Refusal.the-variants.{EndsEarly, UnknownBit, WrittenDefault, BadCount, BadItem, NotRising, TrailingBytes}
-use Rattle.refusal.specs.declared.Refusal.the-variants.{BadArgument, InvalidInstance, NotFollowing}
+use Rattle.refusal.specs.declared.Refusal.the-variants.{BadArgument, InvalidInstance, NotFollowing, NoLag}
 
 abbrev pub number-of : Refusal → ℕ
 number-of (EndsEarly place) = 1
@@ -15,6 +15,7 @@ number-of (TrailingBytes place) = 7
 number-of BadArgument = 8
 number-of InvalidInstance = 9
 number-of NotFollowing = 10
+number-of (NoLag place) = 11
 
 abbrev pub place-of : Refusal → ℕ
 place-of (EndsEarly place) = place
@@ -27,3 +28,4 @@ place-of (TrailingBytes place) = place
 place-of BadArgument = 0
 place-of InvalidInstance = 0
 place-of NotFollowing = 0
+place-of (NoLag place) = place

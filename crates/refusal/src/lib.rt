@@ -23,6 +23,8 @@ pub enum Refusal {
     InvalidInstance,
     // 10: a checkpoint that does not follow its instance
     NotFollowing,
+    // 11: a lag field in which no lag is above 0
+    NoLag(usize),
 }
 
 impl Refusal {
@@ -40,6 +42,7 @@ impl Refusal {
             Refusal::BadArgument => 8,
             Refusal::InvalidInstance => 9,
             Refusal::NotFollowing => 10,
+            Refusal::NoLag(_) => 11,
         }
     }
 
@@ -57,6 +60,7 @@ impl Refusal {
             Refusal::BadArgument => 0,
             Refusal::InvalidInstance => 0,
             Refusal::NotFollowing => 0,
+            Refusal::NoLag(place) => place,
         }
     }
 }

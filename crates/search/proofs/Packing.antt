@@ -5,7 +5,7 @@ use Rattle.model.proofs.Below.{below-three}
 use Rattle.model.specs.Admits.{Sound}
 use Rattle.model.specs.Branching.{Branch, path-domains, starts, plan}
 use Rattle.model.specs.Domains.{Domains}
-use Rattle.model.specs.Problem.{Problem, Positions, Feasible, EndsBefore, time}
+use Rattle.model.specs.Problem.{Problem, Positions, Feasible, EndsBefore, EndsAhead, time}
 use Rattle.instance.proofs.Positions.{ten-at}
 use Rattle.instance.specs.Meaning.{start, positions-of}
 use Rattle.instance.specs.Values.{origin}
@@ -48,11 +48,11 @@ plan-is p path k e r long placed past = packing-is p (starts p (path-domains p p
 
 -- what fits is said of the items' positions alone
 pub feasible-same : (p : Problem) → Sound p → (q r : Positions) → ((a u : ℕ) → a < 3 → u < p .items → r a u ≡ q a u) → Feasible p q → Feasible p r
-unfolding EndsBefore
+unfolding EndsBefore EndsAhead
 feasible-same p σ q r e f = record {
   inside = λ a u la lu. rw (e a u la lu) (f .inside a u la lu);
   apart = λ u v lu lv d. apart u v lu lv (f .apart u v lu lv d);
-  ordered = λ o m. ends (time) (o .predecessor) (o .successor) (omega arith) (σ .named o m .item-u) (σ .named o m .item-v) (f .ordered o m);
+  ordered = λ o m. let s = σ .named o m in rw (e time _ (s .axis) (s .item-u), e time _ (s .axis) (s .item-v)) (f .ordered o m);
 }
   where
     ends : (a u v : ℕ) → a < 3 → u < p .items → v < p .items → EndsBefore p q a u v → EndsBefore p r a u v

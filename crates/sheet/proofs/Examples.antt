@@ -1,11 +1,11 @@
--- Document 01's byte examples, and more for the limits and the order of the fields.
+-- The byte examples of documents 01 and 02, and more for the limits and the order of the fields.
 use Rattle.prelude.specs.Names.{_≡_, List, [], _∷_, ℕ, length}
-use Rattle.refusal.specs.declared.Refusal.the-variants.{EndsEarly, UnknownBit, WrittenDefault, BadCount, BadItem, NotRising, TrailingBytes}
+use Rattle.refusal.specs.declared.Refusal.the-variants.{EndsEarly, UnknownBit, WrittenDefault, BadCount, BadItem, NotRising, TrailingBytes, NoLag}
 use Rattle.formats.specs.Reading.{Read, got, refused, run}
 use Rattle.formats.specs.Formats.{whole}
 use Rattle.parts.specs.declared.Size.{Size}
 use Rattle.parts.specs.declared.Item.{Item}
-use Rattle.parts.specs.declared.Precedence.{Precedence}
+use Rattle.parts.specs.Precedences.{Arc}
 use Rattle.sheet.specs.Sheet.{Sheet, sheet}
 use Rattle.sheet.specs.Computing.{sheet-computing}
 
@@ -22,27 +22,30 @@ size-of width depth shifts = record { width = width; depth = depth; shifts = shi
 abbrev item-of : ℕ → ℕ → ℕ → Item
 item-of width depth shifts = record { size = size-of width depth shifts }
 
-abbrev before : ℕ → ℕ → Precedence
+abbrev before : ℕ → ℕ → Arc
 before u v = record { predecessor = u; successor = v }
 
-abbrev sheet-of : Size → List Item → List Precedence → ℕ → Sheet
-sheet-of container items precedences yard-number =
-    record { container = container; items = items; precedences = precedences; yard-number = yard-number }
+abbrev sheet-of : Size → List Item → List Arc → ℕ → List ℕ → Sheet
+sheet-of container items precedences yard-number lags =
+    record { container = container; items = items; precedences = precedences; yard-number = yard-number; lags = lags }
 
 readings :
     -- the hall 2×1×2 with the pieces 2×1×1 and 1×1×1 and the order 1,0
     Means (0x1D ∷ 2 ∷ 0 ∷ 2 ∷ 0 ∷ 2 ∷ 1 ∷ 2 ∷ 0 ∷ 0 ∷ 1 ∷ 1 ∷ 0 ∷ [])
-    (sheet-of (size-of 2 1 2) (item-of 2 1 1 ∷ item-of 1 1 1 ∷ []) (before 1 0 ∷ []) 0)
+    (sheet-of (size-of 2 1 2) (item-of 2 1 1 ∷ item-of 1 1 1 ∷ []) (before 1 0 ∷ []) 0 (0 ∷ []))
+    -- the same with a lag of 5
+    × Means (0x5D ∷ 2 ∷ 0 ∷ 2 ∷ 0 ∷ 2 ∷ 1 ∷ 2 ∷ 0 ∷ 0 ∷ 1 ∷ 1 ∷ 0 ∷ 5 ∷ [])
+    (sheet-of (size-of 2 1 2) (item-of 2 1 1 ∷ item-of 1 1 1 ∷ []) (before 1 0 ∷ []) 0 (5 ∷ []))
     -- all left out
-    × Means (0 ∷ []) (sheet-of (size-of 1 1 1) [] [] 0)
+    × Means (0 ∷ []) (sheet-of (size-of 1 1 1) [] [] 0 [])
     -- the hall's measures alone; the yard number alone
-    × Means (0x07 ∷ 2 ∷ 0 ∷ 3 ∷ 0 ∷ 4 ∷ 0 ∷ []) (sheet-of (size-of 2 3 4) [] [] 0)
-    × Means (0x20 ∷ 1 ∷ 0 ∷ []) (sheet-of (size-of 1 1 1) [] [] 1)
+    × Means (0x07 ∷ 2 ∷ 0 ∷ 3 ∷ 0 ∷ 4 ∷ 0 ∷ []) (sheet-of (size-of 2 3 4) [] [] 0 [])
+    × Means (0x20 ∷ 1 ∷ 0 ∷ []) (sheet-of (size-of 1 1 1) [] [] 1 [])
     -- all written, and no two alike
     × Means
-    (0x3F ∷ 2 ∷ 1 ∷ 3 ∷ 0 ∷ 4 ∷ 0 ∷ 2 ∷ 0x07 ∷ 5 ∷ 0 ∷ 6 ∷ 0 ∷ 7 ∷ 0 ∷ 0x07 ∷ 8 ∷ 0 ∷ 9 ∷ 0 ∷ 11 ∷ 10
-    ∷ 2 ∷ 0 ∷ 1 ∷ 1 ∷ 0 ∷ 12 ∷ 13 ∷ [])
-    (sheet-of (size-of 0x0102 3 4) (item-of 5 6 7 ∷ item-of 8 9 0x0A0B ∷ []) (before 0 1 ∷ before 1 0 ∷ []) 0x0D0C)
+    (0x7F ∷ 2 ∷ 1 ∷ 3 ∷ 0 ∷ 4 ∷ 0 ∷ 2 ∷ 0x07 ∷ 5 ∷ 0 ∷ 6 ∷ 0 ∷ 7 ∷ 0 ∷ 0x07 ∷ 8 ∷ 0 ∷ 9 ∷ 0 ∷ 11 ∷ 10
+    ∷ 2 ∷ 0 ∷ 1 ∷ 1 ∷ 0 ∷ 12 ∷ 13 ∷ 0 ∷ 14 ∷ [])
+    (sheet-of (size-of 0x0102 3 4) (item-of 5 6 7 ∷ item-of 8 9 0x0A0B ∷ []) (before 0 1 ∷ before 1 0 ∷ []) 0x0D0C (0 ∷ 14 ∷ []))
 unfolding sheet-computing
 readings = search
 
@@ -51,8 +54,8 @@ refusals :
     (read [] ≡ refused (EndsEarly 0))
     × (read (0x01 ∷ 2 ∷ []) ≡ refused (EndsEarly 2))
     × (read (0x18 ∷ 2 ∷ 0 ∷ 0 ∷ 1 ∷ 2 ∷ []) ≡ refused (EndsEarly 6))
-    -- 2: bit 6 of the sheet, bit 3 of a piece
-    × (read (0x40 ∷ []) ≡ refused (UnknownBit 0))
+    -- 2: bit 7 of the sheet, bit 3 of a piece
+    × (read (0x80 ∷ []) ≡ refused (UnknownBit 0))
     × (read (0x08 ∷ 1 ∷ 0x08 ∷ []) ≡ refused (UnknownBit 2))
     -- 3: a measure of 1, yard number 0
     × (read (0x01 ∷ 1 ∷ 0 ∷ []) ≡ refused (WrittenDefault 1))
@@ -72,5 +75,15 @@ refusals :
     × (read (0x18 ∷ 2 ∷ 0 ∷ 0 ∷ 2 ∷ 1 ∷ 0 ∷ 0 ∷ 1 ∷ []) ≡ refused (NotRising 7))
     -- 7: a byte after the last field
     × (read (0 ∷ 0 ∷ []) ≡ refused (TrailingBytes 1))
+    -- 11: an empty field of lags, also before a byte that follows and after a yard number; 1 and 3 of the yard number come before it
+    × (read (0x40 ∷ []) ≡ refused (NoLag 1))
+    × (read (0x40 ∷ 0 ∷ []) ≡ refused (NoLag 1))
+    × (read (0x60 ∷ 1 ∷ 0 ∷ []) ≡ refused (NoLag 3))
+    × (read (0x60 ∷ []) ≡ refused (EndsEarly 1))
+    × (read (0x60 ∷ 0 ∷ 0 ∷ []) ≡ refused (WrittenDefault 1))
+    -- 11: two lags of 0, also before a byte that follows; 1: one of them alone
+    × (read (0x58 ∷ 2 ∷ 0 ∷ 0 ∷ 2 ∷ 0 ∷ 1 ∷ 1 ∷ 0 ∷ 0 ∷ 0 ∷ []) ≡ refused (NoLag 9))
+    × (read (0x58 ∷ 2 ∷ 0 ∷ 0 ∷ 2 ∷ 0 ∷ 1 ∷ 1 ∷ 0 ∷ 0 ∷ 0 ∷ 9 ∷ []) ≡ refused (NoLag 9))
+    × (read (0x58 ∷ 2 ∷ 0 ∷ 0 ∷ 2 ∷ 0 ∷ 1 ∷ 1 ∷ 0 ∷ 0 ∷ []) ≡ refused (EndsEarly 10))
 unfolding sheet-computing
 refusals = search

@@ -1,28 +1,29 @@
 -- "Reading goes left to right and gives the first fault; at one place the lower number": what reading a sheet gives, by the faults of its bytes.
 use Rattle.prelude.specs.Names.{_≡_, refl, sym, _∙_, Bool, true, false, not, cond, false≢true, and-false, Bool·not-not, List, [], _⊎_, inl, inr, _↔_}
-use Rattle.prelude.specs.Names.{Iff·rfl, ℕ, zero, suc, _+_, _*_, _≤_, _<_, arith, decLe, decLt, add-zero, add-assoc, eq-or-lt-of-le, leb, length}
+use Rattle.prelude.specs.Names.{Iff·rfl, ℕ, zero, suc, _+_, _*_, _≤_, _<_, arith, decLe, decLt, add-zero, add-assoc, eq-or-lt-of-le, eqb, leb, length}
 use Rattle.prelude.specs.Names.{getD, drop, eqb-true, eq-eqb, ne-eqb, lt-ltb, le-ltb, leb-true, le-leb}
 use lib.Seq.{drop-length}
 use Rattle.refusal.specs.declared.Refusal.{Refusal}
-use Rattle.refusal.specs.declared.Refusal.the-variants.{WrittenDefault, BadItem, NotRising}
+use Rattle.refusal.specs.declared.Refusal.the-variants.{WrittenDefault, BadItem, NotRising, NoLag}
 use Rattle.formats.specs.Reading.{got, refused, run, _>>=_}
 use Rattle.formats.specs.Formats.{up-to, Format, Test, byte, word, pair, converted, testing, tested, keyed, row, count, counted, whole}
 use Rattle.formats.specs.Fields.{Fields, optional-reading, is-set, fields-reading, fields, map-byte, with-map}
+use Rattle.formats.proofs.Laws.{both-true}
 use Rattle.formats.proofs.Spans.{length-up-to, getD-up-to, Gives, reads, gives-as, first-given, none-given, given-none, gives-test, Spans, spans-as}
-use Rattle.formats.proofs.Spans.{spans-done, spans-two-bytes, spans-then, spans-tested, spans-one-test, spans-untested, Unknown, spans-map}
-use Rattle.formats.proofs.Spans.{Miscounted, spans-count, Parts, spans-row, OrTrailing, gives-whole}
+use Rattle.formats.proofs.Spans.{first-inside, no-lag-inside, spans-done, spans-byte, spans-two-bytes, spans-then, spans-tested, spans-one-test}
+use Rattle.formats.proofs.Spans.{spans-untested, Unknown, spans-map, Miscounted, spans-count, Parts, spans-row, OrTrailing, gives-whole}
 use Rattle.parts.specs.declared.Size.{Size}
-use Rattle.parts.specs.declared.Precedence.{Precedence}
 use Rattle.parts.specs.declared.Previous.{Previous}
 use Rattle.parts.specs.declared.Previous.the-variants.{Nothing, Was}
-use Rattle.parts.specs.Parts.{number, measure, measures, item-fields, item, precedence, precedence-tests}
-use Rattle.parts.specs.Precedences.{names-items, above, rises}
+use Rattle.parts.specs.Parts.{number, measure, measures, item-fields, item, precedence, precedence-tests, all-zero, lag-row, lag-list}
+use Rattle.parts.specs.Precedences.{Arc, unlagged, names-items, above, rises}
 use Rattle.parts.specs.Sizes.{no-item}
+use Rattle.parts.proofs.Laws.{lag-laws}
 use Rattle.sheet.specs.Sheet.{Sheet, max-items, max-precedences, list-of, item-list, precedence-list, sheet-fields, sheet}
 use Rattle.sheet.specs.Places.{two-if, measures-length, byte-at, word-at, precedence-at, has, container-end, items-on, after-item, item-place}
-use Rattle.sheet.specs.Places.{items-end, precedences-on, precedence-place, precedences-end, sheet-end}
+use Rattle.sheet.specs.Places.{items-end, precedences-on, precedence-place, precedences-end, yard-number-end, sheet-end}
 use Rattle.sheet.specs.Faults.{MeasureAt, width, depth, shifts, Misnames, Fault, FirstFault, ends-early, unknown-bit, item-unknown-bit}
-use Rattle.sheet.specs.Faults.{container-measure, item-measure, yard-number, item-count, precedence-count, bad-item, not-rising, trailing-bytes}
+use Rattle.sheet.specs.Faults.{container-measure, item-measure, yard-number, item-count, precedence-count, bad-item, not-rising, trailing-bytes, no-lag}
 use Rattle.sheet.specs.Contents.{size-at, item-at, items-at, sheet-at}
 use Rattle.sheet.specs.Sheet as S
 
@@ -58,6 +59,23 @@ not-above a b c d = (
   ],
 )
 
+-- no lag of so many is above 0
+no-lags : (n : ℕ) (x : ℕ → ℕ) → (all-zero (up-to n x) ≡ true) ↔ ((i : ℕ) → i < n → x i ≡ 0)
+unfolding all-zero
+no-lags zero x = (λ _ i l. absurd (omega arith), λ _. refl)
+no-lags (suc n) x =
+    let (to, from) = no-lags n (λ k. x (suc k)) in (
+      λ h.
+          let (a, b) = both-true (eqb (x 0) 0) (all-zero (up-to n (λ k. x (suc k)))) h in
+          elim [ zero ↦ λ _. eqb-true _ _ a | suc i ↦ λ l. to b i (omega arith) ],
+      λ h. rw (eq-eqb (x 0) 0 (h 0 (omega arith))) (from (λ i l. h (suc i) (omega arith))),
+    )
+
+-- lags that are left out
+left-out-lags : (m : ℕ) → lag-list m .default ≡ up-to m (λ _. 0)
+unfolding lag-list
+left-out-lags m = lag-laws m .only _ (rw (eq-eqb _ m (length-up-to {A = ℕ} m (λ _. 0))) (no-lags m (λ _. 0) .1 (λ i l. refl)))
+
 module _ (s : List ℕ) where
   -- 3 at a two-byte field
   abbrev Low : ℕ → ℕ → Refusal → Type 0
@@ -68,7 +86,7 @@ module _ (s : List ℕ) where
   unfolding number word
   spans-number default true at =
       let σ = spans-two-bytes s (λ low high. low + 256 * high) at in
-      spans-as s (spans-one-test s word (λ v. leb v default) WrittenDefault (omega arith) refl (leb-true _ _, le-leb _ _) σ)
+      spans-as s (spans-one-test s word (λ v. leb v default) WrittenDefault (first-inside s refl (omega arith)) (leb-true _ _, le-leb _ _) σ)
       (λ e. (λ w. (refl, w), λ (_, w). w))
   spans-number default false at =
       rw add-zero (spans-as s (spans-done s default at) (λ e. (λ w. absurd w, λ (q, _). absurd (false≢true q))))
@@ -112,12 +130,12 @@ module _ (s : List ℕ) where
       spans-then s (map-byte 3 .reading) _ (spans-map s 3 m) (spans-measures (λ i. i .size) _ m (spans-done s (item-at s m) (after-item s m)))
 
   -- precedence k and the one before it, and its faults
-  abbrev nth : ℕ → Precedence
+  abbrev nth : ℕ → Arc
   nth k = precedence-at s (precedence-place s k)
 
   abbrev previous : ℕ → Previous
   previous zero = Nothing
-  previous (suc k) = Was (nth k)
+  previous (suc k) = Was (unlagged (nth k))
 
   abbrev PrecedenceFault : ℕ → Refusal → Type 0
   PrecedenceFault k e =
@@ -130,12 +148,16 @@ module _ (s : List ℕ) where
   unfolding precedence converted pair byte _>>=_ testing run precedence-place
   spans-precedence k =
       let p : precedence-place s k + 2 ≡ precedence-place s (suc k) = omega arith in
-      spans-tested s precedence (precedence-tests (items-on s) (previous k)) (omega arith)
-      (λ e. elim [ inl (_, q) ↦ rw q | inr (inl (_, q)) ↦ rw q | inr (inr w) ↦ absurd w ])
+      spans-tested s precedence (precedence-tests (items-on s) (previous k))
+      (λ e. elim [
+        | inl (_, q) ↦ rw q (first-inside s refl (omega arith))
+        | inr (inl (_, q)) ↦ rw q (first-inside s refl (omega arith))
+        | inr (inr w) ↦ absurd w
+      ])
       (λ l. gives-test s (not (names-items (items-on s) (nth k))) (misnames _ _ _)
       (λ f. elim [ inl (_, q) ↦ rw q (inr (refl, omega arith)) | inr w ↦ absurd w ])
       (gives-test s (not (rises (previous k) (nth k))) Iff·rfl (λ f w. absurd w) (reads l (λ e w. w))))
-      (rw p at (spans-two-bytes s {A = Precedence} (λ u v. record { predecessor = u; successor = v }) (precedence-place s k)))
+      (rw p at (spans-two-bytes s {A = Arc} (λ u v. record { predecessor = u; successor = v }) (precedence-place s k)))
 
   -- a counted row where its bit is set
   spans-list : {P A : Type 0} {part : Format A} {tests : P → A → List Test} {next : P → A → P} {state : ℕ → P} {place : ℕ → ℕ} {x : ℕ → A}
@@ -167,15 +189,41 @@ module _ (s : List ℕ) where
   spans-precedences n q =
       rw q (spans-list {state = previous} max-precedences (has s 16) (items-end s) (omega arith) (record { known = λ k. refl; each = spans-precedence }))
 
+  -- bytes as lags have no fault of their own
+  spans-lag-row : (m at : ℕ) → Spans s (lag-row m .reading) at (up-to m (λ i. byte-at s (at + i))) (at + m) (λ e. ⊥)
+  unfolding lag-row row
+  spans-lag-row m at =
+      let next : (k : ℕ) → at + k + 1 ≡ at + suc k = λ k. omega arith in
+      let π : Parts s byte (λ (_ : Unit {0}) _. []) (λ p _. p) (λ _. tt) (λ k. at + k) (λ k. byte-at s (at + k)) (λ k e. ⊥)
+      = record { known = λ k. refl; each = λ k. rw (next k) at (spans-untested s byte (spans-byte s (at + k))) } in
+      spans-as s (rw add-zero at (spans-row s m π)) (λ e. (λ (k, l, w). w, λ w. absurd w))
+
+  -- 11 at the lags of m orders
+  abbrev LagsFault : ℕ → Bool → ℕ → Refusal → Type 0
+  LagsFault m bit at e =
+      (bit ≡ true) × ((at + cond bit m 0 ≤ length s) × ((i : ℕ) → i < m → byte-at s (at + i) ≡ 0) × (e ≡ NoLag at))
+
+  spans-lags : (m : ℕ) (bit : Bool) (at : ℕ) → Spans s (optional-reading (lag-list m) bit) at (up-to m (λ i. cond bit (byte-at s (at + i)) 0))
+      (at + cond bit m 0) (LagsFault m bit at)
+  unfolding lag-list
+  spans-lags m true at =
+      spans-as s (spans-one-test s (lag-row m) all-zero NoLag (no-lag-inside s (omega arith)) (no-lags m _) (spans-lag-row m at))
+      (λ e. (λ w. (refl, w), λ (_, w). w))
+  spans-lags m false at =
+      rw (add-zero, ← (left-out-lags m)) (spans-as s (spans-done s _ at) (λ e. (λ w. absurd w, λ (q, _). absurd (false≢true q))))
+
   spans-sheet : Spans s (sheet .reading) 0 (sheet-at s) (sheet-end s)
-      (λ e. Unknown s 6 0 e ⊎ (LowMeasure 0 e ⊎ (ItemsFault e ⊎ (PrecedencesFault e ⊎ (((has s 32 ≡ true) × Low 0 (precedences-end s) e) ⊎ ⊥)))))
-  unfolding sheet sheet-fields with-map keyed fields fields-reading container-end sheet-end S.yard-number
+      (λ e. Unknown s 7 0 e ⊎ (LowMeasure 0 e ⊎ (ItemsFault e ⊎ (PrecedencesFault e ⊎ (((has s 32 ≡ true) × Low 0 (precedences-end s) e)
+      ⊎ (LagsFault (precedences-on s) (has s 64) (yard-number-end s) e ⊎ ⊥))))))
+  unfolding sheet sheet-fields with-map keyed fields fields-reading container-end yard-number-end sheet-end S.yard-number
   spans-sheet =
-      spans-then s (map-byte 6 .reading) _ (spans-map s 6 0)
+      spans-then s (map-byte 7 .reading) _ (spans-map s 7 0)
       (spans-measures (λ (x : Sheet). x .container) _ 0
       (spans-then s _ _ spans-items
       (spans-then s _ _ (spans-precedences (length (items-at s)) (length-up-to (items-on s) _))
-      (spans-then s _ _ (spans-number 0 (has s 32) (precedences-end s)) (spans-done s (sheet-at s) (sheet-end s))))))
+      (spans-then s _ _ (spans-number 0 (has s 32) (precedences-end s))
+      (spans-then s _ _ (rw (length-up-to (precedences-on s) nth) (spans-lags (precedences-on s) (has s 64) (yard-number-end s)))
+      (spans-done s (sheet-at s) (sheet-end s)))))))
 
   -- what reading meets are the faults of the table
   item-to-fault : (k : ℕ) → k < items-on s → {e : Refusal} → ItemFault (item-place s k) e → Fault s e
@@ -191,6 +239,7 @@ module _ (s : List ℕ) where
   precedence-to-fault k l (a, inr (inr w)) = absurd w
 
   to-fault : {e : Refusal} → OrTrailing s sheet spans-sheet e → Fault s e
+  unfolding sheet-end
   to-fault (inr (l, q)) = rw q (trailing-bytes l)
   to-fault (inl (inr (l, q))) = rw q (ends-early l)
   to-fault (inl (inl (inl (l, c, q)))) = rw q (unknown-bit (omega arith) c)
@@ -200,10 +249,11 @@ module _ (s : List ℕ) where
   to-fault (inl (inl (inr (inr (inr (inl (inl (t, (l, c, q))))))))) = rw q (precedence-count t (omega arith) c)
   to-fault (inl (inl (inr (inr (inr (inl (inr (k, l, w)))))))) = precedence-to-fault k l w
   to-fault (inl (inl (inr (inr (inr (inr (inl (t, (l, c, q))))))))) = rw q (yard-number t l (omega arith))
-  to-fault (inl (inl (inr (inr (inr (inr (inr w))))))) = absurd w
+  to-fault (inl (inl (inr (inr (inr (inr (inr (inl (t, (l, c, q)))))))))) = rw q (no-lag t l c)
+  to-fault (inl (inl (inr (inr (inr (inr (inr (inr w)))))))) = absurd w
 
   from-fault : {e : Refusal} → Fault s e → OrTrailing s sheet spans-sheet e
-  unfolding precedence-place
+  unfolding precedence-place sheet-end
   from-fault (ends-early l) = inl (inr (l, refl))
   from-fault (unknown-bit l c) = inl (inl (inl (omega arith, c, refl)))
   from-fault (item-unknown-bit k l a c) = inl (inl (inr (inr (inl (inr (k, l, inl (omega arith, c, refl)))))))
@@ -215,6 +265,7 @@ module _ (s : List ℕ) where
   from-fault (bad-item i l a c) = inl (inl (inr (inr (inr (inl (inr (i, l, (omega arith, inl (c, refl)))))))))
   from-fault (not-rising i l a c) = inl (inl (inr (inr (inr (inl (inr (suc i, l, (omega arith, inr (inl (not-above _ _ _ _ .1 c, refl))))))))))
   from-fault (trailing-bytes l) = inr (l, refl)
+  from-fault (no-lag t l c) = inl (inl (inr (inr (inr (inr (inr (inl (t, (l, c, refl)))))))))
 
   sheet-gives : Gives s (sheet-at s) (sheet-end s) (Fault s) (run (whole sheet) 0 s)
   sheet-gives = gives-as s (gives-whole s sheet spans-sheet) (λ e. (to-fault, from-fault))
@@ -262,7 +313,7 @@ module _ (s : List ℕ) where
     pub item-read-there : (length (x .items) ≡ items-on s) × ((k : ℕ) → k < items-on s → (item-place s (suc k) ≤ length s)
         × (run (item .reading) (item-place s k) (drop (item-place s k) s)
         ≡ got (getD (x .items) k no-item) (item-place s (suc k)) (drop (item-place s (suc k)) s)))
-    unfolding item-place sheet-end
+    unfolding item-place yard-number-end sheet-end
     item-read-there = let q : x ≡ (sheet-at s) = cc (faultless-got none) in rw q (
       length-up-to (items-on s) _,
       λ k l.

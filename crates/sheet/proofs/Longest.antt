@@ -1,14 +1,14 @@
--- "The longest sheet has 261 bytes": no valid sheet is longer, and one has that length.
+-- "The longest sheet is 351 bytes": no valid sheet is longer, and one has that length.
 use Rattle.prelude.specs.Names.{_≡_, refl, sym, _∙_, true, false, cond, List, [], _∷_, _++_, ℕ, zero, suc, _+_, _*_, _≤_, arith, eqb, leb, length}
-use Rattle.prelude.specs.Names.{length-append, replicate, leb-true}
+use Rattle.prelude.specs.Names.{length-append, replicate, leb-true, eqb-true}
 use native.Mathlib.Nat.{mul-le-mul-left}
 use Rattle.formats.specs.Formats.{Format, Test, byte, pair, converted, tested, keyed, row-bytes, row, count, counted}
 use Rattle.formats.specs.Fields.{optional-bytes, fields-bytes, fields, map-byte, with-map}
 use Rattle.formats.proofs.Laws.{both-true}
 use Rattle.parts.specs.declared.Size.{Size}
-use Rattle.parts.specs.declared.Precedence.{Precedence}
+use Rattle.parts.specs.Precedences.{Arc}
 use Rattle.parts.specs.Parts.{measure, measures, item, precedence}
-use Rattle.parts.proofs.Laws.{number-most, item-most}
+use Rattle.parts.proofs.Laws.{number-most, item-most, lags-most}
 use Rattle.sheet.specs.Sheet.{Sheet, max-items, max-precedences, longest-sheet, list-of, item-list, precedence-list, yard-number, sheet-fields}
 use Rattle.sheet.specs.Sheet.{sheet}
 use Rattle.sheet.proofs.Valid.{sheet-valid}
@@ -33,7 +33,8 @@ unfolding sheet sheet-fields measures measure item-list precedence-list yard-num
     with-map map-byte keyed tested byte fields fields-bytes
 sheet-most x v =
     let (i, r) = both-true (leb (length (x .items)) max-items) _ (sym (sheet-valid x) ∙ v) in
-    let (o, _) = both-true (leb (length (x .precedences)) max-precedences) _ r in
+    let (o, q) = both-true (leb (length (x .precedences)) max-precedences) _ r in
+    let (g, _) = both-true (eqb (length (x .lags)) (length (x .precedences))) _ q in
     let is : length (optional-bytes item-list (x .items)) ≤ 71 = list-most item 7 item-most _ _ _ max-items _ (leb-true _ _ i) in
     let os : length (optional-bytes (precedence-list (length (x .items))) (x .precedences)) ≤ 181 =
     list-most precedence 2 (λ o. omega arith) _ _ _ max-precedences _ (leb-true _ _ o) in
@@ -43,19 +44,22 @@ sheet-most x v =
       number-most 1 (x .container .depth),
       number-most 1 (x .container .shifts),
       number-most 0 (x .yard-number),
+      lags-most (length (x .precedences)) (x .lags),
+      eqb-true (length (x .lags)) _ g,
+      leb-true (length (x .precedences)) _ o,
     ))
 
--- such a sheet: ten items with three written measures each, a precedence for every two of them, a yard number
+-- such a sheet: ten items with three written measures each, a precedence for every two of them, a yard number, and a lag above 0
 abbrev two : Size
 two = record { width = 2; depth = 2; shifts = 2 }
 
 -- item u before each other one of the n items from v on
-abbrev before-others : ℕ → ℕ → ℕ → List Precedence
+abbrev before-others : ℕ → ℕ → ℕ → List Arc
 before-others u v zero = []
 before-others u v (suc n) = cond (eqb u v) [] (record { predecessor = u; successor = v } ∷ []) ++ before-others u (v + 1) n
 
 -- each of the n items from u on before each other one
-abbrev all-before : ℕ → ℕ → List Precedence
+abbrev all-before : ℕ → ℕ → List Arc
 all-before u zero = []
 all-before u (suc n) = before-others u 0 max-items ++ all-before (u + 1) n
 
@@ -65,6 +69,7 @@ longest = record {
   items = replicate max-items (record { size = two });
   precedences = all-before 0 max-items;
   yard-number = 1;
+  lags = 1 ∷ replicate 89 0;
 }
 
 pub longest-valid : sheet .valid longest ≡ true

@@ -1,18 +1,17 @@
 -- Which sheets may be written, part by part.
-use Rattle.prelude.specs.Names.{_≡_, refl, sym, _∙_, Bool, true, false, not, _&&_, and-true, and-false, and-assoc, List, [], _∷_, ℕ, decLe, arith}
-use Rattle.prelude.specs.Names.{leb, ltb, eqb·suc-zero, length, le-leb, lt-leb, lt-ltb, le-ltb}
+use Rattle.prelude.specs.Names.{_≡_, refl, sym, _∙_, Bool, true, false, not, _&&_, and-true, and-false, and-assoc, and-comm, List, [], _∷_, ℕ, decLe, arith}
+use Rattle.prelude.specs.Names.{leb, ltb, eqb, eqb·suc-zero, length, le-leb, lt-leb, lt-ltb, le-ltb}
 use lib.Dec.{leb·zero}
 use Rattle.formats.specs.Formats.{Format, Test, byte, tested, passes-all, keyed, row-valid, row, count, counted}
 use Rattle.formats.specs.Fields.{optional-valid, fields-valid}
 use Rattle.formats.proofs.Maps.{with-map-valid}
 use Rattle.parts.specs.declared.Item.{Item}
-use Rattle.parts.specs.declared.Precedence.{Precedence}
 use Rattle.parts.specs.declared.Previous.{Previous}
 use Rattle.parts.specs.declared.Previous.the-variants.{Nothing, Was}
 use Rattle.parts.specs.Sizes.{positive, all-have-size}
-use Rattle.parts.specs.Precedences.{all-allowed}
+use Rattle.parts.specs.Precedences.{Arc, unlagged, all-allowed}
 use Rattle.parts.specs.Parts.{measure, measures, item, precedence, precedence-tests}
-use Rattle.parts.proofs.Laws.{number-valid, item-valid, precedence-valid}
+use Rattle.parts.proofs.Laws.{number-valid, item-valid, precedence-valid, lag-valid}
 use Rattle.sheet.specs.Sheet.{Sheet, max-items, max-precedences, list-of, item-list, precedence-list, yard-number, sheet-fields, sheet}
 
 -- not below is at least
@@ -32,21 +31,21 @@ unfolding row-valid all-have-size tested passes-all
 items-valid [] = refl
 items-valid (i ∷ is) = rw (item-valid i, items-valid is, and-true)
 
-precedences-valid : (n : ℕ) (os : List Precedence) (last : Previous)
-    → row-valid precedence (precedence-tests n) (λ _ o. Was o) last (length os) os ≡ all-allowed n last os
+precedences-valid : (n : ℕ) (l : List Arc) (last : Previous)
+    → row-valid precedence (precedence-tests n) (λ _ a. Was (unlagged a)) last (length l) l ≡ all-allowed n last l
 unfolding row-valid all-allowed
 precedences-valid n [] last = refl
-precedences-valid n (o ∷ os) last = rw (precedence-valid n last o, precedences-valid n os (Was o))
+precedences-valid n (a ∷ l) last = rw (precedence-valid n last a, precedences-valid n l (Was (unlagged a)))
 
 and-left-comm : (a b c : Bool) → (a && (b && c)) ≡ (b && (a && c))
 and-left-comm true b c = refl
 and-left-comm false b c = sym (and-false b)
 
--- not "over 10 pieces, over 90 orders, a measure 0, or an order that would get 5 or 6"
+-- not "over 10 pieces, over 90 orders, a measure 0, or an order that would get 5 or 6"; and there is a lag for each order
 pub sheet-valid : (x : Sheet) → sheet .valid x
-    ≡ (leb (length (x .items)) max-items && (leb (length (x .precedences)) max-precedences
-    && (positive (x .container) && (all-have-size (x .items) && all-allowed (length (x .items)) Nothing (x .precedences)))))
+    ≡ (leb (length (x .items)) max-items && (leb (length (x .precedences)) max-precedences && (eqb (length (x .lags)) (length (x .precedences))
+    && (positive (x .container) && (all-have-size (x .items) && all-allowed (length (x .items)) Nothing (x .precedences))))))
 unfolding sheet sheet-fields measures measure item-list precedence-list yard-number fields-valid positive
 sheet-valid x =
     with-map-valid sheet-fields x
-    ∙ simp (number-valid, list-valid, items-valid, precedences-valid, leb·zero, and-true, and-assoc, and-left-comm)
+    ∙ simp (number-valid, list-valid, items-valid, precedences-valid, lag-valid, leb·zero, and-true, and-assoc, and-left-comm, and-comm)

@@ -6,7 +6,7 @@ use Rattle.formats.specs.Formats.{up-to}
 use Rattle.parts.specs.declared.Size.{Size}
 use Rattle.parts.specs.declared.Item.{Item}
 use Rattle.sheet.specs.Places.{two-if, byte-at, word-at, precedence-at, has, items-on, item-place, precedences-on, precedence-place}
-use Rattle.sheet.specs.Places.{precedences-end}
+use Rattle.sheet.specs.Places.{precedences-end, yard-number-end}
 use Rattle.sheet.specs.Sheet.{Sheet}
 
 module _ (s : List ℕ) where
@@ -24,6 +24,10 @@ module _ (s : List ℕ) where
   abbrev pub items-at : List Item
   items-at = up-to (items-on s) (λ k. item-at (item-place s k))
 
+  -- the lags: "one byte for each order in its sequence .. left out, they are all 0"
+  abbrev pub lags-at : List ℕ
+  lags-at = up-to (precedences-on s) (λ i. cond (has s 64) (byte-at s (yard-number-end s + i)) 0)
+
   -- the yard number: "left out means 0"
   abbrev pub sheet-at : Sheet
   sheet-at = record {
@@ -31,4 +35,5 @@ module _ (s : List ℕ) where
     items = items-at;
     precedences = up-to (precedences-on s) (λ i. precedence-at s (precedence-place s i));
     yard-number = cond (has s 32) (word-at s (precedences-end s)) 0;
+    lags = lags-at;
   }

@@ -1,13 +1,13 @@
--- Document 01's table of refusals for reading, on the bytes of a sheet: each line with its number, its place and its condition. A line
--- speaks of bytes that are there. It does not ask whether the bytes before are in order: which line is given is said by `FirstFault`.
+-- The table of refusals for reading (document 01, and number 11 of document 02), on the bytes of a sheet: each line with its number, its place and its
+-- condition. A line speaks of bytes that are there. It does not ask whether the bytes before are in order: which line is given is said by `FirstFault`.
 use Rattle.prelude.specs.Names.{ℕ, suc, _+_, _≤_, _<_, true, List, _⊎_, _≡_, length}
 use Rattle.refusal.specs.declared.Refusal.{Refusal}
-use Rattle.refusal.specs.declared.Refusal.the-variants.{EndsEarly, UnknownBit, WrittenDefault, BadCount, BadItem, NotRising, TrailingBytes}
+use Rattle.refusal.specs.declared.Refusal.the-variants.{EndsEarly, UnknownBit, WrittenDefault, BadCount, BadItem, NotRising, TrailingBytes, NoLag}
 use Rattle.formats.specs.Reading.{Before}
 use Rattle.formats.specs.Fields.{is-set}
 use Rattle.sheet.specs.Sheet.{max-items, max-precedences}
 use Rattle.sheet.specs.Places.{two-if, byte-at, word-at, has, container-end, items-on, item-place, items-end, precedences-on, precedence-place}
-use Rattle.sheet.specs.Places.{precedences-end, sheet-end}
+use Rattle.sheet.specs.Places.{precedences-end, yard-number-end, sheet-end}
 
 module _ (s : List ℕ) where
   -- a measure is at p, of the hall or piece whose map byte is at m: width, depth or shifts
@@ -31,8 +31,8 @@ module _ (s : List ℕ) where
   pub data Fault : Refusal → Type 0 where
     -- 1: "it ends before a byte that is due, the first map byte included"; place: "length of the sheet"
     ends-early : length s < sheet-end s → Fault (EndsEarly (length s))
-    -- 2: "a bit stands that has no meaning"; place: "of the map byte". The sheet's has bits 0 to 5, a piece's 0 to 2
-    unknown-bit : 0 < length s → 64 ≤ byte-at s 0 → Fault (UnknownBit 0)
+    -- 2: "a bit stands that has no meaning"; place: "of the map byte". The sheet's has bits 0 to 6, a piece's 0 to 2
+    unknown-bit : 0 < length s → 128 ≤ byte-at s 0 → Fault (UnknownBit 0)
     item-unknown-bit : (k : ℕ) → k < items-on s → item-place s k < length s → 8 ≤ byte-at s (item-place s k)
         → Fault (UnknownBit (item-place s k))
     -- 3: "a written measure of 0 or 1, or yard number 0"; place: "of the field"
@@ -53,8 +53,11 @@ module _ (s : List ℕ) where
         → NotAbove (precedence-place s i) (precedence-place s (suc i)) → Fault (NotRising (precedence-place s (suc i)))
     -- 7: "bytes after the last field"; place: "of the first such byte"
     trailing-bytes : sheet-end s < length s → Fault (TrailingBytes (sheet-end s))
+    -- 11: "a lag field in which no lag is above 0, an empty field included, at its first byte's place, after its bytes are read"
+    no-lag : has s 64 ≡ true → sheet-end s ≤ length s → ((i : ℕ) → i < precedences-on s → byte-at s (yard-number-end s + i) ≡ 0)
+        → Fault (NoLag (yard-number-end s))
 
-  -- "Reading goes left to right and gives the first fault; at one place the lower number"
+  -- "Reading goes left to right and gives the first fault; at one place the lower number"; 11 of an empty field is "before anything that follows it"
   pub record FirstFault (e : Refusal) : Type 0 where
     pub fault : Fault e
     pub first : (f : Refusal) → Fault f → (f ≡ e) ⊎ Before e f

@@ -1,7 +1,7 @@
 -- Where the parts of a sheet are, by its bytes alone (document 01, "Sheet bytes"). Bytes past the end count as 0.
 use Rattle.prelude.specs.Names.{ℕ, zero, suc, _+_, _*_, Bool, cond, List, getD}
 use Rattle.formats.specs.Fields.{is-set}
-use Rattle.parts.specs.declared.Precedence.{Precedence}
+use Rattle.parts.specs.Precedences.{Arc}
 
 -- how many bytes a two-byte field has, by its bit
 abbrev pub two-if : Bool → ℕ
@@ -20,7 +20,7 @@ module _ (s : List ℕ) where
   word-at p = byte-at p + 256 * byte-at (p + 1)
 
   -- "2 bytes each: u, v"
-  abbrev pub precedence-at : ℕ → Precedence
+  abbrev pub precedence-at : ℕ → Arc
   precedence-at p = record { predecessor = byte-at p; successor = byte-at (p + 1) }
 
   -- whether a bit of the first map byte is set, by its weight
@@ -60,6 +60,10 @@ module _ (s : List ℕ) where
   unfoldable pub precedences-end : ℕ
   precedences-end = cond (has 16) (precedence-place precedences-on) items-end
 
-  -- the place after the last field
+  -- the place after the yard number: of the lags, where they are written; "The field follows the yard number"
+  unfoldable pub yard-number-end : ℕ
+  yard-number-end = precedences-end + two-if (has 32)
+
+  -- the place after the last field: lags are "one byte for each order"
   unfoldable pub sheet-end : ℕ
-  sheet-end = precedences-end + two-if (has 32)
+  sheet-end = yard-number-end + cond (has 64) precedences-on 0

@@ -1,19 +1,20 @@
--- The sheet (document 01, "Sheet bytes").
+-- The sheet (document 01, "Sheet bytes"; the lags are from document 02, #101).
 use Rattle.prelude.specs.Names.{ℕ, List, [], eqb, length}
 use Rattle.formats.specs.Formats.{Format, Test, counted}
 use Rattle.formats.specs.Fields.{Optional, Fields, made, field, with-map}
 use Rattle.parts.specs.declared.Size.{Size}
 use Rattle.parts.specs.declared.Item.{Item}
-use Rattle.parts.specs.declared.Precedence.{Precedence}
 use Rattle.parts.specs.declared.Previous.the-variants.{Nothing, Was}
-use Rattle.parts.specs.Parts.{number, measures, item, precedence, precedence-tests}
+use Rattle.parts.specs.Precedences.{Arc, unlagged}
+use Rattle.parts.specs.Parts.{number, measures, item, precedence, precedence-tests, lag-list}
 
 -- what a sheet says
 pub record Sheet : Type 0 where
   pub container : Size
   pub items : List Item
-  pub precedences : List Precedence
+  pub precedences : List Arc
   pub yard-number : ℕ
+  pub lags : List ℕ
 
 -- "10 pieces, 90 orders and 270 turns are limits belonging to the sheet"
 abbrev pub max-items : ℕ
@@ -38,26 +39,27 @@ unfoldable pub item-list : Optional (List Item)
 item-list = list-of item (λ (_ : Unit {0}) _. []) (λ p _. p) tt max-items
 
 -- "count (1 to 90), then orders"; left out means "no orders". They are tested with n items, each after the one before
-unfoldable pub precedence-list : ℕ → Optional (List Precedence)
-precedence-list n = list-of precedence (precedence-tests n) (λ _ o. Was o) Nothing max-precedences
+unfoldable pub precedence-list : ℕ → Optional (List Arc)
+precedence-list n = list-of precedence (precedence-tests n) (λ _ a. Was (unlagged a)) Nothing max-precedences
 
 -- "yard number, 2 bytes"; left out means 0; 3: "yard number 0"
 unfoldable pub yard-number : Optional ℕ
 yard-number = number 0
 
--- the fields by rising bit: 0, 1, 2 the hall's measures; 3 pieces; 4 orders; 5 the yard number
-unfoldable pub sheet-fields : Fields Sheet 6
+-- the fields by rising bit: 0, 1, 2 the hall's measures; 3 pieces; 4 orders; 5 the yard number; 6 the lags, one for each order
+unfoldable pub sheet-fields : Fields Sheet 7
 sheet-fields =
     measures (λ s. s .container) λ container.
     field (λ s. s .items) item-list λ items.
     field (λ s. s .precedences) (precedence-list (length items)) λ precedences.
     field (λ s. s .yard-number) yard-number λ yard-number.
-    made (record { container = container; items = items; precedences = precedences; yard-number = yard-number })
+    field (λ s. s .lags) (lag-list (length precedences)) λ lags.
+    made (record { container = container; items = items; precedences = precedences; yard-number = yard-number; lags = lags })
 
 -- "A map byte comes first, then only the fields whose bit stands"
 unfoldable pub sheet : Format Sheet
 sheet = with-map sheet-fields
 
--- "The longest sheet has 261 bytes"
+-- "The longest sheet is 351 bytes"
 abbrev pub longest-sheet : ℕ
-longest-sheet = 261
+longest-sheet = 351

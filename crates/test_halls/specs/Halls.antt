@@ -1,4 +1,5 @@
--- The starred rows of document 01's "Small halls" as one table: bytes, calls, and what they have to give. proofs/Halls shows it as a whole.
+-- The starred rows of document 01's "Small halls" as one table: bytes, calls, and what they have to give; and rows for the lags of document 02, #101.
+-- proofs/Halls shows it as a whole.
 use Rattle.prelude.specs.Names.{Bool, false, _&&_, List, [], _∷_, ℕ, eqb}
 use Rattle.model.specs.Calls.{Answer, budget-spent, no-packing, packing}
 use Rattle.model.specs.Computing.{search-computing}
@@ -7,6 +8,7 @@ use Rattle.refusal.specs.Numbers.{number-of, place-of}
 use Rattle.formats.specs.Reading.{Read, got, refused}
 use Rattle.instance.specs.declared.Instance.{Instance}
 use Rattle.instance.specs.Sheets.{instance-of, decode}
+use Rattle.lists.specs.Lists.{with-lags}
 use Rattle.sheet.specs.Computing.{sheet-computing}
 use Rattle.instance.specs.Meaning.{problem-of}
 
@@ -27,7 +29,7 @@ outcome-right (refused e) (calls cs) = false
 
 -- what the bytes give is what the table says. This opens all that reading and searching compute by
 unfoldable pub case-right : HallCase → Bool
-unfolding sheet-computing instance-of decode problem-of search-computing
+unfolding sheet-computing with-lags instance-of decode problem-of search-computing
 case-right c = outcome-right (decode (c .bytes)) (c .outcome)
 
 -- one call with the program's budget: the answer and its steps
@@ -40,6 +42,10 @@ hall-case bytes outcome = record { bytes = bytes; outcome = outcome }
 -- "2×2×2; two of 1×1×1"
 abbrev pub cube : List ℕ
 cube = 0x0f ∷ 0x02 ∷ 0x00 ∷ 0x02 ∷ 0x00 ∷ 0x02 ∷ 0x00 ∷ 0x02 ∷ 0x00 ∷ 0x00 ∷ []
+
+-- 1×1×shifts; three of 1×1×1; orders 0,1 0,2 1,2 with lags 1, 5, 0
+abbrev pub waiting : ℕ → List ℕ
+waiting shifts = 0x5c ∷ shifts ∷ 0x00 ∷ 0x03 ∷ 0x00 ∷ 0x00 ∷ 0x00 ∷ 0x03 ∷ 0x00 ∷ 0x01 ∷ 0x00 ∷ 0x02 ∷ 0x01 ∷ 0x02 ∷ 0x01 ∷ 0x05 ∷ 0x00 ∷ []
 
 unfoldable pub cases : List HallCase
 cases =
@@ -73,4 +79,10 @@ cases =
     ∷ hall-case (0x01 ∷ 0x01 ∷ 0x00 ∷ []) (refusal 3 1)
     -- "bytes 01 02: refused 1 2"
     ∷ hall-case (0x01 ∷ 0x02 ∷ []) (refusal 1 2)
+    -- 02, #101: "byte 40 alone is now refused 11 1"
+    ∷ hall-case (0x40 ∷ []) (refusal 11 1)
+    -- 02, #101: "Fit asks that u's end plus the lag is at most v's start": piece 1 is at t 2 and piece 2 at t 6
+    ∷ hall-case (waiting 7) (once (packing (xyt 0 0 0 ∷ xyt 0 0 2 ∷ xyt 0 0 6 ∷ [])) 1)
+    -- "On t a chain total adds the lag between neighbours that have an order": it is 7
+    ∷ hall-case (waiting 6) (once no-packing 1)
     ∷ []

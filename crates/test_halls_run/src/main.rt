@@ -1,4 +1,4 @@
-// Runs every row of document 01's table "Small halls" and prints what the program prints for it.
+// Runs every row of document 01's table "Small halls", and halls with the lags of document 02, #101, and prints what the program prints for each.
 ghost use mathlib.Core.Path.{_≡_};
 ghost use Prim.Native.Nat.{_≤_};
 ghost use lib.ListN.{length};
@@ -95,13 +95,23 @@ fn boxes(shifts: u8) {
     run(&sheet);
 }
 
+// 1×1×shifts; three of 1×1×1; orders 0,1 0,2 1,2 with lags 1, 5, 0
+fn waiting(shifts: u8) {
+    let mut sheet = *b"\x5c\x00\x00\x03\x00\x00\x00\x03\x00\x01\x00\x02\x01\x02\x01\x05\x00";
+    sheet[1] = shifts;
+    run(&sheet);
+}
+
 fn main() {
     starred();
-    // bytes 40; 00 00; 08 00
+    // bytes 40; 00 00; 08 00. The first by 02, #101: "byte 40 alone is now refused 11 1"
     run(b"\x40");
     run(b"\x00\x00");
     run(b"\x08\x00");
     // 100×1×231 and 100×1×230
     boxes(231);
     boxes(230);
+    // 1×1×7 and 1×1×6
+    waiting(7);
+    waiting(6);
 }

@@ -13,7 +13,7 @@ abbrev pub item-zero : Item → Bool
 item-zero i = size-zero (i .size)
 
 abbrev pub precedence-zero : Precedence → Bool
-precedence-zero o = eqb (o .predecessor) 0 && eqb (o .successor) 0
+precedence-zero o = eqb (o .predecessor) 0 && (eqb (o .successor) 0 && eqb (o .lag) 0)
 
 abbrev pub rest-zero : Instance → Bool
 rest-zero i = all-in item-zero (drop (i .«item_count») (i .items)) && all-in precedence-zero (drop (i .«precedence_count») (i .precedences))

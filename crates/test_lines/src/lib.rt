@@ -78,15 +78,23 @@ fn items_below(items: [Item; Instance::MAX_ITEMS], n: usize) {
     }
 }
 
+// Its lag is printed where it is above 0.
+fn print_precedence(precedence: Precedence) {
+    number(precedence.predecessor as usize);
+    number(precedence.successor as usize);
+    if precedence.lag != 0 {
+        word(b" lag");
+        number(precedence.lag as usize);
+    }
+}
+
 fn precedences_below(precedences: [Precedence; Instance::MAX_PRECEDENCES], m: usize) {
     let mut i: usize = 0;
     while i < m {
         if Instance::MAX_PRECEDENCES <= i {
             return;
         }
-        let precedence = precedences[i];
-        number(precedence.predecessor as usize);
-        number(precedence.successor as usize);
+        print_precedence(precedences[i]);
         i += 1;
     }
 }
@@ -109,7 +117,10 @@ fn is_precedence_zero(precedence: Precedence) -> bool
     if precedence.predecessor != 0 {
         return false;
     }
-    precedence.successor == 0
+    if precedence.successor != 0 {
+        return false;
+    }
+    precedence.lag == 0
 }
 
 fn items_zero_from(items: [Item; Instance::MAX_ITEMS], n: usize) -> bool

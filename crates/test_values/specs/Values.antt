@@ -2,7 +2,8 @@
 use Rattle.prelude.specs.Names.{List, [], _∷_, _++_, ℕ, zero, suc, _+_, _*_}
 use Rattle.parts.specs.declared.Size.{Size}
 use Rattle.parts.specs.declared.Item.{Item}
-use Rattle.sheet.specs.Places.{word-at, precedence-at}
+use Rattle.parts.specs.declared.Precedence.{Precedence}
+use Rattle.sheet.specs.Places.{byte-at, word-at}
 use Rattle.sheet.specs.Sheet.{max-items, max-precedences}
 use Rattle.instance.specs.declared.Instance.{Instance}
 use Rattle.instance.specs.declared.Packing.{Packing}
@@ -29,15 +30,19 @@ item-in s at = record { size = size-in s at }
 abbrev pub position-in : List ℕ → ℕ → Position
 position-in s at = record { x = word-at s at; y = word-at s (at + 2); t = word-at s (at + 4) }
 
--- 264 bytes: the container, the count of items in 8 bytes, ten items, the count of precedences in 8 bytes, ninety of them, the yard number
+-- three bytes: predecessor, successor, lag
+abbrev pub precedence-in : List ℕ → ℕ → Precedence
+precedence-in s at = record { predecessor = byte-at s at; successor = byte-at s (at + 1); lag = byte-at s (at + 2) }
+
+-- 354 bytes: the container, the count of items in 8 bytes, ten items, the count of precedences in 8 bytes, ninety of them, the yard number
 unfoldable pub instance-in : List ℕ → Instance
 instance-in s = record {
   container = size-in s 0;
   «item_count» = number-at s 6;
   items = tabulate max-items (λ i. item-in s (14 + 6 * i));
   «precedence_count» = number-at s 74;
-  precedences = tabulate max-precedences (λ i. precedence-at s (82 + 2 * i));
-  «yard_number» = word-at s 262;
+  precedences = tabulate max-precedences (λ i. precedence-in s (82 + 3 * i));
+  «yard_number» = word-at s 352;
 }
 
 -- 60 bytes: x, y, t of each of ten items

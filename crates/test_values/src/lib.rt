@@ -4,8 +4,8 @@ ghost use mathlib.Core.Path.{_≡_};
 ghost use Prim.Native.Nat.{_+_, _*_, _<_};
 ghost use lib.ListN.{getD};
 ghost use Rattle.sheet.specs.Sheet.{max-items, max-precedences};
-ghost use Rattle.sheet.specs.Places.{word-at, precedence-at};
-ghost use Rattle.test_values.specs.Values.{tabulate, four-at, number-at, size-in, item-in, position-in, instance-in, packing-at};
+ghost use Rattle.sheet.specs.Places.{word-at};
+ghost use Rattle.test_values.specs.Values.{tabulate, four-at, number-at, size-in, item-in, position-in, precedence-in, instance-in, packing-at};
 use instance::Instance;
 use instance::Packing;
 use instance::Position;
@@ -14,7 +14,7 @@ use parts::Precedence;
 use parts::Size;
 
 // How many bytes an instance has, and a packing.
-pub const INSTANCE_BYTES: usize = 264;
+pub const INSTANCE_BYTES: usize = 354;
 
 pub const PACKING_BYTES: usize = 60;
 
@@ -88,13 +88,15 @@ fn position_at(s: &[u8], at: usize) -> Position
 
 fn precedence_at(s: &[u8], at: usize) -> Precedence
     requires { ⌜ at < 1000 ⌝ }
-    ensures { λ r. ⌜ r ≡ precedence-at (now (s .entry)) at ⌝ }
+    ensures { λ r. ⌜ r ≡ precedence-in (now (s .entry)) at ⌝ }
 {
     let predecessor = byte_at(s, at);
     let successor = byte_at(s, at + 1);
+    let lag = byte_at(s, at + 2);
     Precedence {
         predecessor,
         successor,
+        lag,
     }
 }
 
@@ -112,12 +114,12 @@ fn items_in(s: &[u8]) -> [Item; Instance::MAX_ITEMS]
 }
 
 fn precedences_in(s: &[u8]) -> [Precedence; Instance::MAX_PRECEDENCES]
-    ensures { λ r. ⌜ r ≡ tabulate max-precedences (λ i. precedence-at (now (s .entry)) (82 + 2 * i)) ⌝ }
+    ensures { λ r. ⌜ r ≡ tabulate max-precedences (λ i. precedence-in (now (s .entry)) (82 + 3 * i)) ⌝ }
 {
     let mut precedences = lists::no_precedences();
     let mut i: usize = 0;
     while i < Instance::MAX_PRECEDENCES {
-        precedences[i] = precedence_at(s, 82 + 2 * i);
+        precedences[i] = precedence_at(s, 82 + 3 * i);
         i = i + 1;
     }
     precedences
@@ -132,7 +134,7 @@ pub fn instance_in(s: &[u8]) -> Instance
     let items = items_in(s);
     let precedence_count = number_at(s, 74);
     let precedences = precedences_in(s);
-    let yard_number = word_at(s, 262);
+    let yard_number = word_at(s, 352);
     Instance {
         container,
         items,

@@ -9,7 +9,7 @@ use packing::CheckAnswer;
 use packing::ClearanceAnswer;
 use writer::WriteAnswer;
 
-const MOST_ROOM: usize = 300;
+const MOST_ROOM: usize = 400;
 
 // Filled bytes after the lent room, printed with it.
 const GUARD: usize = 4;
@@ -137,6 +137,13 @@ fn report_valid(s: &[u8]) {
     test_lines::word(b"not valid");
 }
 
+// What the program prints for a sheet.
+fn report_run(s: &[u8]) {
+    let mut text = [0u8; report::MAX_TEXT];
+    let m = planner::sheet_text(&mut text, s);
+    test_lines::word(&text[..m]);
+}
+
 fn report(op: u8, s: &[u8]) {
     match op {
         1 => report_read(s),
@@ -146,6 +153,7 @@ fn report(op: u8, s: &[u8]) {
         5 => report_clearance(s),
         6 => report_rewrite(s),
         7 => report_valid(s),
+        8 => report_run(s),
         _ => test_lines::word(b"no such case"),
     }
     test_lines::line_end();
@@ -165,10 +173,10 @@ fn report_all(s: &[u8]) {
     }
 }
 
-fn space() -> [u8; 524288]
-    ensures { λ r. ⌜ 524288 ≡ length r ⌝ }
+fn space() -> [u8; 1048576]
+    ensures { λ r. ⌜ 1048576 ≡ length r ⌝ }
 {
-    [0; 524288]
+    [0; 1048576]
 }
 
 fn main() {

@@ -1,7 +1,8 @@
 -- What propagation and the branching place show of a path. Propagation in code is of the problem widened to ten items.
-use Rattle.prelude.specs.Names.{true, false, List, _≡_, sym, _∙_, subst, ℕ, _≤_}
+use Rattle.prelude.specs.Names.{true, false, List, _≡_, sym, _∙_, subst, ℕ}
 use Rattle.model.proofs.Search.{look-by, look-inconsistent}
 use Rattle.model.proofs.Wide.{wide-propagates, wide-verdict}
+use Rattle.model.specs.Admits.{Sound}
 use Rattle.model.specs.Branching.{Branch, inconsistent, path-domains}
 use Rattle.model.specs.Domains.{Domains}
 use Rattle.model.specs.Problem.{Problem}
@@ -19,9 +20,9 @@ use Rattle.tree_paths.specs.declared.outlook.Outlook.the-variants.{Compl
 use Rattle.model.specs.Search as S
 use Rattle.nodes.specs.declared.branching.Branching.the-variants as B
 
-module _ (p : Problem) (limited : p .items ≤ 10) (path : List Branch) {k : Domains} {rows q t : List ℕ} (at : At p k rows q t path) where
+module _ (p : Problem) (sound : Sound p) (path : List Branch) {k : Domains} {rows q t : List ℕ} (at : At p k rows q t path) where
   verdict : inconsistent (wide p) (propagate (wide p) k) ≡ inconsistent p (path-domains p path)
-  verdict = wide-verdict p limited k (at .ready .good .laid .well-formed) (at .untouched) ∙ at .leads .verdict
+  verdict = wide-verdict p sound k (at .ready .good .laid .well-formed) (at .untouched) ∙ at .leads .verdict
 
   pub looked-conflict : inconsistent (wide p) (propagate (wide p) k) ≡ true → look p path ≡ S.conflict
   looked-conflict e = look-inconsistent p path (sym verdict ∙ e)
@@ -29,7 +30,7 @@ module _ (p : Problem) (limited : p .items ≤ 10) (path : List Branch) {k : Dom
   pub seen : {j : Domains} {rows′ t′ : List ℕ} → Propagated (wide p) k j rows′ t′ → Seen p j rows′ t′ path
   seen φ =
       let c : inconsistent p (path-domains p path) ≡ false = sym verdict ∙ (rw (φ .is) at (φ .consistent)) in
-      let e = φ .is ∙ wide-propagates p limited k (at .ready .good .laid .well-formed) (at .untouched) (at .leads .verdict ∙ c) ∙ at .leads .same c in
+      let e = φ .is ∙ wide-propagates p sound k (at .ready .good .laid .well-formed) (at .untouched) (at .leads .verdict ∙ c) ∙ at .leads .same c in
       record { is = e; rested = φ .rested; consistent = rw e c }
 
 -- the outlook by where the domains branch

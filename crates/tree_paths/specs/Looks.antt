@@ -1,5 +1,6 @@
 -- What a look at a path shows: propagation of its domains, and where they branch.
 use Rattle.prelude.specs.Names.{List, _≡_, ℕ}
+use Rattle.model.specs.Admits.{Sound}
 use Rattle.model.specs.Branching.{Branch, choice, path-domains}
 use Rattle.model.specs.Domains.{Domains}
 use Rattle.model.specs.Problem.{Problem}
@@ -16,8 +17,9 @@ Looked p path k rows t Conflict = look p path ≡ S.conflict
 Looked p path k rows t Complete = (look p path ≡ S.complete) × Seen p k rows t path
 Looked p path k rows t (Fork c) = (look p path ≡ S.fork) × Seen p k rows t path × (choice (path-domains p path) ≡ slot-of c)
 
--- what a look is of: a path of a problem of n items, and pairs before a number that are separated in its domains
+-- what a look is of: a path of a sound problem of n items, and pairs before a number that are separated in its domains
 pub record Lookable (p : Problem) (n : ℕ) (k : Domains) (rows q t : List ℕ) (path : List Branch) (from : ℕ) : Type 0 where
+  pub sound : Sound p
   pub count : p .items ≡ n
   pub at : At p k rows q t path
   pub passed : Passed (path-domains p path) from

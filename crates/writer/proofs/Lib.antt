@@ -1,3 +1,4 @@
 pub mod Rows
+pub mod Lags
 pub mod Sheets
 pub mod Refusing

@@ -1,9 +1,11 @@
 -- A row of parts that is being written: the loops of the two writers of a counted row.
-use Rattle.prelude.specs.Names.{List, _++_, _≡_, refl, sym, _∙_, ℕ, _+_, _*_, _≤_, _<_, add-zero, arith, length, getD, take, length-append, sets}
+use Rattle.prelude.specs.Names.{List, [], _∷_, _++_, map, _≡_, refl, sym, _∙_, ℕ, _+_, _*_, _≤_, _<_, add-zero, arith, length, getD, take, length-append, sets}
 use Rattle.prelude.specs.Names.{length-take-le}
+use lib.ListN.{length-map}
 use Rattle.formats.specs.Formats.{row-bytes}
 use Rattle.formats.proofs.Stores.{row-none, row-next, row-room, sets-append}
 use Rattle.parts.specs.declared.Precedence.{Precedence}
+use Rattle.parts.specs.Precedences.{arc-of}
 use Rattle.parts.specs.Parts.{count-bytes, precedence}
 use Rattle.parts.proofs.Writers.{precedences-length}
 
@@ -52,6 +54,12 @@ module _ {A : Type 0} {bytes : A → List ℕ} {xs : List A} {out₀ : List ℕ}
   row-written l front at p s = let e : i ≡ n = omega arith in
       (rw length-append (omega (arith, rw e at (row .place))), rw e at (row .stored) ∙ rw (s, p, sets-append))
 
--- a precedence has two bytes
-pub precedences-many : (xs : List Precedence) (m : ℕ) → m ≤ length xs → length (row-bytes (precedence .bytes) (take m xs)) ≡ 2 * m
-precedences-many xs m h = precedences-length (take m xs) ∙ rw (length-take-le m xs h)
+-- parts that are held in another form
+pub row-held : {A B : Type 0} (bytes : B → List ℕ) (part : A → B) (xs : List A) → row-bytes (λ x. bytes (part x)) xs ≡ row-bytes bytes (map part xs)
+unfolding row-bytes
+row-held bytes part [] = refl
+row-held bytes part (x ∷ xs) = rw (row-held bytes part xs)
+
+-- an order has two bytes
+pub precedences-many : (xs : List Precedence) (m : ℕ) → m ≤ length xs → length (row-bytes (precedence .bytes) (map arc-of (take m xs))) ≡ 2 * m
+precedences-many xs m h = precedences-length (map arc-of (take m xs)) ∙ rw (length-map, length-take-le m xs h)

@@ -26,11 +26,13 @@ fn map_of(instance: Instance) -> u8
     ensures { λ r. ⌜ r ≡ flags sheet-fields (sheet-of instance) ⌝ }
 {
     let container = instance.container;
+    let precedences = instance.precedences;
     let counts = parts::write::flag_of_count(instance.item_count)
         + 2 * parts::write::flag_of_count(instance.precedence_count);
     parts::write::size_flags_of(container)
         + 8 * counts
         + 32 * parts::write::flag_of(0, instance.yard_number)
+        + 64 * counted::flag_of_lags(precedences, instance.precedence_count)
 }
 
 // The length of the sheet.
@@ -40,11 +42,13 @@ fn sheet_len(instance: Instance) -> usize
 {
     let container = instance.container;
     let items = instance.items;
+    let precedences = instance.precedences;
     1
         + parts::write::size_len(container)
         + counted::items_len(items, instance.item_count)
         + counted::precedences_len(instance.precedence_count)
         + parts::write::field_len(0, instance.yard_number)
+        + counted::lags_len(precedences, instance.precedence_count)
 }
 
 // The whole sheet, at the front of the room.
@@ -60,7 +64,8 @@ fn write_sheet(out: &mut [u8], instance: Instance) -> usize
     let a = parts::write::write_size(out, 1, container);
     let b = counted::write_items(out, a, items, instance.item_count);
     let c = counted::write_precedences(out, b, precedences, instance.precedence_count);
-    parts::write::write_field(out, c, 0, instance.yard_number)
+    let d = parts::write::write_field(out, c, 0, instance.yard_number);
+    counted::write_lags(out, d, precedences, instance.precedence_count)
 }
 
 // Writes the sheet into the lent room, if it is an instance and the room is long enough.

@@ -1,20 +1,32 @@
-//! The bytes in which the crate `test_exports` takes a value: 264 of them, with the low byte first.
+//! The bytes in which the crate `test_exports` takes a value: 354 of them. Numbers have the low byte first.
+//!
+//! | place | bytes | what |
+//! |---|---|---|
+//! | 0 | 6 | the container: width, depth, shifts, 2 bytes each |
+//! | 6 | 8 | the count of items, any number |
+//! | 14 | 60 | ten items, 6 bytes each: width, depth, shifts |
+//! | 74 | 8 | the count of orders, any number |
+//! | 82 | 270 | ninety orders, 3 bytes each: u, v and the lag; order i at 82 + 3 i |
+//! | 352 | 2 | the yard number |
 
 use crate::reference::sheet::{MOST_ITEMS, MOST_PRECEDENCES};
 use crate::reference::value::Value;
+
+pub const VALUE_BYTES: usize = 354;
 
 fn words(numbers: &[u32]) -> impl Iterator<Item = u8> + '_ {
     numbers.iter().flat_map(|&number| (number as u16).to_le_bytes())
 }
 
-/// The container, the count of items in 8 bytes, ten items, the count of orders in 8 bytes, ninety orders of 2 bytes, the yard number.
+/// The bytes of a value.
 pub fn value_bytes(value: &Value) -> Vec<u8> {
     let mut bytes: Vec<u8> = words(&value.container).collect();
     bytes.extend(value.item_count.to_le_bytes());
     bytes.extend(value.items.iter().flat_map(|size| words(size)));
     bytes.extend(value.precedence_count.to_le_bytes());
-    bytes.extend(value.precedences.iter().flat_map(|&(u, v)| [u as u8, v as u8]));
+    bytes.extend(value.precedences.iter().zip(&value.lags).flat_map(|(&(u, v), &lag)| [u as u8, v as u8, lag as u8]));
     bytes.extend(words(&[value.yard_number]));
+    assert_eq!(bytes.len(), VALUE_BYTES);
     bytes
 }
 
@@ -29,14 +41,14 @@ fn size(bytes: &[u8]) -> [u32; 3] {
 /// The value that such bytes hold.
 pub fn value_of(bytes: &[u8]) -> Value {
     let (items, precedences) = (14, 82);
+    let order = |i: usize| &bytes[precedences + 3 * i..];
     Value {
         container: size(&bytes[..6]),
         item_count: number(&bytes[6..14]),
         items: std::array::from_fn::<_, MOST_ITEMS, _>(|i| size(&bytes[items + 6 * i..])),
         precedence_count: number(&bytes[74..82]),
-        precedences: std::array::from_fn::<_, MOST_PRECEDENCES, _>(|i| {
-            (bytes[precedences + 2 * i] as usize, bytes[precedences + 2 * i + 1] as usize)
-        }),
-        yard_number: number(&bytes[262..264]) as u32,
+        precedences: std::array::from_fn::<_, MOST_PRECEDENCES, _>(|i| (order(i)[0] as usize, order(i)[1] as usize)),
+        lags: std::array::from_fn::<_, MOST_PRECEDENCES, _>(|i| order(i)[2] as u32),
+        yard_number: number(&bytes[352..354]) as u32,
     }
 }

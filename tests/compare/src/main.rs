@@ -87,6 +87,7 @@ fn all_cases(report: &mut Report, options: &Options, began: Instant) {
     report.context = "the table".to_string();
     table::small_halls(report);
     table::rule_3(report);
+    table::lags(report);
     if let Some(file) = &options.sheets {
         let text = std::fs::read_to_string(file).expect("the file of sheets");
         table::from_file(report, &text, options.most_steps);
@@ -95,6 +96,7 @@ fn all_cases(report: &mut Report, options: &Options, began: Instant) {
     let mut random = Random::new(options.seed, u64::MAX);
     if !(options.first && report.differences > 0) {
         tiny::all(report, &mut random);
+        tiny::with_lags(report, &mut random);
     }
     for case in 0.. {
         let due = options.whole && (report.counted(SMALL) < WHOLE_SMALL || report.counted(LARGE) < WHOLE_LARGE);

@@ -264,6 +264,22 @@ fn note_off_run(random: &mut Random, instance: &Instance) -> Vec<u8> {
     note_bytes(&search.checkpoint)
 }
 
+/// A packed plan with the successor of an order set one shift before its lag is over, just then, and one later.
+fn about_a_lag(random: &mut Random, instance: &Instance, packed: &[u8]) -> Vec<Vec<u8>> {
+    if instance.precedences.is_empty() {
+        return Vec::new();
+    }
+    let at = random.below(instance.precedences.len());
+    let ((u, v), lag) = (instance.precedences[at], instance.lags[at]);
+    let mut positions = bytes::positions_of(packed);
+    let over = positions[u][packing::TIME] + instance.items[u][packing::TIME] + lag;
+    let mut with = |start: u32| {
+        positions[v][packing::TIME] = start;
+        plan_bytes(&positions)
+    };
+    vec![with(over - 1), with(over), with(over + 1)]
+}
+
 /// Plans near a packed one, and by chance.
 pub fn plans(report: &mut Report, random: &mut Random, sheet: &[u8], instance: &Instance, run: &Run) {
     let items = instance.items.len();
@@ -286,6 +302,9 @@ pub fn plans(report: &mut Report, random: &mut Random, sheet: &[u8], instance: &
             position[packing::TIME] = instance.container[packing::TIME] - position[packing::TIME] - size[packing::TIME];
         }
         candidates.push(plan_bytes(&reversed));
+    }
+    if let Some((Status::Packed, packed)) = &run.end {
+        candidates.extend(about_a_lag(random, instance, packed));
     }
     let mut positions = vec![[0u32; 3]; items];
     for (item, position) in positions.iter_mut().enumerate() {
@@ -337,6 +356,36 @@ pub fn damaged_sheets(report: &mut Report, random: &mut Random, sheet: &[u8], da
     }
 }
 
+/// Lag fields on a sheet that has none: left out, cut, of zeros, with one lag, with bytes after them; and a bit without a meaning besides.
+pub fn lag_fields(report: &mut Report, random: &mut Random, instance: &Instance) {
+    let orders = instance.precedences.len();
+    let without = sheet::encode(&Instance { lags: vec![0; orders], ..instance.clone() });
+    let mut one = vec![0; orders];
+    if orders > 0 {
+        let at = random.below(orders);
+        one[random.pick(&[0, at, orders - 1])] = random.pick(&[1, 127, 128, 255]);
+    }
+    let zeros = vec![0; orders];
+    let any: Vec<u8> = (0..orders).map(|_| random.byte()).collect();
+    let after: Vec<u8> = (0..random.between(1, 3)).map(|_| random.pick(&[0, 1, 255])).collect();
+    for (kind, field) in [("lag fields of zeros", &zeros), ("lag fields with one lag", &one), ("lag fields with any lags", &any)] {
+        let mut whole = without.clone();
+        whole[0] |= 64;
+        whole.extend(field);
+        reading(report, kind, &whole);
+        rewriting(report, random, &whole);
+        reading(report, "lag fields cut short", &whole[..without.len() + random.below(orders + 1)]);
+        let mut longer = whole.clone();
+        longer.extend(&after);
+        reading(report, "lag fields with bytes after them", &longer);
+        records(report, &longer);
+        longer[0] ^= 64;
+        reading(report, "lag fields without their bit", &longer);
+        whole[0] |= 128;
+        reading(report, "lag fields and bit 7", &whole);
+    }
+}
+
 /// Everything about one instance.
 pub fn everything(report: &mut Report, random: &mut Random, instance: &Instance, most_steps: usize) {
     let sheet = sheet::encode(instance);
@@ -345,6 +394,12 @@ pub fn everything(report: &mut Report, random: &mut Random, instance: &Instance,
     damaged_sheets(report, random, &sheet, 6);
     rewriting(report, random, &sheet);
     records(report, &sheet);
+    lag_fields(report, random, instance);
+    report.count(match instance.lags.iter().max() {
+        None => "instances without orders",
+        Some(0) => "instances with orders, without lags",
+        Some(_) => "instances with lags",
+    });
     let run = Run::new(instance, most_steps);
     report.add("steps of runs", run.steps());
     report.count(match &run.end {

@@ -103,6 +103,7 @@ pub fn instance(random: &mut Random, items: usize) -> Instance {
     }
     precedences.sort();
     precedences.dedup();
+    let lags = lags(random, &sizes, &mut container, &precedences);
     let any = random.between(1, 65535) as u32;
     let yard_number = random.pick(&[0, 0, 0, 0, 0, 1, 2, 256, 65535, any]);
     if random.one_in(40) {
@@ -114,5 +115,37 @@ pub fn instance(random: &mut Random, items: usize) -> Instance {
             }
         }
     }
-    Instance { container, items: sizes, precedences, yard_number }
+    Instance { container, items: sizes, precedences, lags, yard_number }
+}
+
+/// A lag for each order, all 0 in a third of the instances. Where they are not, the hall often gets more shifts, so that answers vary.
+fn lags(random: &mut Random, sizes: &[[u32; 3]], container: &mut [u32; 3], precedences: &[(usize, usize)]) -> Vec<u32> {
+    let mut lags = vec![0; precedences.len()];
+    if lags.is_empty() || random.one_in(3) {
+        return lags;
+    }
+    let way = random.below(6);
+    let one = random.below(lags.len());
+    for (at, &(u, v)) in precedences.iter().enumerate() {
+        let byte = random.byte() as u32;
+        // What is left beside u and v: one less, as much, or one more.
+        let left = container[2] as i64 - sizes[u][2] as i64 - sizes[v][2] as i64 + random.below(3) as i64 - 1;
+        lags[at] = match way {
+            0 => random.below(3) as u32,
+            1 if at == one => random.pick(&[1, 2, 3, 128, 255]),
+            1 => 0,
+            2 => random.pick(&[0, 1, 255, byte]),
+            3 => left.clamp(0, 255) as u32,
+            4 => random.pick(&[0, 0, 1, left.clamp(0, 255) as u32]),
+            _ => random.below(2) as u32,
+        };
+    }
+    let most = lags.iter().copied().max().unwrap_or(0) as usize;
+    container[2] += match random.below(4) {
+        0 => 0,
+        1 => random.below(most + 1) as u32,
+        2 => most as u32,
+        _ => random.below(2 * most + 2) as u32,
+    };
+    lags
 }

@@ -1,4 +1,4 @@
-//! Document 01's table of small halls, sheets on which rule 3 tells, and sheets from a file with their answers and steps.
+//! Document 01's table of small halls, sheets on which rule 3 tells, sheets with lags, and sheets from a file with their answers and steps.
 
 use crate::library;
 use crate::parts;
@@ -39,10 +39,100 @@ const RULE_3_ROWS: &[Row] = &[
     ([8, 1, 4], &[UNIT, [3, 1, 1], UNIT, [3, 1, 3], [3, 1, 3], [3, 1, 3]], &[(1, 0)], 2, 423, &[]),
 ];
 
+/// Sheets with lags, worked out by hand. On y nothing but overlap is possible, on x neither where the hall is 1 wide; then rule 1 strikes
+/// overlap on t too, and where the orders settle each pair one step says placed.
+///
+/// Three units one after another in 7 shifts: 1 is set 1 shift after 0's end, at 1 + 1 = 2. The row 0, 1, 2 has the total
+/// 1 + 1 + 1 + 0 + 1 = 4, but the row 0, 2 has 1 + 5 + 1 = 7: 2 starts at 6. In 6 shifts rule 5 strikes "0 before 2", the last word.
+///
+/// Three units and the order 0, 1 with lag 1. In 3 shifts the row 0, 1 has all of them: rule 5 strikes "1 before 2" (3 + 1) and "2 before 0"
+/// (1 + 3). So 2 stands between, at 1, where no lag counts: 0, 2 and 2, 1 are no orders. In 4 shifts neither is struck: the first turns at
+/// 0, 2 and at 1, 2 put 2 last, at 1 + 1 + 1 = 3, and the third step says placed. In 2 shifts 1 + 1 + 1 is too much.
+///
+/// The same in a hall 2 wide, 3 shifts: 2 goes beside 0. Three turns: x of 0, 2 without overlap, then 0 before 2; x of 1, 2 without
+/// overlap, where "2 before 1" is struck since 0, 2 and 1 would need 3 modules. On t 2 has no order and nothing before it.
+///
+/// In a hall 3 wide, 4 shifts, 1 stands all shifts beside 0 and 2, whose order has lag 2. The first turns put 0 before 1 and 1 before 2 on
+/// x, so 0 is before 2 there too; but the lag counts on t alone: 0, 1, 2 take 3 modules, and 2 is set at 1 + 2 = 3.
+///
+/// An order that only follows from others has no lag: 0, 1 with lag 2 and 1, 2 with lag 0 take 1 + 2 + 1 + 0 + 1 = 5.
+///
+/// Orders 0, 2 with lag 3, and 1, 2 with lag 0: 2 is last, at 4 after 0's lag; 0 and 1 in turn, 0 first, so that 1 is at 1. Rule 5 strikes
+/// "1 before 0" in 5 shifts, since 1 + 1 + 3 + 1 = 6; in 6 it leaves it, and the first turn takes the other way.
+const LAG_ROWS: &[(Row, &[u32])] = &[
+    (([1, 1, 7], &[UNIT; 3], &[(0, 1), (0, 2), (1, 2)], 1, 1, &[0, 0, 0, 0, 0, 0, 0, 0, 0, 0, 2, 0, 0, 0, 0, 0, 6, 0]), &[1, 5, 0]),
+    (([1, 1, 6], &[UNIT; 3], &[(0, 1), (0, 2), (1, 2)], 2, 1, &[]), &[1, 5, 0]),
+    (([1, 1, 4], &[UNIT; 3], &[(0, 1)], 1, 3, &[0, 0, 0, 0, 0, 0, 0, 0, 0, 0, 2, 0, 0, 0, 0, 0, 3, 0]), &[1]),
+    (([1, 1, 3], &[UNIT; 3], &[(0, 1)], 1, 1, &[0, 0, 0, 0, 0, 0, 0, 0, 0, 0, 2, 0, 0, 0, 0, 0, 1, 0]), &[1]),
+    (([1, 1, 2], &[UNIT; 3], &[(0, 1)], 2, 1, &[]), &[1]),
+    (([2, 1, 3], &[UNIT; 3], &[(0, 1)], 1, 4, &[0, 0, 0, 0, 0, 0, 0, 0, 0, 0, 2, 0, 1, 0, 0, 0, 0, 0]), &[1]),
+    (([3, 1, 4], &[UNIT, [1, 1, 4], UNIT], &[(0, 2)], 1, 3, &[0, 0, 0, 0, 0, 0, 1, 0, 0, 0, 0, 0, 2, 0, 0, 0, 3, 0]), &[2]),
+    (([1, 1, 5], &[UNIT; 3], &[(0, 1), (1, 2)], 1, 1, &[0, 0, 0, 0, 0, 0, 0, 0, 0, 0, 3, 0, 0, 0, 0, 0, 4, 0]), &[2, 0]),
+    (([1, 1, 4], &[UNIT; 3], &[(0, 1), (1, 2)], 2, 1, &[]), &[2, 0]),
+    (([1, 1, 5], &[UNIT; 3], &[(0, 2), (1, 2)], 1, 1, &[0, 0, 0, 0, 0, 0, 0, 0, 0, 0, 1, 0, 0, 0, 0, 0, 4, 0]), &[3, 0]),
+    (([1, 1, 6], &[UNIT; 3], &[(0, 2), (1, 2)], 1, 2, &[0, 0, 0, 0, 0, 0, 0, 0, 0, 0, 1, 0, 0, 0, 0, 0, 4, 0]), &[3, 0]),
+    // The printed example with lag 2: 1 ends at 1, and 0 is set at 3.
+    (([2, 1, 4], ORDERED, &[(1, 0)], 1, 1, &[0, 0, 0, 0, 3, 0, 0, 0, 0, 0, 0, 0]), &[2]),
+    (([2, 1, 3], ORDERED, &[(1, 0)], 2, 1, &[]), &[2]),
+    // Lags of 128 and 255 are 128 and 255: 1 + 128 + 1 and 1 + 255 + 1.
+    (([1, 1, 130], &[UNIT; 2], &[(0, 1)], 1, 1, &[0, 0, 0, 0, 0, 0, 0, 0, 0, 0, 129, 0]), &[128]),
+    (([1, 1, 129], &[UNIT; 2], &[(0, 1)], 2, 1, &[]), &[128]),
+    (([1, 1, 257], &[UNIT; 2], &[(0, 1)], 1, 1, &[0, 0, 0, 0, 0, 0, 0, 0, 0, 0, 0, 1]), &[255]),
+    (([1, 1, 256], &[UNIT; 2], &[(0, 1)], 2, 1, &[]), &[255]),
+    // 65,024 + 255 + 256 = 65,535, and 1 starts at 65,279 = 255 + 256 * 254; one more is too much.
+    (([1, 1, 65535], &[[1, 1, 65024], [1, 1, 256]], &[(0, 1)], 1, 1, &[0, 0, 0, 0, 0, 0, 0, 0, 0, 0, 255, 254]), &[255]),
+    (([1, 1, 65535], &[[1, 1, 65025], [1, 1, 256]], &[(0, 1)], 2, 1, &[]), &[255]),
+    // A circle: nothing fits, in however many shifts.
+    (([3, 1, 99], &[UNIT; 3], &[(0, 1), (1, 2), (2, 0)], 2, 1, &[]), &[1, 0, 0]),
+];
+
+/// The first sheet of these with other starts, and whether they fit: 1 is due at 2, and 2 at 6 and after 1's end.
+const LAG_PLANS: &[([u8; 3], u32)] = &[
+    ([0, 2, 6], 1),
+    ([0, 1, 6], 0),
+    ([0, 2, 5], 0),
+    ([0, 5, 6], 1),
+    ([0, 6, 6], 0),
+    ([0, 2, 7], 0),
+    ([1, 3, 6], 0),
+];
+
+/// The lag field's refusals, and the order of checks about it.
+const LAGS_REFUSED: &[(&[u8], u32, usize)] = &[
+    // An empty field, before anything that follows it
+    (&[0x40, 0], 11, 1),
+    (&[0x40, 1], 11, 1),
+    (&[0x60], 1, 1),
+    (&[0x60, 0, 0], 3, 1),
+    (&[0x60, 1, 0], 11, 3),
+    (&[0x48, 1, 0], 11, 3),
+    (&[0x48, 1, 0, 5], 11, 3),
+    (&[0x48, 1], 1, 2),
+    // A field of one lag: cut, 0, with a byte after it
+    (&[0x58, 2, 0, 0, 1, 0, 1], 1, 7),
+    (&[0x58, 2, 0, 0, 1, 0, 1, 0], 11, 7),
+    (&[0x58, 2, 0, 0, 1, 0, 1, 0, 0], 11, 7),
+    (&[0x58, 2, 0, 0, 1, 0, 1, 0, 9], 11, 7),
+    (&[0x58, 2, 0, 0, 1, 0, 1, 1, 0], 7, 8),
+    // A field of two, cut after a 0 and after a 1; two zeros
+    (&[0x58, 2, 0, 0, 2, 0, 1, 1, 0, 0], 1, 10),
+    (&[0x58, 2, 0, 0, 2, 0, 1, 1, 0, 1], 1, 10),
+    (&[0x58, 2, 0, 0, 2, 0, 1, 1, 0, 0, 0], 11, 9),
+    // After the yard number, which is judged first
+    (&[0x78, 2, 0, 0, 1, 0, 1, 0, 0, 5], 3, 7),
+    (&[0x78, 2, 0, 0, 1, 0, 1, 7, 0, 0], 11, 9),
+    (&[0x78, 2, 0, 0, 1, 0, 1, 7, 0], 1, 9),
+    // Bit 7 has no meaning
+    (&[0x80], 2, 0),
+    (&[0xC0], 2, 0),
+    (&[0xFF], 2, 0),
+];
+
 const REFUSED: &[(&[u8], u32, usize)] = &[
     (&[1, 1, 0], 3, 1),
     (&[1, 2], 1, 2),
-    (&[0x40], 2, 0),
+    // Request #101, in place of document 01's 2 0
+    (&[0x40], 11, 1),
     (&[0, 0], 7, 1),
     (&[8, 0], 4, 1),
 ];
@@ -57,14 +147,81 @@ fn answers(sheet: &[u8], items: usize, allowance: u32) -> [Result<(u32, u32, Vec
     [Ok(own), linked.and_then(|searched| Ok((searched.returned, four(&searched.steps?), searched.plan?)))]
 }
 
+fn row(report: &mut Report, kind: &'static str, &(container, items, precedences, returned, steps, plan): &Row, lags: Vec<u32>) {
+    let instance = Instance { container, items: items.to_vec(), precedences: precedences.to_vec(), lags, yard_number: 0 };
+    let sheet = sheet::encode(&instance);
+    let plan = if returned == 1 { plan.to_vec() } else { vec![0; 6 * items.len()] };
+    for got in answers(&sheet, items.len(), 1_000_000) {
+        report.same(kind, &Ok((returned, steps, plan.clone())), &got, || hexadecimal(&sheet));
+    }
+}
+
 fn rows(report: &mut Report, kind: &'static str, rows: &[Row]) {
-    for &(container, items, precedences, returned, steps, plan) in rows {
-        let instance = Instance { container, items: items.to_vec(), precedences: precedences.to_vec(), yard_number: 0 };
-        let sheet = sheet::encode(&instance);
-        let plan = if returned == 1 { plan.to_vec() } else { vec![0; 6 * items.len()] };
-        for got in answers(&sheet, items.len(), 1_000_000) {
-            report.same(kind, &Ok((returned, steps, plan.clone())), &got, || hexadecimal(&sheet));
-        }
+    for one in rows {
+        row(report, kind, one, vec![0; one.2.len()]);
+    }
+}
+
+fn refusals(report: &mut Report, kind: &'static str, refused: &[(&[u8], u32, usize)]) {
+    for &(sheet, number, place) in refused {
+        let own = sheet::read(sheet).map_err(|refusal| (refusal.number, refusal.place)).map(|_| ());
+        report.same(kind, &Err((number, place)), &own, || hexadecimal(sheet));
+        report.same(kind, &Ok((number, place)), &library::read(sheet), || hexadecimal(sheet));
+    }
+}
+
+/// The rows and refusals above, the longest sheet, and a sheet byte by byte.
+pub fn lags(report: &mut Report) {
+    let kind = "sheets with lags";
+    for (one, lags) in LAG_ROWS {
+        row(report, kind, one, lags.to_vec());
+    }
+    refusals(report, kind, LAGS_REFUSED);
+    let first = [0x5C, 7, 0, 3, 0, 0, 0, 3, 0, 1, 0, 2, 1, 2, 1, 5, 0];
+    for (starts, fits) in LAG_PLANS {
+        let plan: Vec<u8> = starts.iter().flat_map(|&start| [0, 0, 0, 0, start, 0]).collect();
+        report.same(kind, &(*fits, Ok(*fits)), &(bytes::check(&first, &plan), library::check(&first, &plan)), || format!("{starts:?}"));
+    }
+    // 1 x 1 x 7, three units, orders 0,1 0,2 1,2; yard number 9; lags 1, 5, 0
+    let written = [0x7C, 7, 0, 3, 0, 0, 0, 3, 0, 1, 0, 2, 1, 2, 9, 0, 1, 5, 0];
+    let read = sheet::read(&written);
+    let lags = read.as_ref().map(|instance| (instance.lags.clone(), instance.yard_number, sheet::encode(instance)));
+    report.same(kind, &Ok((vec![1, 5, 0], 9, written.to_vec())), &lags, || hexadecimal(&written));
+    report.same(kind, &Ok((19, written.to_vec())), &library::rewrite(&written, &[0; 19]), || hexadecimal(&written));
+    longest(report);
+}
+
+/// "The longest sheet is 351 bytes": whole, a byte shorter, a byte longer; with lags of 0, in 351 and in 352 bytes. 90 orders are circles.
+fn longest(report: &mut Report) {
+    let kind = "the longest sheet";
+    let precedences: Vec<(usize, usize)> = (0..90).map(|i| (i / 9, i % 9 + usize::from(i % 9 >= i / 9))).collect();
+    let full = Instance { container: [65535; 3], items: vec![[65535; 3]; 10], precedences, lags: vec![255; 90], yard_number: 65535 };
+    let sheet = sheet::encode(&full);
+    report.same(kind, &(sheet::LONGEST_SHEET, Ok(full)), &(sheet.len(), sheet::read(&sheet)), || hexadecimal(&sheet));
+    let mut longer = sheet.clone();
+    longer.push(0);
+    let mut zeros = longer.clone();
+    zeros[261..].fill(0);
+    let cases: [(&[u8], (u32, usize)); 6] = [
+        (&sheet, (0, 0)),
+        (&sheet[..350], (1, 350)),
+        (&longer, (7, 351)),
+        (&zeros[..350], (1, 350)),
+        (&zeros[..351], (11, 261)),
+        (&zeros, (11, 261)),
+    ];
+    for (bytes, expected) in cases {
+        report.same(kind, &Ok(expected), &library::read(bytes), || hexadecimal(bytes));
+        parts::reading(report, kind, bytes);
+    }
+    for room in [350, 351, 352] {
+        let mut after = vec![7; room];
+        let length = if room < 351 { 0 } else { 351 };
+        after[..length].copy_from_slice(&sheet[..length]);
+        report.same(kind, &Ok((length, after)), &library::rewrite(&sheet, &vec![7; room]), || format!("room {room}"));
+    }
+    for got in answers(&sheet, 10, 1_000_000) {
+        report.same(kind, &Ok((2, 1, vec![0; 60])), &got, || hexadecimal(&sheet));
     }
 }
 
@@ -72,7 +229,8 @@ fn rows(report: &mut Report, kind: &'static str, rows: &[Row]) {
 pub fn rule_3(report: &mut Report) {
     let kind = "sheets on which rule 3 tells";
     rows(report, kind, RULE_3_ROWS);
-    let instance = Instance { container: [4, 1, 2], items: vec![UNIT; 4], precedences: vec![(0, 1), (3, 2)], yard_number: 0 };
+    let precedences = vec![(0, 1), (3, 2)];
+    let instance = Instance { container: [4, 1, 2], items: vec![UNIT; 4], precedences, lags: vec![0, 0], yard_number: 0 };
     let sheet = sheet::encode(&instance);
     let mut note = [0; NOTE_BYTES];
     note[..4].copy_from_slice(&[2, 4, 0, 1]);
@@ -82,11 +240,7 @@ pub fn rule_3(report: &mut Report) {
 
 pub fn small_halls(report: &mut Report) {
     rows(report, "small halls of document 01", ROWS);
-    for &(sheet, number, place) in REFUSED {
-        let own = sheet::read(sheet).map_err(|refusal| (refusal.number, refusal.place)).map(|_| ());
-        report.same("small halls of document 01", &Err((number, place)), &own, || hexadecimal(sheet));
-        report.same("small halls of document 01", &Ok((number, place)), &library::read(sheet), || hexadecimal(sheet));
-    }
+    refusals(report, "small halls of document 01", REFUSED);
     let printed = [0x1D, 2, 0, 2, 0, 2, 1, 2, 0, 0, 1, 1, 0];
     let encoded = sheet::read(&printed).map(|instance| sheet::encode(&instance));
     report.same("small halls of document 01", &Ok(printed.to_vec()), &encoded, || hexadecimal(&printed));
@@ -95,7 +249,7 @@ pub fn small_halls(report: &mut Report) {
 
 /// "the last, allowances 0, 1, 1, 1": "spent 0, spent 1, spent 1, placed 1"
 fn split_budgets(report: &mut Report) {
-    let two = Instance { container: [2, 2, 2], items: vec![UNIT, UNIT], precedences: vec![], yard_number: 0 };
+    let two = Instance { container: [2, 2, 2], items: vec![UNIT, UNIT], precedences: vec![], lags: vec![], yard_number: 0 };
     let sheet = sheet::encode(&two);
     let mut note = vec![0; NOTE_BYTES];
     for (allowance, returned, steps) in [(0, 0, 0), (1, 0, 1), (1, 0, 1), (1, 1, 1)] {

@@ -28,6 +28,7 @@ fn some_position_fits(instance: &Instance, positions: &mut Vec<Position>) -> boo
 }
 
 fn one(report: &mut Report, instance: &Instance) {
+    report.count(if instance.lags.iter().any(|&lag| lag > 0) { "tiny halls: with lags" } else { "tiny halls: without lags" });
     let sheet = sheet::encode(instance);
     let fits = some_position_fits(instance, &mut Vec::new());
     let plan = vec![0; 6 * instance.items.len()];
@@ -62,6 +63,7 @@ pub fn all(report: &mut Report, random: &mut Random) {
         let instance = |count: usize, precedences: Vec<(usize, usize)>| Instance {
             container,
             items: items[..count].to_vec(),
+            lags: vec![0; precedences.len()],
             precedences,
             yard_number: 0,
         };
@@ -77,9 +79,38 @@ pub fn all(report: &mut Report, random: &mut Random) {
             }
         }
         one(report, &instance(3, vec![]));
-        let pairs = [(0, 1), (0, 2), (1, 0), (1, 2), (2, 0), (2, 1)];
-        let chosen = random.between(1, 63);
-        let precedences = (0..6).filter(|bit| chosen >> bit & 1 == 1).map(|bit| pairs[bit]).collect();
-        one(report, &instance(3, precedences));
+        one(report, &instance(3, some_orders(random, &PAIRS)));
+    }
+}
+
+const PAIRS: [(usize, usize); 6] = [(0, 1), (0, 2), (1, 0), (1, 2), (2, 0), (2, 1)];
+
+/// At least one of these orders.
+fn some_orders(random: &mut Random, pairs: &[(usize, usize)]) -> Vec<(usize, usize)> {
+    let chosen = random.between(1, (1 << pairs.len()) - 1);
+    (0..pairs.len()).filter(|bit| chosen >> bit & 1 == 1).map(|bit| pairs[bit]).collect()
+}
+
+/// Halls of up to six shifts and 2 modules: all with two items and one order with a lag of 1 to 4, and some with three items and lags of
+/// 0 to 4. Mostly the orders are of one direction, so that there is something to place.
+pub fn with_lags(report: &mut Report, random: &mut Random) {
+    let measure = |number: usize| 1 + number as u32;
+    for number in 0..6 * 2 * 4 * 4 * 2 {
+        let container = [measure(number / 6 % 2), 1, measure(number % 6)];
+        let items = [number / 12 % 4, number / 48 % 4].map(|way| [measure(way % 2), 1, measure(way / 2)]).to_vec();
+        for lag in 1..5 {
+            let precedences = vec![[(0, 1), (1, 0)][number / 192]];
+            one(report, &Instance { container, items: items.clone(), precedences, lags: vec![lag], yard_number: 0 });
+        }
+    }
+    for _ in 0..6000 {
+        let container = [random.between(1, 2) as u32, 1, random.between(2, 6) as u32];
+        let wide = random.between(1, 2);
+        let items = (0..3).map(|_| [random.between(1, wide) as u32, 1, random.between(1, 2) as u32]).collect();
+        let one_way = random.pick(&[[(0, 1), (0, 2), (1, 2)], [(0, 2), (1, 0), (1, 2)], [(1, 0), (2, 0), (2, 1)]]);
+        let precedences = if random.one_in(6) { some_orders(random, &PAIRS) } else { some_orders(random, &one_way) };
+        let most = random.between(1, 4);
+        let lags = precedences.iter().map(|_| random.below(most + 1) as u32).collect();
+        one(report, &Instance { container, items, precedences, lags, yard_number: 0 });
     }
 }

@@ -25,6 +25,12 @@ fn any_order(random: &mut Random) -> Order {
     (random.below(most), random.below(most))
 }
 
+/// Any lag, 0 as often as not.
+fn any_lag(random: &mut Random) -> u32 {
+    let byte = random.byte() as u32;
+    random.pick(&[0, 0, 0, 1, 255, byte])
+}
+
 /// The value of an instance; past its counts 0, as reading leaves them, or anything.
 fn value_of(random: &mut Random, instance: &Instance) -> Value {
     let blank = random.one_in(3);
@@ -34,10 +40,12 @@ fn value_of(random: &mut Random, instance: &Instance) -> Value {
         items: [0; MOST_ITEMS].map(|_| if blank { [0; 3] } else { any_size(random) }),
         precedence_count: instance.precedences.len() as u64,
         precedences: [0; MOST_PRECEDENCES].map(|_| if blank { (0, 0) } else { any_order(random) }),
+        lags: [0; MOST_PRECEDENCES].map(|_| if blank { 0 } else { any_lag(random) }),
         yard_number: instance.yard_number,
     };
     value.items[..instance.items.len()].copy_from_slice(&instance.items);
     value.precedences[..instance.precedences.len()].copy_from_slice(&instance.precedences);
+    value.lags[..instance.lags.len()].copy_from_slice(&instance.lags);
     value
 }
 
@@ -75,7 +83,11 @@ fn with_order_changed(random: &mut Random, value: &mut Value) -> &'static str {
     let (u, v) = value.precedences[at];
     let strange = random.pick(&[items, items + 1, MOST_ITEMS, 255]);
     match random.below(7) {
-        0 if at > 0 => value.precedences[at] = value.precedences[at - 1],
+        0 if at > 0 => {
+            // A greater lag does not put it above.
+            value.precedences[at] = value.precedences[at - 1];
+            value.lags[at] = random.pick(&[value.lags[at], 255]);
+        }
         1 if at > 0 => value.precedences.swap(at, at - 1),
         2 => value.precedences[at] = (v, u),
         3 => value.precedences[at] = (u, u),
@@ -84,6 +96,24 @@ fn with_order_changed(random: &mut Random, value: &mut Value) -> &'static str {
         _ => value.precedences[at] = any_order(random),
     }
     "values with an order changed"
+}
+
+/// Other lags: any, the lag of one order, all 0 up to the count, or all 0 but past the count.
+fn with_lags_changed(random: &mut Random, value: &mut Value) -> &'static str {
+    let counted = value.precedence_count as usize;
+    match random.below(4) {
+        0 => value.lags = [0; MOST_PRECEDENCES].map(|_| any_lag(random)),
+        1 if counted > 0 => value.lags[random.below(counted)] = random.pick(&[0, 1, 2, 127, 128, 255]),
+        2 => value.lags[..counted].fill(0),
+        _ => {
+            value.lags.fill(0);
+            if counted < MOST_PRECEDENCES {
+                let past = random.between(counted, MOST_PRECEDENCES - 1);
+                value.lags[random.pick(&[counted, past, MOST_PRECEDENCES - 1])] = random.pick(&[1, 255]);
+            }
+        }
+    }
+    "values with lags changed"
 }
 
 /// The value changed in one way, and what the change is.
@@ -100,6 +130,7 @@ fn changed(random: &mut Random, value: &Value, way: usize) -> (&'static str, Val
         }
         2 => with_measure_0(random, &mut value),
         3 => with_order_changed(random, &mut value),
+        4 => with_lags_changed(random, &mut value),
         _ if random.one_in(2) => {
             value.item_count = random.below(MOST_ITEMS + 1) as u64;
             "values with another count of items"
@@ -200,14 +231,14 @@ pub fn values(report: &mut Report, random: &mut Random, instance: &Instance, run
     for room in (near..len + 3).chain([0, len + random.below(40)]) {
         write(report, random, &own, room);
     }
-    for way in 0..5 {
+    for way in 0..6 {
         let (kind, other) = changed(random, &own, way);
         report.count(kind);
         report.count(if value::instance_of(&other).is_ok() { "changed values that stand" } else { "changed values refused by 9" });
         check(report, &other, &ten_positions(random, instance, run));
         clearance(report, random, &other, items);
         // "9 is tested before 5, 8 and 10": in a room long enough and in one too short
-        for room in [random.pick(&[0, 1, len - 1]), random.pick(&[len, len + 1, 261, 300])] {
+        for room in [random.pick(&[0, 1, len - 1]), random.pick(&[len, len + 1, sheet::LONGEST_SHEET, 400])] {
             write(report, random, &other, room);
         }
     }

@@ -5,12 +5,12 @@ use Rattle.formats.proofs.Entries.{rest-of}
 use Rattle.formats.proofs.Laws.{untested}
 use Rattle.parts.specs.Parts.{item}
 use Rattle.parts.specs.Sizes.{no-item}
-use Rattle.lists.proofs.Rows.{Along, along-start, along-next, along-refused, along-done, part-took}
+use Rattle.lists.proofs.Rows.{Along, along-start, along-next, along-refused, along-done, part-took, read-same, row-same}
 use Rattle.lists.proofs.read_item_row.Tie as tie
 
 abbrev Inv-loop : tie.InvT-loop
 Inv-loop rest at from n items₀ used₀ i₀ xs used i =
-    Along item (λ (_ : Unit {0}) _. []) (λ p _. p) tt 10 no-item at from n rest tt xs i used
+    Along item (λ (_ : Unit {0}) _. []) (λ x. x) (λ p _. p) tt 10 no-item at from n rest tt xs i used
 
 abbrev μ-loop : tie.MeasureT-loop
 μ-loop rest at from n items₀ used₀ i₀ xs used i = n - i
@@ -18,12 +18,12 @@ abbrev μ-loop : tie.MeasureT-loop
 loop-again : tie.Need-loop-again Inv-loop μ-loop
 loop-again c =
     along-next (c .before .before .before .before .before .before .loop .inv) (omega arith) (omega arith) _ _
-    (untested item _ _ ∙ rw (c .before .item .given .1) at (c .before .before .before .read-item .ensures))
+    (read-same _ ∙ untested item _ _ ∙ rw (c .before .item .given .1) at (c .before .before .before .read-item .ensures))
 
 returns : tie.Need-returns Inv-loop μ-loop
 returns c =
-    along-refused (c .before .before .before .before .before .before .loop .inv) (omega arith) (omega arith)
-    (untested item _ _ ∙ rw (c .before .e .given .1) at (c .before .before .before .read-item .ensures))
+    rw row-same at (along-refused (c .before .before .before .before .before .before .loop .inv) (omega arith) (omega arith)
+    (read-same _ ∙ untested item _ _ ∙ rw (c .before .e .given .1) at (c .before .before .before .read-item .ensures)))
 
 pub read-item-row-spec : {M : Type 1} → Rattle.lists.proofs.read_item_row.Statement.statement M
 read-item-row-spec = tie.close (tie.spec Inv-loop μ-loop (λ c κs. search needs) (λ c. along-start (c .no-items .ensures) (c .before .before .pre .1))
@@ -31,7 +31,7 @@ read-item-row-spec = tie.close (tie.spec Inv-loop μ-loop (λ c κs. search need
     (λ c. search needs) (λ c. search needs) (λ c. omega arith) (λ c. let l = c .before .before .before .before .before .before in
     omega (
       arith,
-      part-took (item .reading) _ (l .loop .used) (l .before .before .before .args .rest .now)
-          (rw (c .before .item .given .1) at (c .before .before .before .read-item .ensures)),
+      part-took (λ x. x) (item .reading) _ (l .loop .used) (l .before .before .before .args .rest .now)
+          (read-same _ ∙ rw (c .before .item .given .1) at (c .before .before .before .read-item .ensures)),
     )) (λ c. omega arith) (λ c. omega arith) loop-again
-    (λ c. search needs) returns (λ c. along-done (c .before .loop .inv) (omega arith) (omega arith)))
+    (λ c. search needs) returns (λ c. rw row-same at (along-done (c .before .loop .inv) (omega arith) (omega arith))))

@@ -10,5 +10,4 @@ abbrev μ-loop : tie.MeasureT-loop
 
 pub precedences-below-spec : {M : Type 1} → Rattle.test_lines.proofs.precedences_below.Statement.statement M
 precedences-below-spec = tie.close (tie.spec Inv-loop μ-loop (λ c. search needs) (λ c. search needs) (λ c. search needs) (λ c. search needs)
-    (λ c. search needs) (λ c κs. search needs) (λ c. search needs) (λ c κs. search needs) (λ c. search needs) (λ c. search needs) (λ c. search needs)
-    (λ c. search needs))
+    (λ c κs. search needs) (λ c. search needs) (λ c. search needs) (λ c. search needs) (λ c. search needs))

@@ -1,11 +1,11 @@
 -- `test_values::precedences_in` meets its contract. Invariant: the first i precedences are filled. Measure: the precedences left.
 use Rattle.prelude.specs.Names.{_+_, _*_, _-_, arith, needs}
-use Rattle.sheet.specs.Places.{precedence-at}
+use Rattle.test_values.specs.Values.{precedence-in}
 use Rattle.test_values.proofs.Tables.{Filled, fill-none, fill-next, fill-all}
 use Rattle.test_values.proofs.precedences_in.Tie as tie
 
 abbrev Inv-loop : tie.InvT-loop
-Inv-loop s precedences₀ i₀ precedences i = Filled 90 (λ k. precedence-at s (82 + 2 * k)) precedences i
+Inv-loop s precedences₀ i₀ precedences i = Filled 90 (λ k. precedence-in s (82 + 3 * k)) precedences i
 
 abbrev μ-loop : tie.MeasureT-loop
 μ-loop s precedences₀ i₀ precedences i = 90 - i

@@ -16,17 +16,19 @@ long c = encode-length (c .args .instance) (c .pre .0) (full c)
 
 returns : tie.Need-returns
 returns c =
-    let d = c .before .before .before .before .before .before in
-    let e = d .before .before .before .before in
+    let e = c .before .before .before .before .before .before in
     let f = e .before .before .before .before in
-    let s = f .before .before .before .before .before .before .before in
-    let z = c .before .before .write-field .ensures in
-    let y = d .write-precedences .ensures in
-    let x = e .write-items .ensures in
-    let w = f .write-size .ensures in
+    let g = f .before .before .before .before in
+    let h = g .before .before .before .before in
+    let s = h .before .before .before .before .before .before .before in
+    let v = c .before .before .write-lags .ensures in
+    let z = e .write-field .ensures in
+    let y = f .write-precedences .ensures in
+    let x = g .write-items .ensures in
+    let w = h .write-size .ensures in
     let p = rw (← (precedences-bytes-length (s .args .instance) (s .pre .0) (full s))) at (y .0) in (
-      omega (arith, long s, w .0, x .0, y .0, z .0),
-      rw (z .1, y .1, x .1, w .1, f .before .before .map-of .ensures, p, x .0, w .0)
+      omega (arith, long s, w .0, x .0, y .0, z .0, v .0),
+      rw (v .1, z .1, y .1, x .1, w .1, h .before .before .map-of .ensures, z .0, p, x .0, w .0)
           (encode-stored (s .args .instance) (s .pre .0) (full s) (s .args .out .now)),
     )
 
@@ -43,5 +45,12 @@ write-sheet-spec = tie.close (tie.spec (λ c κs. c .before .before .before .bef
     (λ c κs. let x = c .before .before .before .before .before .before .before in let w = x .before .before .before .before in
     let s = w .before .before .before .before .before .before .before in
     omega (arith, long s, s .pre .1, simp length-set at (w .write-size .kept .0), w .write-size .ensures .0))
-    (λ c. let x = c .before .before .before .before .before .before .before .before .before .before in
-    omega (arith, simp length-set at (x .before .before .before .before .write-size .kept .0))) returns)
+    (λ c κs. let y = c .before .before .before .before .before .before .before in let x = y .before .before .before .before in
+    let w = x .before .before .before .before in let s = w .before .before .before .before .before .before .before in
+    let k = simp length-set at (w .write-size .kept .0) in
+    let e = y .write-precedences .ensures .0 in (
+      valid-says _ (s .pre .0) .precedences-few,
+      omega (arith, long s, s .pre .1, k, x .write-items .kept .0, y .write-precedences .kept .0, w .write-size .ensures .0, x .write-items .ensures .0, e),
+    ))
+    (λ c. let x = c .before .before .before .before .before .before .before .before .before .before .before .before .before .before in
+    let w = x .before .before .before .before in omega (arith, simp length-set at (w .write-size .kept .0))) returns)

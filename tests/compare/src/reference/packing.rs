@@ -25,7 +25,10 @@ pub fn is_feasible(instance: &Instance, positions: &[Position]) -> bool {
         })
     };
     let all_apart = (0..n).all(|v| (0..v).all(|u| apart(u, v)));
-    let ordered = instance.precedences.iter().all(|&(u, v)| ends_before(instance, positions, u, v, TIME));
+    // "u's end plus the lag is at most v's start"
+    let ordered = instance.precedences.iter().zip(&instance.lags).all(|(&(u, v), &lag)| {
+        end(instance, positions, u, TIME) + lag <= positions[v][TIME]
+    });
     inside && all_apart && ordered
 }
 

@@ -3,6 +3,16 @@
 use super::packing::TIME;
 use super::sheet::Instance;
 
+/// What counts between u and v: "On t a chain total adds the lag between neighbours that have an order, and rule 5's sum adds it between
+/// u and v." An order that only follows from others is none of the sheet's.
+fn gap(instance: &Instance, axis: usize, u: usize, v: usize) -> u32 {
+    if axis == TIME {
+        instance.lag(u, v)
+    } else {
+        0
+    }
+}
+
 /// For each axis, and each u and v, whether a relation is left.
 #[derive(Clone, PartialEq, Eq, Debug)]
 pub struct Domains {
@@ -161,7 +171,7 @@ impl Domains {
         let starting: Vec<u32> = (0..self.n).map(|v| self.greatest_starting(instance, axis, v, &mut Vec::new())).collect();
         for u in 0..self.n {
             for v in 0..self.n {
-                if u != v && ending[u] + starting[v] > instance.container[axis] {
+                if u != v && ending[u] + gap(instance, axis, u, v) + starting[v] > instance.container[axis] {
                     changed |= self.remove_before(axis, u, v);
                 }
             }
@@ -175,7 +185,7 @@ impl Domains {
         let mut greatest = 0;
         for u in 0..self.n {
             if !had.contains(&u) && self.before_fixed(axis, u, item) {
-                greatest = greatest.max(self.greatest_ending(instance, axis, u, had));
+                greatest = greatest.max(self.greatest_ending(instance, axis, u, had) + gap(instance, axis, u, item));
             }
         }
         had.pop();
@@ -188,7 +198,7 @@ impl Domains {
         let mut greatest = 0;
         for v in 0..self.n {
             if !had.contains(&v) && self.before_fixed(axis, item, v) {
-                greatest = greatest.max(self.greatest_starting(instance, axis, v, had));
+                greatest = greatest.max(gap(instance, axis, item, v) + self.greatest_starting(instance, axis, v, had));
             }
         }
         had.pop();

@@ -1,9 +1,11 @@
-//! "Sheet bytes" and "Refusals": reading and writing instances, and the records of their items.
+//! "Sheet bytes" and "Refusals", with request #101's lags: reading and writing instances, and the records of their items.
 
 use std::ops::Range;
 
 pub const MOST_ITEMS: usize = 10;
 pub const MOST_PRECEDENCES: usize = 90;
+/// "The longest sheet is 351 bytes"
+pub const LONGEST_SHEET: usize = 351;
 
 /// A number of the table of refusals, with the place that is returned beside it.
 #[derive(Clone, Copy, PartialEq, Eq, Debug)]
@@ -22,7 +24,17 @@ pub struct Instance {
     pub container: [u32; 3],
     pub items: Vec<[u32; 3]>,
     pub precedences: Vec<(usize, usize)>,
+    /// "one .. for each order in its sequence"
+    pub lags: Vec<u32>,
     pub yard_number: u32,
+}
+
+impl Instance {
+    /// The lag of the order u, v; 0 where the sheet has no such order.
+    pub fn lag(&self, u: usize, v: usize) -> u32 {
+        let at = self.precedences.iter().position(|&order| order == (u, v));
+        at.map_or(0, |at| self.lags[at])
+    }
 }
 
 /// What is left to read: "Reading goes left to right and gives the first fault".
@@ -86,12 +98,26 @@ impl Reader<'_> {
         }
         Ok(count)
     }
+
+    /// "one byte for each order in its sequence"; 11: "a lag field in which no lag is above 0, an empty field included, at its first byte's
+    /// place, after its bytes are read and, when it is empty, before anything that follows it"
+    fn lags(&mut self, orders: usize) -> Result<Vec<u32>, Refusal> {
+        let place = self.at;
+        let mut lags = Vec::new();
+        for _ in 0..orders {
+            lags.push(self.byte()? as u32);
+        }
+        if lags.iter().all(|&lag| lag == 0) {
+            return refuse(11, place);
+        }
+        Ok(lags)
+    }
 }
 
 /// The instance, and the part of the sheet that is each item's record.
 pub fn read_with_records(sheet: &[u8]) -> Result<(Instance, Vec<Range<usize>>), Refusal> {
     let mut reader = Reader { sheet, at: 0 };
-    let standing = reader.map(6)?;
+    let standing = reader.map(7)?;
     let container = reader.size(&standing)?;
     let mut items = Vec::new();
     let mut records = Vec::new();
@@ -119,10 +145,12 @@ pub fn read_with_records(sheet: &[u8]) -> Result<(Instance, Vec<Range<usize>>), 
         }
     }
     let yard_number = if standing[5] { reader.field(1)? } else { 0 };
+    // "The field follows the yard number"; "left out, they are all 0"
+    let lags = if standing[6] { reader.lags(precedences.len())? } else { vec![0; precedences.len()] };
     if reader.at < sheet.len() {
         return refuse(7, reader.at);
     }
-    let instance = Instance { container, items, precedences, yard_number };
+    let instance = Instance { container, items, precedences, lags, yard_number };
     Ok((instance, records))
 }
 
@@ -179,6 +207,10 @@ pub fn encode(instance: &Instance) -> Vec<u8> {
     if instance.yard_number != 0 {
         map |= 32;
         fields.extend((instance.yard_number as u16).to_le_bytes());
+    }
+    if instance.lags.iter().any(|&lag| lag > 0) {
+        map |= 64;
+        fields.extend(instance.lags.iter().map(|&lag| lag as u8));
     }
     fields.insert(0, map);
     fields

@@ -12,6 +12,8 @@ pub struct Value {
     pub items: [[u32; 3]; MOST_ITEMS],
     pub precedence_count: u64,
     pub precedences: [(usize, usize); MOST_PRECEDENCES],
+    /// "Lags past the count of orders are no part of a sheet value."
+    pub lags: [u32; MOST_PRECEDENCES],
     pub yard_number: u32,
 }
 
@@ -22,6 +24,7 @@ pub fn instance_of(value: &Value) -> Result<Instance, Refusal> {
     }
     let items = value.items[..value.item_count as usize].to_vec();
     let precedences = value.precedences[..value.precedence_count as usize].to_vec();
+    let lags = value.lags[..precedences.len()].to_vec();
     if value.container.contains(&0) || items.iter().any(|size| size.contains(&0)) {
         return refuse(9, 0);
     }
@@ -30,7 +33,7 @@ pub fn instance_of(value: &Value) -> Result<Instance, Refusal> {
             return refuse(9, 0);
         }
     }
-    Ok(Instance { container: value.container, items, precedences, yard_number: value.yard_number })
+    Ok(Instance { container: value.container, items, precedences, lags, yard_number: value.yard_number })
 }
 
 /// "Check returns 0 no, 1 yes, 100 plus the number for a refusal"; "Ten positions are held; those past the sheet's count are ignored".

@@ -11,8 +11,9 @@ abbrev μ-loop : tie.MeasureT-loop
 μ-loop k₀ rows₀ queue₀ t a grown left₀ k rows queue left = left
 
 pub cut-starts-spec : {M : Type 1} → Rattle.chains.proofs.cuts.cut_starts.Statement.statement M
-cut-starts-spec = tie.close (tie.spec Inv-loop μ-loop (λ c. cutting-start (omega arith) (c .pre)) (λ c κs. search needs) (λ c κs. search needs)
-    (λ c κs. let d = c .before .before .before in cutting-compared (d .before .before .before .loop .inv) (d .before .lowest .ensures))
+cut-starts-spec = tie.close (tie.spec Inv-loop μ-loop (λ c. cutting-start (omega arith) (c .pre .0)) (λ c κs. search needs) (λ c κs. search needs)
+    (λ c κs. let d = c .before .before .before in let l = d .before .before .before in
+    (cutting-compared (l .loop .inv) (d .before .lowest .ensures), l .before .pre .1))
     (λ c κs. let d = c .before .before .before .before in
     cutting-given (d .before .before .before .loop .inv) (d .before .lowest .ensures) (c .too-long .ensures))
     (λ c. let r = c .before .cut-item in let e = c .before .before in let d = e .before .before .before .before in

@@ -1,7 +1,7 @@
 -- `chains::links::apply_link` meets its contract. Places: at f the chains that end are extended and at e they fit, at g those that start and at h
--- they fit, at n the cuts for the first are made and at i they leave something.
+-- they fit.
 use Rattle.prelude.specs.Names.{not-true, not-false}
-use Rattle.chains.proofs.Linking.{ends-asked, ends-burst, starts-asked, starts-burst, cut-asked, cut-refused, cut-asked-2, cuts-answer}
+use Rattle.chains.proofs.Linking.{ends-asked, ends-burst, starts-asked, starts-burst, cut-asked, cut-answer}
 use Rattle.chains.proofs.links.apply_link.Tie as tie
 
 abbrev places : tie.Else2 → tie.After-link-on × tie.Else1 × tie.After-link-on2
@@ -26,8 +26,8 @@ returns-2 c =
     starts-burst (f .before .before .before .pre) (rw (not-false (f .link-on .result .fits) (e .if1 .left)) at (f .link-on .ensures))
     (rw (not-true (g .link-on2 .result .fits) (c .if2 .taken)) at (g .link-on2 .ensures))
 
-cut-ends-requires : tie.Need-cut-ends-requires
-cut-ends-requires c κs =
+cut-around-requires : tie.Need-cut-around-requires
+cut-around-requires c κs =
     let h = c .before .before .before .before in
     let (f, e, g) = places h in
     cut-asked (f .before .before .before .pre) (rw (not-false (f .link-on .result .fits) (e .if1 .left)) at (f .link-on .ensures))
@@ -35,33 +35,10 @@ cut-ends-requires c κs =
 
 returns-3 : tie.Need-returns-3
 returns-3 c =
-    let n = c .before in
-    let h = n .before .before .before .before .before in
+    let h = c .before .before .before .before .before in
     let (f, e, g) = places h in
-    cut-refused (f .before .before .before .pre) (rw (not-false (f .link-on .result .fits) (e .if1 .left)) at (f .link-on .ensures))
-    (rw (not-false (g .link-on2 .result .fits) (h .if2 .left)) at (g .link-on2 .ensures))
-    (rw (not-true (n .cut-ends .result) (c .if3 .taken)) at (n .cut-ends .ensures))
-
-cut-starts-requires : tie.Need-cut-starts-requires
-cut-starts-requires c κs =
-    let i = c .before .before .before .before in
-    let n = i .before in
-    let h = n .before .before .before .before .before in
-    let (f, e, g) = places h in
-    cut-asked-2 (f .before .before .before .pre) (rw (not-false (f .link-on .result .fits) (e .if1 .left)) at (f .link-on .ensures))
-    (rw (not-false (g .link-on2 .result .fits) (h .if2 .left)) at (g .link-on2 .ensures))
-    (rw (not-false (n .cut-ends .result) (i .if3 .left)) at (n .cut-ends .ensures))
-
-returns-4 : tie.Need-returns-4
-returns-4 c =
-    let i = c .before .before .before .before .before in
-    let n = i .before in
-    let h = n .before .before .before .before .before in
-    let (f, e, g) = places h in
-    cuts-answer (f .before .before .before .pre) (rw (not-false (f .link-on .result .fits) (e .if1 .left)) at (f .link-on .ensures))
-    (rw (not-false (g .link-on2 .result .fits) (h .if2 .left)) at (g .link-on2 .ensures))
-    (rw (not-false (n .cut-ends .result) (i .if3 .left)) at (n .cut-ends .ensures)) _ _ _ (c .cut-starts .result) (c .cut-starts .ensures)
+    cut-answer (f .before .before .before .pre) (rw (not-false (f .link-on .result .fits) (e .if1 .left)) at (f .link-on .ensures))
+    (rw (not-false (g .link-on2 .result .fits) (h .if2 .left)) at (g .link-on2 .ensures)) _ _ _ (c .cut-around .result) (c .cut-around .ensures)
 
 pub apply-link-spec : {M : Type 1} → Rattle.chains.proofs.links.apply_link.Statement.statement M
-apply-link-spec = tie.close (tie.spec (λ c κs. ends-asked (c .before .before .pre)) returns link-on-requires-2 returns-2 cut-ends-requires returns-3
-    cut-starts-requires returns-4)
+apply-link-spec = tie.close (tie.spec (λ c κs. ends-asked (c .before .before .pre)) returns link-on-requires-2 returns-2 cut-around-requires returns-3)

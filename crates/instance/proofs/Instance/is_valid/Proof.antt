@@ -1,19 +1,19 @@
 -- `instance::Instance::is_valid` meets its contract.
-use Rattle.prelude.specs.Names.{_≡_, sym, _∙_, _&&_, le-leb, lt-leb, not-true, not-false, needs}
+use Rattle.prelude.specs.Names.{_≡_, sym, _∙_, map, _&&_, le-leb, lt-leb, not-true, not-false, needs}
 use Rattle.parts.specs.declared.Previous.the-variants.{Nothing}
-use Rattle.parts.specs.Precedences.{all-allowed}
+use Rattle.parts.specs.Precedences.{arc-of, all-allowed}
 use Rattle.parts.specs.Sizes.{positive, all-have-size}
 use Rattle.instance.specs.Valid.{valid, items-of, precedences-of}
 use Rattle.instance.proofs.Instance.is_valid.Tie as tie
 
 -- past the tests of the counts the rest decides; past that of the container what is after it
 counts-passed : (c : tie.Else2) → let i = c .before .before .args .self in
-    valid i ≡ (positive (i .container) && (all-have-size (items-of i) && all-allowed (i .«item_count») Nothing (precedences-of i)))
+    valid i ≡ (positive (i .container) && (all-have-size (items-of i) && all-allowed (i .«item_count») Nothing (map arc-of (precedences-of i))))
 unfolding valid
 counts-passed c = simp (le-leb _ _ (c .before .if1 .left), le-leb _ _ (c .if2 .left))
 
 container-passed : (c : tie.Else3) → let i = c .before .before .before .before .before .args .self in
-    valid i ≡ (all-have-size (items-of i) && all-allowed (i .«item_count») Nothing (precedences-of i))
+    valid i ≡ (all-have-size (items-of i) && all-allowed (i .«item_count») Nothing (map arc-of (precedences-of i)))
 container-passed c = let p = c .before .is-positive in
     counts-passed (c .before .before .before) ∙ simp (← (p .ensures), not-false (p .result) (c .if3 .left))
 

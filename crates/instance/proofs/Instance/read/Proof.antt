@@ -29,7 +29,7 @@ read-spec = tie.close (tie.spec (λ c κs. search needs)
     (λ c. let r = c .before .before .before .before in let b = r .before .before .before .before in let s = b .before .before .args .bytes .now in
     c .refuse3 .ensures ∙ simp (
       sheet-run s (b .if1 .left) (sheet-of empty-instance),
-      lt-leb 64 (getD s 0 0) (omega (arith, r .before .before .if2 .left)),
+      lt-leb 128 (getD s 0 0) (omega (arith, r .before .before .if2 .left)),
       rw (rest-of, c .before .before .e .given .1) at (r .read-size .ensures),
     ))
     (λ c. let r = c .before .before .before .before .before .before in let b = r .before .before .before .before in
@@ -37,7 +37,7 @@ read-spec = tie.close (tie.spec (λ c κs. search needs)
     rw (rest-of, c .before .before .empty .ensures) at (c .read-from-items .ensures)
     ∙ simp (
       sheet-run s (b .if1 .left) (sheet-of empty-instance),
-      lt-leb 64 (getD s 0 0) (omega (arith, r .before .before .if2 .left)),
+      lt-leb 128 (getD s 0 0) (omega (arith, r .before .before .if2 .left)),
       rw (rest-of, c .before .before .before .before .container .given .1) at (r .read-size .ensures),
       drop-drop,
     )))

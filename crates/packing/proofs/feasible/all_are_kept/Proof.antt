@@ -23,5 +23,5 @@ all-are-kept-spec = tie.close (tie.spec Inv-loop μ-loop (λ c. search needs) (�
     (search (all-fails, kept-is, not-true))) (λ c. search needs) (λ c. search needs)
     (λ c. all-more (c .before .before .before .before .before .before .before .before .loop .inv)
     (c .before .before .before .before .before .before .before .loop-test .taken)
-    (kept-is _ _ _ (c .before .before .before .placed-item .ensures) (c .before .before .placed-item2 .ensures) (c .before .ends-before .ensures))
+    (kept-is _ _ _ (c .before .before .before .placed-item .ensures) (c .before .before .placed-item2 .ensures) (c .before .ends-ahead .ensures))
     (not-false _ (c .if1 .left))) (λ c. rw (kept-loop _ _ _ _ (entries (c .before .before))) (search all-done)))

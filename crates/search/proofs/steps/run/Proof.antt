@@ -75,7 +75,7 @@ seen : (c : tie.After-look Inv-loop μ-loop) {o : Outlook} → c .look .result �
 seen c e =
     let h = head c .loop .inv in
     subst (Sees c) e (c .look .ensures .1 (problem (head c)) (h .path)
-    (record { count = count (start (head c) .args .instance); at = h .state .at; passed = h .state .passed }))
+    (record { sound = sound (head c); count = count (start (head c) .args .instance); at = h .state .at; passed = h .state .passed }))
 
 looks-left : (c : tie.After-look Inv-loop μ-loop) → let a = start (head c) .args in head c .loop .looks < a .checkpoint .length + a .budget
 looks-left c = c .before .before .before .before .before .loop-test .taken

@@ -12,7 +12,7 @@ returns c =
     let (h, f) = c .before .propagate .ensures in (
       h,
       λ p path l.
-          looked-conflict p (rw (l .count) (c .before .before .before .before .before .before .pre .0)) path (l .at)
+          looked-conflict p (l .sound) path (l .at)
           (rw (not-true (c .before .propagate .result) (c .if1 .taken)) at (f (wide p) (l .at .ready))),
     )
 
@@ -25,7 +25,7 @@ shown c p path l =
     let e = c .before .before in
     let b = e .before in
     let φ = rw (not-false (b .propagate .result) (e .if1 .left)) at (b .propagate .ensures .1 (wide p) (l .at .ready)) in
-    let s = seen p (rw (l .count) (b .before .before .before .before .before .pre .0)) path (l .at) φ in
+    let s = seen p (l .sound) path (l .at) φ in
     looked-chosen p path s (l .count) (c .choose .result) (c .choose .ensures (seen-passed p path s (l .count) (l .passed)))
 
 returns-2 : tie.Need-returns-2
