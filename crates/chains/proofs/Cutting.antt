@@ -242,6 +242,7 @@ module _ (t : List ℕ) (a : ℕ) (k : Domains) where
       → NarrowedIf (FilledWith (CutAll t 2 a)) (CutOf t 2 a starts) i q₁ j rows₂ r b
       → NarrowedIf (FilledWith (CutBoth t a)) (CutAround t a ends starts) k q j rows₂ r b
   around-answer ends starts g {i} n j rows₂ r b h =
-      outcome-then {D = CutOf t 1 a ends} (CutOf t 2 a starts) (CutAround t a ends starts) j rows₂ r b (g .least) (narrowed-as (λ f w _. one-of f w .0) (λ _ d. d) n)
+      outcome-then {D = CutOf t 1 a ends} (CutOf t 2 a starts) (CutAround t a ends starts) j rows₂ r b (g .least)
+      (narrowed-as (λ f w _. one-of f w .0) (λ _ d. d) n)
       (outcome-as _ (FilledWith (CutBoth t a)) _ (CutOf t 2 a starts) i _ j rows₂ r b (λ f w _. one-of f w .1) (λ _ d. d) h)
       (λ less d e. ((λ u m v c x. gone-mono j i less 1 a u v (d u m v c x)), e))

@@ -11,19 +11,19 @@ use Rattle.model.specs.Facts.{forced, says}
 use Rattle.model.specs.Clauses.{of}
 use Rattle.model.specs.Toward.{Goal, Direction, greatest, Linked, extended, Table, Under, Links, Cuts, ClosedBut, NoPair}
 use Rattle.model.proofs.Below.{and-both, and-intro, clash}
-use Rattle.model.proofs.Facts.{gone-mono, gone-converse, gone-self, forced-converse, forced-before-is, forced-after-is}
+use Rattle.model.proofs.Facts.{gone-converse, gone-self, forced-converse, forced-before-is, forced-after-is}
 use Rattle.model.proofs.Slots.{proper-sym}
 use Rattle.model.proofs.Toward.{by-direction, goal-fits, extended-sum, under-link, under-cut, closed-grown, closed-less, closed-wider}
 use Rattle.model.proofs.Untouched.{goal-lawful}
 use Rattle.domains.specs.Bits.{bit-at}
 use Rattle.domains.specs.Rows.{row-at, Mirror}
-use Rattle.domains.specs.Queue.{SamePair, queue-end, Queued, Good, Long}
+use Rattle.domains.specs.Queue.{SamePair, queue-end, Queued, Good}
 use Rattle.domains.specs.Narrowed.{Grown, Narrowed, Refuted, NarrowedIf, FilledWith}
 use Rattle.chains.specs.Totals.{table-start, table, measure-at, Tabled, Measured, SameMeasures, Fitting}
 use Rattle.chains.specs.Links.{onward, LinkSet, Raised, none, more, Raises, Bursts, Linkable, Only, InRows, On, Plain}
 use Rattle.chains.specs.Cuts.{exceeds, CutBoth, CutAround}
 use Rattle.chains.specs.NewLinks.{Charted, ExtendedAlong, KeptIf}
-use Rattle.domains.proofs.Narrowed.{good-long, grown-then, queued-on}
+use Rattle.domains.proofs.Narrowed.{good-long, queued-on}
 use Rattle.domains.proofs.Mirror.{row-first}
 use Rattle.chains.proofs.Relaxing.{table-start-is, grows, grows-far, stored-same}
 

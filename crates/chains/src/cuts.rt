@@ -46,7 +46,7 @@ fn above(t: &[u16; TOTALS], at: usize, limit: u16) -> u32
 // The same with what lies between: the steps from a place on, less the sizes from another.
 fn above_with_gaps(t: &[u16; TOTALS], at: usize, steps: usize, sizes: usize, limit: u16) -> u32
     requires { ⌜ Tabled (now t) × Stepping (now t) at steps sizes ⌝ }
-    ensures { λ r. ⌜ Gives 10 r (λ v. ltb limit (getD (now (t .entry)) (steps + v) 0 - getD (now (t .entry)) (sizes + v) 0 + getD (now (t .entry)) (at + v) 0)) ⌝ }
+    ensures { λ r. let t = now (t .entry) in ⌜ Gives 10 r (λ v. ltb limit (getD t (steps + v) 0 - getD t (sizes + v) 0 + getD t (at + v) 0)) ⌝ }
 {
     let mut found: u16 = 0;
     let mut v: usize = 0;

@@ -106,8 +106,8 @@ pub second-due :
 unfolding trial-right
 second-due = refl
 
--- Lags. Three items of 1×1×1 in a hall of 1×1; orders 0, 1 with lag 1, 0, 2 with lag 5 and 1, 2 with lag 0. Item 2 waits for the direct order, 1 + 5 shifts, not for the
--- row 0, 1, 2, which is 1 + 1 + 1 + 0 long before it: so 7 shifts are needed, and 6 are one too few
+-- Lags. Three items of 1×1×1 in a hall of 1×1; orders 0, 1 with lag 1; 0, 2 with lag 5; 1, 2 with lag 0. Item 2 waits for the direct order, 1 + 5 shifts,
+-- not for the row 0, 1, 2, which is 1 + 1 + 1 + 0 long before it: so 7 shifts are needed, and 6 are one too few
 abbrev order : ℕ → ℕ → ℕ → Precedence
 order u v lag = record { predecessor = u; successor = v; lag = lag }
 

@@ -2,8 +2,8 @@
 use Rattle.prelude.specs.Names.{Bool, true, _&&_, _||_, _⊎_, ⊎-elim, ⊎-map, _↔_, _≡_, ℕ, _+_, _<_, ℕ-discrete, leb, eqb, leb-true, le-leb, eqb-true}
 use Rattle.prelude.specs.Names.{eq-eqb}
 use Rattle.model.specs.Below.{all-below}
-use Rattle.model.specs.Problem.{Problem, Precedence, Positions, EndsBefore, EndsAhead, ends-before, ends-ahead, Feasible, feasible, inside-test, apart-test}
-use Rattle.model.specs.Problem.{ordered-test, apart-on-some-axis, time}
+use Rattle.model.specs.Problem.{Problem, Precedence, Positions, EndsBefore, EndsAhead, ends-before, ends-ahead, Feasible, feasible, inside-test}
+use Rattle.model.specs.Problem.{apart-test, ordered-test, apart-on-some-axis, time}
 use Rattle.model.proofs.Below.{and-intro, and-both, or-left, or-right, or-case, all-at, all-of, some-at, some-of, in-at, in-of}
 
 pub all-all : (m n : ℕ) (f : ℕ → ℕ → Bool) → (all-below m (λ i. all-below n (f i)) ≡ true) ↔ ((i j : ℕ) → i < m → j < n → f i j ≡ true)

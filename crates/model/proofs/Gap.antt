@@ -1,6 +1,6 @@
--- What lies between two items, and a packing's precedences: a feasible packing keeps it wherever one item is before the other, and a packing that keeps it keeps
--- every lag. A lag in "before" itself would not do: "before" is transitive, and what follows from two precedences has no lag of its own.
-use Rattle.prelude.specs.Names.{Bool, true, false, cond, _&&_, List, [], _∷_, List·Memᴰ, List·Memᴰ·head, List·Memᴰ·tail, List·Memᴰ·not-nil}
+-- What lies between two items, and the precedences of a packing: a feasible packing keeps it wherever one item is before the other, and a packing that
+-- keeps it keeps every lag. A lag in "before" itself would not do: "before" is transitive, and what follows from two precedences has no lag of its own.
+use Rattle.prelude.specs.Names.{true, false, cond, _&&_, List, [], _∷_, List·Memᴰ, List·Memᴰ·head, List·Memᴰ·tail, List·Memᴰ·not-nil}
 use Rattle.prelude.specs.Names.{List·Memᴰ·cases-cons, _⊎_, inl, inr, _≡_, refl, ℕ, _+_, _-_, _≤_, zero-le, arith, eqb, eqb-true, eq-eqb}
 use Rattle.model.specs.Problem.{Problem, Precedence, Positions, EndsBefore, EndsAhead, Feasible, time, lag-between, gap}
 use Rattle.model.specs.Admits.{Sound}

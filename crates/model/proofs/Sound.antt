@@ -100,8 +100,8 @@ module _ (p : Problem) (sound : Sound p) (q : Positions) (feasible : Feasible p 
   ending-room : (a u : ℕ) → a < 3 → u < p .items → greatest-ending p k a u ≤ q a u + p .size a u
   ending-room a u ha hu =
       greatest-ending-within p k a (λ x. q a x + p .size a x) (λ x hx. omega arith)
-      (λ v w x hv hw b h. joined-room p q a v w x (p .size a w) (q a w + p .size a w) (gap-kept p q feasible a v w (fixed-before-holds ha hv hw b)) h (le-refl _))
-      u hu
+      (λ v w x hv hw b h. let kept = gap-kept p q feasible a v w (fixed-before-holds ha hv hw b) in
+      joined-room p q a v w x (p .size a w) (q a w + p .size a w) kept h (le-refl _)) u hu
 
   starting-room : (a u : ℕ) → a < 3 → u < p .items → greatest-starting p k a u ≤ p .capacity a - q a u
   starting-room a u ha hu =

@@ -123,7 +123,8 @@ module _ (p : Problem) (limited : p .items ≤ 10) (f : Domains) (plain : Untouc
 -- A goal is at rest and consistent with the items added: their chains are 0 with nothing between, and every other has room
 module _ (p : Problem) (sound : Sound p) (f : Domains) (goal : Goal p f) where
   own-or-none : (x a u : ℕ) → Direction x → a < 3 → u < 10
-      → ((u < p .items) × (greatest x (wide p) f a u ≡ greatest x p f a u) × (greatest x p f a u ≤ p .capacity a)) ⊎ ((p .items ≤ u) × (greatest x (wide p) f a u ≤ 0))
+      → ((u < p .items) × (greatest x (wide p) f a u ≡ greatest x p f a u) × (greatest x p f a u ≤ p .capacity a))
+      ⊎ ((p .items ≤ u) × (greatest x (wide p) f a u ≤ 0))
   own-or-none x a u d ha hu = elim (decLt u (p .items)) [
     | yes h ↦ inl (h, wide-greatest p (sound .limited) f (goal .untouched) x a u d ha h, goal-fits p f goal x a u d ha h)
     | no h ↦ inr (omega arith, past-greatest p (sound .limited) f (goal .untouched) x a u d ha hu (omega arith))

@@ -1,5 +1,5 @@
 -- An instance laid out: all of it, or what is too large.
-use Rattle.prelude.specs.Names.{true, false, List, [], map, List·Memᴰ, _≡_, refl, sym, _∙_, ℕ, _+_, _≤_, _<_, decLt, arith, getD, length, take}
+use Rattle.prelude.specs.Names.{true, false, List, [], map, List·Memᴰ, _≡_, _∙_, ℕ, _+_, _≤_, _<_, decLt, arith, getD, length, take}
 use mathlib.Core.List.{Memᴰ·map}
 use Rattle.model.specs.Problem.{Problem}
 use Rattle.model.specs.Admits.{Sound}
@@ -12,7 +12,7 @@ use Rattle.parts.specs.Sizes.{no-precedence}
 use Rattle.instance.specs.declared.Instance.{Instance}
 use Rattle.instance.specs.Meaning.{precedence-of, problem-of}
 use Rattle.instance.specs.Valid.{precedences-of}
-use Rattle.opening.specs.Layout.{LaidOut, LargeIf, LateIf, order-length, Stepped, SteppedOut, with-precedences, LagsLaid, TooLarge, item, order, FitsIf}
+use Rattle.opening.specs.Layout.{LaidOut, LargeIf, LateIf, Stepped, SteppedOut, with-precedences, LagsLaid, TooLarge, item, order, FitsIf}
 use Rattle.opening.proofs.Openings.{nth-in, allowed-at}
 use Rattle.opening.proofs.Lags.{stepped-out}
 

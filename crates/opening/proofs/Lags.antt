@@ -1,7 +1,7 @@
 -- The steps of chains beside their totals: the measures alone, and then the lags, one precedence after another.
-use Rattle.prelude.specs.Names.{Bool, true, false, _&&_, cond, List, [], _∷_, _++_, map, _⊎_, inl, inr, ⊎-elim, ⊎-map, _≢_, _≡_, refl, sym, _∙_, ap, ℕ, _+_, _-_, _*_, _/_}
-use Rattle.prelude.specs.Names.{_%_, _≤_, _<_, max, zero-le, le-refl, ℕ-discrete, decLt, arith, eqb, ltb, getD, set, length, take, add-one, take-suc, length-set}
-use Rattle.prelude.specs.Names.{eqb-true, eq-eqb, ltb-true, ltb-false}
+use Rattle.prelude.specs.Names.{Bool, true, false, _&&_, cond, List, [], _∷_, _++_, map, _⊎_, inl, inr, ⊎-elim, ⊎-map, _≢_, _≡_, refl, sym, _∙_, ap, ℕ}
+use Rattle.prelude.specs.Names.{_+_, _-_, _*_, _/_, _%_, _≤_, _<_, max, zero-le, le-refl, ℕ-discrete, decLt, arith, eqb, ltb, getD, set, length, take}
+use Rattle.prelude.specs.Names.{add-one, take-suc, length-set, eqb-true, eq-eqb, ltb-true, ltb-false}
 use Rattle.model.specs.Problem.{Problem, lag-between, gap, time}
 use Rattle.model.specs.Toward.{Direction, between}
 use Rattle.model.specs.Wide.{wide}
@@ -11,7 +11,7 @@ use Rattle.parts.specs.declared.Precedence.{Precedence}
 use Rattle.parts.specs.Sizes.{no-precedence}
 use Rattle.instance.specs.Meaning.{precedence-of}
 use Rattle.nodes.proofs.Loops.{written}
-use Rattle.chains.specs.Totals.{table-start, measure-at, capacity-at, gapped-at, step-at}
+use Rattle.chains.specs.Totals.{table-start, measure-at, gapped-at, step-at}
 use Rattle.chains.proofs.Relaxing.{table-start-is}
 use Rattle.opening.specs.Layout.{Small, put-lag, with-precedences, LaidOut, order-length, RowStepped, Stepped, SteppedOut, LagsLaid}
 use Rattle.model.specs.Problem as M

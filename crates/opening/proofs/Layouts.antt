@@ -1,5 +1,6 @@
 -- An instance's measures beside the totals of chains, item by item.
-use Rattle.prelude.specs.Names.{List, [], _⊎_, inl, inr, ⊎-elim, _≡_, refl, sym, _∙_, _≢_, ℕ, _+_, _*_, _%_, _≤_, _<_, decLt, arith, getD, set, length, length-set, replicate}
+use Rattle.prelude.specs.Names.{List, [], _⊎_, inl, inr, ⊎-elim, _≡_, refl, sym, _∙_, _≢_, ℕ, _+_, _*_, _%_, _≤_, _<_, decLt, arith, getD, set, length}
+use Rattle.prelude.specs.Names.{length-set, replicate}
 use Rattle.model.proofs.Below.{below-three}
 use Rattle.model.specs.Problem.{Problem}
 use Rattle.model.specs.Wide.{wide}
@@ -104,7 +105,8 @@ module _ (c : Size) where
     capacity = λ a ha. refl;
     size = λ a u ha hu. no-items-zero (60 + a * 10 + u) (inl (omega arith)) ∙ sym (wide-past (first-items items (no-items c) 0) a u (omega arith));
     alone = λ x a u d ha hu.
-        by-direction (λ x. table (no-items c) x a u ≡ 0) (no-items-zero (30 + a * 10 + u) (inl (omega arith))) (no-items-zero (0 + a * 10 + u) (inl (omega arith))) x d
+        by-direction (λ x. table (no-items c) x a u ≡ 0) (no-items-zero (30 + a * 10 + u) (inl (omega arith)))
+        (no-items-zero (0 + a * 10 + u) (inl (omega arith))) x d
         ∙ sym (no-items-zero (60 + a * 10 + u) (inl (omega arith)));
   }
 

@@ -1,11 +1,10 @@
 -- Rule 5 for chains of one item each: one item after another.
 use Rattle.prelude.specs.Names.{Bool, true, not, _&&_, not-eq-not, List, inl, inr, _≢_, _≡_, refl, sym, _∙_, ap, ℕ, _+_, _*_, _%_, _^_, _≤_, _<_, max}
-use Rattle.prelude.specs.Names.{ℕ-discrete, decLt, arith, eqb, getD, set, length, getD-set-same, getD-set-other, eqb-true, ne-eqb, ltb-true, lt-ltb}
+use Rattle.prelude.specs.Names.{ℕ-discrete, decLt, arith, eqb, getD, set, length, getD-set-same, getD-set-other, eqb-true, ne-eqb, ltb-true}
 use Rattle.prelude.specs.Names.{eqb-false, not-true}
 use Rattle.model.specs.Domains.{Domains, index-of}
 use Rattle.model.specs.Order.{Proper, Subdomain, _⊑_}
-use Rattle.model.specs.Relations.{gone, Untouched}
-use Rattle.model.specs.Toward.{Direction}
+use Rattle.model.specs.Relations.{Untouched}
 use Rattle.model.proofs.Below.{and-intro, and-both}
 use Rattle.model.proofs.Order.{below-refl}
 use Rattle.model.proofs.Slots.{index-of-same, index-of-small}

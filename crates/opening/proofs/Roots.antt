@@ -1,5 +1,5 @@
 -- The root of the search: the opening domains ready to be propagated, or that they are inconsistent.
-use Rattle.prelude.specs.Names.{Bool, true, false, List, [], inl, inr, _≡_, refl, sym, _∙_, ap, ℕ, _+_, _*_, _<_, ℕ-discrete, decLt, arith, set}
+use Rattle.prelude.specs.Names.{Bool, true, false, List, [], inl, inr, _≡_, refl, sym, _∙_, ap, ℕ, _+_, _*_, _<_, ℕ-discrete, arith, set}
 use Rattle.prelude.specs.Names.{replicate, ltb-true, lt-ltb}
 use Rattle.model.specs.Problem.{Problem}
 use Rattle.model.specs.Domains.{Domains, full-domains}
@@ -204,7 +204,8 @@ module _ {p : Problem} (sound : Sound p) where
               | inr e ↦ inr e
             ];
             cut = λ a u v s h.
-                inl (n .done a u v (omega (arith, root-measured .ten)) (exceeds-joined root-measured a u v (omega (arith, root-measured .ten)) .0 ∙ lt-ltb _ _ h));
+                let pair : Proper 10 a u v = omega (arith, root-measured .ten) in
+                inl (n .done a u v pair (exceeds-joined root-measured a u v pair .0 ∙ lt-ltb _ _ h));
           };
         }
 

@@ -15,7 +15,9 @@ cut-item-requires : tie.Need-cut-item-requires Inv-loop μ-loop
 cut-item-requires c κs =
     let d = c .before .before .before .before in
     let l = d .before .before .before in
-    cutting-given (l .loop .inv) (d .before .lowest .ensures) (exceeds-from (l .before .args .t .now) (l .before .args .grown .axis) (d .before .lowest .result) _ (l .before .pre .1) (c .too-long-with-gaps .ensures))
+    let s = l .before in
+    cutting-given (l .loop .inv) (d .before .lowest .ensures)
+    (exceeds-from (s .args .t .now) (s .args .grown .axis) (d .before .lowest .result) _ (s .pre .1) (c .too-long-with-gaps .ensures))
 
 returns : tie.Need-returns Inv-loop μ-loop
 returns c =
@@ -23,7 +25,9 @@ returns c =
     let e = c .before .before in
     let d = e .before .before .before .before in
     let l = d .before .before .before in
-    cutting-refuted (l .loop .inv) (d .before .lowest .ensures) (exceeds-from (l .before .args .t .now) (l .before .args .grown .axis) (d .before .lowest .result) _ (l .before .pre .1) (e .too-long-with-gaps .ensures)) (r .result)
+    let s = l .before in
+    cutting-refuted (l .loop .inv) (d .before .lowest .ensures)
+    (exceeds-from (s .args .t .now) (s .args .grown .axis) (d .before .lowest .result) _ (s .pre .1) (e .too-long-with-gaps .ensures)) (r .result)
     (c .if1 .taken) (r .ensures)
 
 loop-again : tie.Need-loop-again Inv-loop μ-loop
@@ -32,7 +36,9 @@ loop-again c =
     let e = c .before .before in
     let d = e .before .before .before .before in
     let l = d .before .before .before in
-    cutting-next (l .loop .inv) (d .before .lowest .ensures) (exceeds-from (l .before .args .t .now) (l .before .args .grown .axis) (d .before .lowest .result) _ (l .before .pre .1) (e .too-long-with-gaps .ensures))
+    let s = l .before in
+    cutting-next (l .loop .inv) (d .before .lowest .ensures)
+    (exceeds-from (s .args .t .now) (s .args .grown .axis) (d .before .lowest .result) _ (s .pre .1) (e .too-long-with-gaps .ensures))
     (d .rest .ensures) (r .result) (c .if1 .left) (r .ensures)
 
 pub cut-with-gaps-spec : {M : Type 1} → Rattle.chains.proofs.cuts.cut_with_gaps.Statement.statement M

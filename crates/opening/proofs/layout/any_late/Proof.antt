@@ -1,5 +1,5 @@
 -- `opening::layout::any_late` meets its contract. Invariant: none of the first i precedences is longer than the container. Measure: the precedences left.
-use Rattle.prelude.specs.Names.{needs, arith, _≡_, ℕ, _+_, _-_, _≤_, _<_, getD, length}
+use Rattle.prelude.specs.Names.{needs, arith, _≡_, ℕ, _-_, _≤_, _<_, getD, length}
 use Rattle.chains.specs.Totals.{capacity-at}
 use Rattle.parts.specs.Sizes.{no-precedence}
 use Rattle.nodes.proofs.Loops.{below-more}

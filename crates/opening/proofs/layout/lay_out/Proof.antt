@@ -56,7 +56,8 @@ returns-3 c =
     let s = c .before .before in
     let l = s .before .before .before .before .before .before in
     let b = l .before .before in
-    all-fits (b .before .before .args .instance) (b .totals-of .ensures .0) (rw (s .before .before .before .before .before .if1 .left) at (l .any-large .ensures))
+    all-fits (b .before .before .args .instance) (b .totals-of .ensures .0)
+    (rw (s .before .before .before .before .before .if1 .left) at (l .any-large .ensures))
     (s .put-steps .ensures) (c .put-lags .ensures)
 
 pub lay-out-spec : {M : Type 1} → Rattle.opening.proofs.layout.lay_out.Statement.statement M

@@ -1,5 +1,5 @@
 -- `opening::layout::order_len` meets its contract.
-use Rattle.prelude.specs.Names.{needs, arith, refl, _+_}
+use Rattle.prelude.specs.Names.{needs, arith, _+_}
 use mir.Syntax.{w8}
 use mir.Val.{Fits}
 use Rattle.opening.proofs.layout.order_len.Tie as tie
