@@ -7,7 +7,7 @@ use Rattle.formats.specs.Reading.{Read, got, refused, read-as}
 use Rattle.parts.specs.declared.Precedence.{Precedence}
 use Rattle.parts.specs.Sizes.{no-precedence}
 use Rattle.parts.specs.Precedences.{Arc, arc-of, lag-of, lagged, unlagged}
-use Rattle.parts.specs.Parts.{all-zero}
+use Rattle.parts.specs.Parts.{lags-zero}
 use Rattle.parts.proofs.Laws.{zeros-zero}
 use Rattle.lists.specs.Lists.{padded, with-lags}
 use Rattle.lists.proofs.Rows.{padded-next}
@@ -20,11 +20,11 @@ byte-next room s i h l =
     ap (λ (k : ℕ). set (padded room 0 (take i s)) k (getD s i 0)) (sym e) ∙ n ∙ rw (add-one, take-suc s i 0 h)
 
 -- blanks are lags of 0
-pub padded-zero : (room : ℕ) (gs : List ℕ) → all-zero (padded room 0 gs) ≡ all-zero gs
-unfolding all-zero
+pub padded-zero : (room : ℕ) (gs : List ℕ) → lags-zero (padded room 0 gs) ≡ lags-zero gs
+unfolding lags-zero
 padded-zero room gs = go gs (room - length gs)
   where
-    go : (gs : List ℕ) (k : ℕ) → all-zero (gs ++ replicate k 0) ≡ all-zero gs
+    go : (gs : List ℕ) (k : ℕ) → lags-zero (gs ++ replicate k 0) ≡ lags-zero gs
     go [] k = zeros-zero k
     go (g ∷ gs) k = rw (go gs k)
 

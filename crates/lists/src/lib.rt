@@ -7,7 +7,7 @@ ghost use Rattle.formats.specs.Reading.{run, read-as};
 ghost use Rattle.formats.specs.Fields.{optional-reading};
 ghost use Rattle.parts.specs.Answers.{PlacesFit};
 ghost use Rattle.parts.specs.Precedences.{arc-of, unlagged, all-allowed};
-ghost use Rattle.parts.specs.Parts.{all-zero, lag-list};
+ghost use Rattle.parts.specs.Parts.{lags-zero, lag-list};
 ghost use Rattle.parts.specs.Sizes.{no-item, no-precedence, all-have-size};
 ghost use Rattle.sheet.specs.Sheet.{max-items, max-precedences, item-list, precedence-list};
 ghost use Rattle.lists.specs.Lists.{item-row, precedence-row, items-read, precedences-read, lags-read, with-lags, padded, Padded};
@@ -201,7 +201,7 @@ fn first_bytes(rest: &[u8], m: usize) -> [u8; MAX_PRECEDENCES]
 
 // No lag is above 0.
 fn all_zero(lags: [u8; MAX_PRECEDENCES]) -> bool
-    ensures { λ r. ⌜ r ≡ all-zero lags ⌝ }
+    ensures { λ r. ⌜ r ≡ lags-zero lags ⌝ }
 {
     let mut i: usize = 0;
     while i < MAX_PRECEDENCES {

@@ -1,6 +1,5 @@
 -- An instance's measures beside the totals of chains, item by item.
-use Rattle.prelude.specs.Names.{List, [], _⊎_, inl, inr, ⊎-elim, _≡_, refl, sym, _∙_, _≢_, ℕ, _+_, _*_, _%_, _≤_, _<_, decLt, arith, getD, set, length}
-use Rattle.prelude.specs.Names.{length-set, replicate}
+use Rattle.prelude.specs.Names.{List, [], _≡_, refl, sym, _∙_, _≢_, ℕ, _+_, _*_, _%_, _<_, decLt, arith, getD, set, length, length-set, replicate}
 use Rattle.model.proofs.Below.{below-three}
 use Rattle.model.specs.Problem.{Problem}
 use Rattle.model.specs.Wide.{wide}
@@ -13,7 +12,7 @@ use Rattle.instance.specs.declared.Instance.{Instance}
 use Rattle.instance.specs.Meaning.{measure-on, problem-of}
 use Rattle.nodes.proofs.Loops.{blank-at, written}
 use Rattle.chains.specs.Totals.{table, measure-at, capacity-at}
-use Rattle.opening.specs.Layout.{put, put-item, LaidOut, Plain}
+use Rattle.opening.specs.Layout.{put, put-item, LaidOut}
 
 -- A measure is put at its three places: what holds of it there, and of the other entries, holds of all
 put-at : (t : List ℕ) (i m : ℕ) → length t ≡ 696 → i < 30 → (P : ℕ → ℕ → Type 0) → ((j : ℕ) → j < 90 → j % 30 ≡ i → P j m)
@@ -75,11 +74,6 @@ module _ (items : List Item) (t₀ t : List ℕ) (u : ℕ) (h : u < 10) (small :
         (next-size 0 a w (omega arith) (out .alone 2 a w (omega arith) ha hw)) x d ∙ sym (next-size 60 a w (omega arith) refl);
   }
 
-  -- nothing lies between items yet
-  pub plain-next : Plain t → Plain (put-item t u s)
-  plain-next none a ha = item-at t u s (out .long) h (λ j v. j ≡ 93 + a → v ≡ 0) (λ b j hb hj e is. absurd (omega arith)) (λ j d is. rw is (none a ha))
-      (93 + a) refl
-
 -- the container alone, no items yet
 abbrev pub no-items : Size → List ℕ
 no-items c = set (set (set (replicate 696 0) 90 (c .width)) 91 (c .depth)) 92 (c .shifts)
@@ -91,23 +85,18 @@ module _ (c : Size) where
       (λ j _. written 0 P (set (replicate 696 0) 90 (c .width)) 91 (c .depth) (omega arith) y
       (λ j _. written 0 P (replicate 696 0) 90 (c .width) (omega arith) x (λ j _. rw (blank-at {A = ℕ} 0 696 j) (rest j)) j) j)
 
-  no-items-zero : (j : ℕ) → (j < 90) ⊎ (93 ≤ j) → getD (no-items c) j 0 ≡ 0
-  no-items-zero = no-items-at (λ j v. (j < 90) ⊎ (93 ≤ j) → v ≡ 0) (λ h. absurd (⊎-elim (λ l. omega arith) (λ l. omega arith) h))
-      (λ h. absurd (⊎-elim (λ l. omega arith) (λ l. omega arith) h)) (λ h. absurd (⊎-elim (λ l. omega arith) (λ l. omega arith) h)) (λ j h. refl)
-
-  pub no-items-plain : Plain (no-items c)
-  no-items-plain a ha = no-items-zero (93 + a) (inr (omega arith))
+  no-items-zero : (j : ℕ) → j < 90 → getD (no-items c) j 0 ≡ 0
+  no-items-zero = no-items-at (λ j v. j < 90 → v ≡ 0) (λ h. absurd (omega arith)) (λ h. absurd (omega arith)) (λ h. absurd (omega arith)) (λ j h. refl)
 
   pub laid-none : (items : List Item) → ((a : ℕ) → a < 3 → measure-on a c < 65536) → LaidOut (first-items items (no-items c) 0) (no-items c)
   laid-none items small = record {
     long = refl;
     small = no-items-at (λ j v. v < 65536) (small 0 (omega arith)) (small 1 (omega arith)) (small 2 (omega arith)) (λ j. omega arith);
     capacity = λ a ha. refl;
-    size = λ a u ha hu. no-items-zero (60 + a * 10 + u) (inl (omega arith)) ∙ sym (wide-past (first-items items (no-items c) 0) a u (omega arith));
+    size = λ a u ha hu. no-items-zero (60 + a * 10 + u) (omega arith) ∙ sym (wide-past (first-items items (no-items c) 0) a u (omega arith));
     alone = λ x a u d ha hu.
-        by-direction (λ x. table (no-items c) x a u ≡ 0) (no-items-zero (30 + a * 10 + u) (inl (omega arith)))
-        (no-items-zero (0 + a * 10 + u) (inl (omega arith))) x d
-        ∙ sym (no-items-zero (60 + a * 10 + u) (inl (omega arith)));
+        by-direction (λ x. table (no-items c) x a u ≡ 0) (no-items-zero (30 + a * 10 + u) (omega arith)) (no-items-zero (0 + a * 10 + u) (omega arith)) x d
+        ∙ sym (no-items-zero (60 + a * 10 + u) (omega arith));
   }
 
 -- all of them

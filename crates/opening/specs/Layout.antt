@@ -29,10 +29,6 @@ pub record LaidOut (p : Problem) (t : List ℕ) : Type 0 where
   pub size : (a u : ℕ) → a < 3 → u < 10 → measure-at t a u ≡ wide p .size a u
   pub alone : (x a u : ℕ) → Direction x → a < 3 → u < 10 → table t x a u ≡ measure-at t a u
 
--- nothing lies between any two items
-abbrev pub Plain : List ℕ → Type 0
-Plain t = (a : ℕ) → a < 3 → gapped-at t a ≡ 0
-
 -- "A piece above the hall's measure", or none
 abbrev pub LargeIf : List ℕ → Bool → Type 0
 LargeIf t true = (a : ℕ) × (u : ℕ) × (a < 3) × (u < 10) × (capacity-at t a < measure-at t a u)

@@ -9,7 +9,7 @@ ghost use Rattle.parts.specs.Precedences.{arc-of, all-allowed};
 ghost use Rattle.parts.specs.declared.Previous.{Previous};
 ghost use Rattle.instance.specs.Valid.{valid};
 ghost use Rattle.instance.specs.Meaning.{problem-of};
-ghost use Rattle.opening.specs.Layout.{put, put-item, Small, LaidOut, Plain, LargeIf, order-length, LateIf};
+ghost use Rattle.opening.specs.Layout.{put, put-item, Small, LaidOut, LargeIf, order-length, LateIf};
 ghost use Rattle.opening.specs.Layout.{RowStepped, Stepped, put-lag, LagsLaid, FitsIf};
 use chains::totals::CAPACITY;
 use chains::totals::GAPPED;
@@ -45,7 +45,7 @@ fn put_item(t: &mut [u16; TOTALS], u: usize, size: Size)
 // The measures of an instance, 0 past its items, with chains of one item each.
 fn totals_of(instance: Instance) -> [u16; TOTALS]
     requires { ⌜ instance .«item_count» ≤ 10 ⌝ }
-    ensures { λ r. ⌜ LaidOut (problem-of instance) r × Plain r ⌝ }
+    ensures { λ r. ⌜ LaidOut (problem-of instance) r ⌝ }
 {
     let n = instance.item_count;
     let items = instance.items;

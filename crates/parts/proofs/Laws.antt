@@ -11,7 +11,7 @@ use Rattle.parts.specs.declared.Item.{Item}
 use Rattle.parts.specs.declared.Previous.{Previous}
 use Rattle.parts.specs.Sizes.{positive}
 use Rattle.parts.specs.Precedences.{Arc, names-items, rises}
-use Rattle.parts.specs.Parts.{number, measure, measures, item-fields, item, precedence, precedence-tests, all-zero, lag-row, lag-list}
+use Rattle.parts.specs.Parts.{number, measure, measures, item-fields, item, precedence, precedence-tests, lags-zero, lag-row, lag-list}
 
 pub number-laws : (default : ℕ) → OptionalLaws (number default)
 unfolding number tested passes-all word
@@ -68,19 +68,19 @@ item-most i =
     simp length-append (omega (arith, number-most 1 (i .size .width), number-most 1 (i .size .depth), number-most 1 (i .size .shifts)))
 
 -- so many lags that are all 0 are the lags that are left out
-zeros : (m : ℕ) (gs : List ℕ) → length gs ≡ m → all-zero gs ≡ true → replicate m 0 ≡ gs
-unfolding all-zero
+zeros : (m : ℕ) (gs : List ℕ) → length gs ≡ m → lags-zero gs ≡ true → replicate m 0 ≡ gs
+unfolding lags-zero
 zeros zero [] e h = refl
 zeros (suc m) [] e h = absurd (omega arith)
 zeros zero (g ∷ gs) e h = absurd (omega arith)
 zeros (suc m) (g ∷ gs) e h =
-    let (a, b) = both-true (eqb g 0) (all-zero gs) h in
+    let (a, b) = both-true (eqb g 0) (lags-zero gs) h in
     let p = eqb-true g 0 a in
     let q = zeros m gs (omega arith) b in
     cc
 
-pub zeros-zero : (m : ℕ) → all-zero (replicate m 0) ≡ true
-unfolding all-zero
+pub zeros-zero : (m : ℕ) → lags-zero (replicate m 0) ≡ true
+unfolding lags-zero
 zeros-zero zero = refl
 zeros-zero (suc m) = zeros-zero m
 
@@ -89,10 +89,10 @@ unfolding lag-list lag-row tested passes-all
 lag-laws m = record {
   lawful = tested-lawful (row-lawful _ _ _ byte-lawful tt m) _;
   out = rw (eq-eqb _ m (length-replicate {A = ℕ} m 0)) (zeros-zero m);
-  only = λ gs h. let (a, b) = both-true (eqb (length gs) m) (all-zero gs) h in zeros m gs (eqb-true _ _ a) b;
+  only = λ gs h. let (a, b) = both-true (eqb (length gs) m) (lags-zero gs) h in zeros m gs (eqb-true _ _ a) b;
   apart = λ gs h.
-      let k : (not (all-zero gs) && true) ≡ true = both-true (lag-row m .valid gs) _ h .1 in
-      rw (not-true (all-zero gs) (both-true _ true k .0)) (and-false (eqb (length gs) m));
+      let k : (not (lags-zero gs) && true) ≡ true = both-true (lag-row m .valid gs) _ h .1 in
+      rw (not-true (lags-zero gs) (both-true _ true k .0)) (and-false (eqb (length gs) m));
 }
 
 -- a row of lags may be written where there are so many
@@ -106,7 +106,7 @@ row-counts (suc m) (g ∷ gs) = row-counts m gs ∙ rw eqb·suc-suc
 -- the field is written or left out, whatever the lags
 pub lag-valid : (m : ℕ) (gs : List ℕ) → optional-valid (lag-list m) gs ≡ eqb (length gs) m
 unfolding optional-valid lag-list tested passes-all
-lag-valid m gs = rw row-counts (either (eqb (length gs) m) (all-zero gs))
+lag-valid m gs = rw row-counts (either (eqb (length gs) m) (lags-zero gs))
   where
     either : (a b : Bool) → ((a && b) || (a && (not b && true))) ≡ a
     either true true = refl
@@ -119,11 +119,11 @@ unfolding row-bytes byte
 lag-row-bytes [] = refl
 lag-row-bytes (g ∷ gs) = rw (lag-row-bytes gs)
 
-pub lag-bytes : (m : ℕ) (gs : List ℕ) → optional-bytes (lag-list m) gs ≡ cond (eqb (length gs) m && all-zero gs) [] gs
+pub lag-bytes : (m : ℕ) (gs : List ℕ) → optional-bytes (lag-list m) gs ≡ cond (eqb (length gs) m && lags-zero gs) [] gs
 unfolding optional-bytes lag-list tested lag-row row
 lag-bytes m gs = rw lag-row-bytes
 
 -- one byte each, or none
 pub lags-most : (m : ℕ) (gs : List ℕ) → length (optional-bytes (lag-list m) gs) ≤ length gs
 lags-most m gs =
-    rw lag-bytes (elim (eqb (length gs) m && all-zero gs) as (λ b. length {A = ℕ} (cond b [] gs) ≤ length gs) [ true ↦ omega arith | false ↦ omega arith ])
+    rw lag-bytes (elim (eqb (length gs) m && lags-zero gs) as (λ b. length {A = ℕ} (cond b [] gs) ≤ length gs) [ true ↦ omega arith | false ↦ omega arith ])

@@ -10,7 +10,7 @@ use Rattle.formats.proofs.Run.{after, after-after, cond-after, run-then, read-a
 use Rattle.parts.specs.declared.Size.{Size}
 use Rattle.parts.specs.declared.Previous.{Previous}
 use Rattle.parts.specs.Precedences.{Arc, unlagged, names-items, rises}
-use Rattle.parts.specs.Parts.{number, measure, count-field, measures, size-fields, item-fields, item, precedence, precedence-tests, all-zero, lag-row}
+use Rattle.parts.specs.Parts.{number, measure, count-field, measures, size-fields, item-fields, item, precedence, precedence-tests, lags-zero, lag-row}
 use Rattle.parts.specs.Parts.{lag-list}
 
 -- one byte is read, or two, where they are there
@@ -84,7 +84,7 @@ lag-row-run (suc m) at (b ∷ rest) =
 -- the lags are tested once they are all read
 pub lags-run : (m at : ℕ) (present : Bool) (rest : List ℕ) → run (optional-reading (lag-list m) present) at rest
     ≡ cond (not present) (got (replicate m 0) at rest) (cond (ltb (length rest) m) (refused (EndsEarly (at + length rest)))
-    (cond (all-zero (take m rest)) (refused (NoLag at)) (got (take m rest) (at + m) (drop m rest))))
+    (cond (lags-zero (take m rest)) (refused (NoLag at)) (got (take m rest) (at + m) (drop m rest))))
 unfolding lag-list tested testing run
 lags-run m at true rest = simp (run-then, lag-row-run, cond-after)
 lags-run m at false rest = refl

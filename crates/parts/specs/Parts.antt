@@ -62,9 +62,9 @@ precedence-tests n last a =
     ∷ []
 
 -- no lag is above 0
-unfoldable pub all-zero : List ℕ → Bool
-all-zero [] = true
-all-zero (g ∷ gs) = eqb g 0 && all-zero gs
+unfoldable pub lags-zero : List ℕ → Bool
+lags-zero [] = true
+lags-zero (g ∷ gs) = eqb g 0 && lags-zero gs
 
 -- the lags of m orders: "one byte for each order in its sequence, 0 to 255"
 unfoldable pub lag-row : ℕ → Format (List ℕ)
@@ -74,6 +74,6 @@ lag-row = row byte (λ (_ : Unit {0}) _. []) (λ p _. p) tt
 unfoldable pub lag-list : ℕ → Optional (List ℕ)
 lag-list m = record {
   default = replicate m 0;
-  left-out = λ gs. eqb (length gs) m && all-zero gs;
-  written = tested (lag-row m) λ gs. record { fault = all-zero gs; refusal = NoLag } ∷ [];
+  left-out = λ gs. eqb (length gs) m && lags-zero gs;
+  written = tested (lag-row m) λ gs. record { fault = lags-zero gs; refusal = NoLag } ∷ [];
 }

@@ -15,7 +15,7 @@ use Rattle.formats.proofs.Spans.{spans-untested, Unknown, spans-map, Miscounted
 use Rattle.parts.specs.declared.Size.{Size}
 use Rattle.parts.specs.declared.Previous.{Previous}
 use Rattle.parts.specs.declared.Previous.the-variants.{Nothing, Was}
-use Rattle.parts.specs.Parts.{number, measure, measures, item-fields, item, precedence, precedence-tests, all-zero, lag-row, lag-list}
+use Rattle.parts.specs.Parts.{number, measure, measures, item-fields, item, precedence, precedence-tests, lags-zero, lag-row, lag-list}
 use Rattle.parts.specs.Precedences.{Arc, unlagged, names-items, above, rises}
 use Rattle.parts.specs.Sizes.{no-item}
 use Rattle.parts.proofs.Laws.{lag-laws}
@@ -60,13 +60,13 @@ not-above a b c d = (
 )
 
 -- no lag of so many is above 0
-no-lags : (n : ℕ) (x : ℕ → ℕ) → (all-zero (up-to n x) ≡ true) ↔ ((i : ℕ) → i < n → x i ≡ 0)
-unfolding all-zero
+no-lags : (n : ℕ) (x : ℕ → ℕ) → (lags-zero (up-to n x) ≡ true) ↔ ((i : ℕ) → i < n → x i ≡ 0)
+unfolding lags-zero
 no-lags zero x = (λ _ i l. absurd (omega arith), λ _. refl)
 no-lags (suc n) x =
     let (to, from) = no-lags n (λ k. x (suc k)) in (
       λ h.
-          let (a, b) = both-true (eqb (x 0) 0) (all-zero (up-to n (λ k. x (suc k)))) h in
+          let (a, b) = both-true (eqb (x 0) 0) (lags-zero (up-to n (λ k. x (suc k)))) h in
           elim [ zero ↦ λ _. eqb-true _ _ a | suc i ↦ λ l. to b i (omega arith) ],
       λ h. rw (eq-eqb (x 0) 0 (h 0 (omega arith))) (from (λ i l. h (suc i) (omega arith))),
     )
@@ -207,7 +207,7 @@ module _ (s : List ℕ) where
       (at + cond bit m 0) (LagsFault m bit at)
   unfolding lag-list
   spans-lags m true at =
-      spans-as s (spans-one-test s (lag-row m) all-zero NoLag (no-lag-inside s (omega arith)) (no-lags m _) (spans-lag-row m at))
+      spans-as s (spans-one-test s (lag-row m) lags-zero NoLag (no-lag-inside s (omega arith)) (no-lags m _) (spans-lag-row m at))
       (λ e. (λ w. (refl, w), λ (_, w). w))
   spans-lags m false at =
       rw (add-zero, ← (left-out-lags m)) (spans-as s (spans-done s _ at) (λ e. (λ w. absurd w, λ (q, _). absurd (false≢true q))))

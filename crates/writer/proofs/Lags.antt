@@ -4,7 +4,7 @@ use lib.ListN.{length-map}
 use Rattle.formats.specs.Fields.{flag}
 use Rattle.parts.specs.declared.Precedence.{Precedence}
 use Rattle.parts.specs.Precedences.{lag-of}
-use Rattle.parts.specs.Parts.{all-zero, lag-list}
+use Rattle.parts.specs.Parts.{lags-zero, lag-list}
 use Rattle.parts.specs.Sizes.{no-precedence}
 use Rattle.parts.proofs.Laws.{lag-bytes}
 use Rattle.writer.specs.Lists.{lags-bytes}
@@ -19,11 +19,11 @@ module _ (m : ℕ) (xs : List Precedence) (there : m ≤ length xs) where
   lags-counted = length-map (take m xs) lag-of ∙ length-take-le m xs there
 
   -- the bit and the bytes of the field
-  pub lags-flag : flag (lag-list m) (map lag-of (take m xs)) ≡ cond (all-zero (map lag-of (take m xs))) 0 1
+  pub lags-flag : flag (lag-list m) (map lag-of (take m xs)) ≡ cond (lags-zero (map lag-of (take m xs))) 0 1
   unfolding flag lag-list
   lags-flag = rw (eq-eqb _ m lags-counted)
 
-  pub lags-are : lags-bytes m xs ≡ cond (all-zero (map lag-of (take m xs))) [] (map lag-of (take m xs))
+  pub lags-are : lags-bytes m xs ≡ cond (lags-zero (map lag-of (take m xs))) [] (map lag-of (take m xs))
   lags-are = lag-bytes m (map lag-of (take m xs)) ∙ rw (eq-eqb _ m lags-counted)
 
   -- the next one

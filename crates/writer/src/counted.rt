@@ -6,7 +6,7 @@ ghost use lib.Seq.{sets};
 ghost use mathlib.Core.List.{map};
 ghost use Rattle.formats.specs.Fields.{flag};
 ghost use Rattle.parts.specs.Precedences.{lag-of};
-ghost use Rattle.parts.specs.Parts.{count-bytes, all-zero, lag-list};
+ghost use Rattle.parts.specs.Parts.{count-bytes, lags-zero, lag-list};
 ghost use Rattle.sheet.specs.Sheet.{max-items, max-precedences};
 ghost use Rattle.writer.specs.Lists.{items-bytes, precedences-bytes, lags-bytes};
 use instance::Instance;
@@ -71,7 +71,7 @@ pub fn write_precedences(
 // No lag of the first m precedences is above 0.
 fn no_lags(precedences: [Precedence; Instance::MAX_PRECEDENCES], m: usize) -> bool
     requires { ⌜ m ≤ max-precedences ⌝ }
-    ensures { λ r. ⌜ r ≡ all-zero (map lag-of (take m precedences)) ⌝ }
+    ensures { λ r. ⌜ r ≡ lags-zero (map lag-of (take m precedences)) ⌝ }
 {
     let mut i: usize = 0;
     while i < m {

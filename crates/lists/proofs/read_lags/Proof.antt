@@ -4,7 +4,7 @@ use Rattle.prelude.specs.Names.{length, drop, take, replicate, add-zero, length
 use Rattle.refusal.specs.declared.Refusal.the-variants.{NoLag}
 use Rattle.formats.specs.Reading.{run, got, refused}
 use Rattle.formats.specs.Fields.{optional-reading}
-use Rattle.parts.specs.Parts.{all-zero, lag-list}
+use Rattle.parts.specs.Parts.{lags-zero, lag-list}
 use Rattle.parts.proofs.Readers.{lags-run}
 use Rattle.lists.specs.Lists.{padded, Padded}
 use Rattle.lists.proofs.Counted.{padded-first, padded-filled, all-blank}
@@ -30,8 +30,8 @@ module _ (m : ℕ) (s lags : List ℕ) (e : lags ≡ padded 90 0 (take m s)) (th
 
   -- are tested as they are
   tested : (at : ℕ) (present : Bool) → not present ≡ false → run (optional-reading (lag-list m) present) at s
-      ≡ cond (all-zero lags) (refused (NoLag at)) (got (take m lags) (at + m) (drop m s))
-  tested at present p = lags-run m at present s ∙ simp (p, le-ltb _ _ there, first, ap all-zero e ∙ padded-zero 90 (take m s))
+      ≡ cond (lags-zero lags) (refused (NoLag at)) (got (take m lags) (at + m) (drop m s))
+  tested at present p = lags-run m at present s ∙ simp (p, le-ltb _ _ there, first, ap lags-zero e ∙ padded-zero 90 (take m s))
 
 there : (c : tie.After-all-zero) →
     let b = c .before in let a = b .before .before .before .before .args in let gs = b .first-bytes .result in

@@ -3,13 +3,13 @@ use Rattle.prelude.specs.Names.{needs, arith, _-_, _≤_, _<_}
 use mir.Syntax.{w16}
 use mir.Val.{Fits}
 use Rattle.model.proofs.Below.{below-three}
-use Rattle.opening.specs.Layout.{LaidOut, Plain}
+use Rattle.opening.specs.Layout.{LaidOut}
 use Rattle.instance.specs.Meaning.{measure-on}
-use Rattle.opening.proofs.Layouts.{first-items, no-items, no-items-plain, laid-none, laid-next, plain-next, laid-all}
+use Rattle.opening.proofs.Layouts.{first-items, no-items, laid-none, laid-next, laid-all}
 use Rattle.opening.proofs.layout.totals_of.Tie as tie
 
 abbrev Inv-loop : tie.InvT-loop
-Inv-loop n items t₀ u₀ t u = (u ≤ n) × LaidOut (first-items items t₀ u) t × Plain t
+Inv-loop n items t₀ u₀ t u = (u ≤ n) × LaidOut (first-items items t₀ u) t
 
 abbrev μ-loop : tie.MeasureT-loop
 μ-loop n items t₀ u₀ t u = n - u
@@ -19,11 +19,8 @@ loop-holds c =
     let i = c .before .before .args .instance in
     let x : Fits w16 (i .container .width) = search needs in
     let y : Fits w16 (i .container .depth) = search needs in
-    let z : Fits w16 (i .container .shifts) = search needs in (
-      omega arith,
-      laid-none (i .container) (i .items) (below-three (λ a. measure-on a (i .container) < 65536) (x .fits) (y .fits) (z .fits)),
-      no-items-plain (i .container),
-    )
+    let z : Fits w16 (i .container .shifts) = search needs in
+    (omega arith, laid-none (i .container) (i .items) (below-three (λ a. measure-on a (i .container) < 65536) (x .fits) (y .fits) (z .fits)))
 
 loop-again : tie.Need-loop-again Inv-loop μ-loop
 loop-again c =
@@ -31,17 +28,11 @@ loop-again c =
     let i = s .args .instance in
     let l = c .before .before .before .before .loop in
     let (is, x, y, z) = c .put-item .ensures in
-    let room : l .u < 10 = omega (arith, s .pre, c .before .before .before .loop-test .taken) in (
-      omega arith,
-      rw is (laid-next (i .items) (no-items (i .container)) (l .t) (l .u) room (below-three _ x y z) (l .inv .1)),
-      rw is (plain-next (i .items) (no-items (i .container)) (l .t) (l .u) room (below-three _ x y z) (l .inv .1) (l .inv .2)),
-    )
+    let room : l .u < 10 = omega (arith, s .pre, c .before .before .before .loop-test .taken) in
+    (omega arith, rw is (laid-next (i .items) (no-items (i .container)) (l .t) (l .u) room (below-three _ x y z) (l .inv .1)))
 
 pub totals-of-spec : {M : Type 1} → Rattle.opening.proofs.layout.totals_of.Statement.statement M
 totals-of-spec = tie.close (tie.spec Inv-loop μ-loop (λ c. search needs) (λ c. search needs) (λ c. search needs) (λ c. search needs)
     (λ c. search needs) (λ c. search needs) (λ c. search needs) loop-holds (λ c. search needs) (λ c. search needs)
     (λ c κs. (c .before .before .before .loop .inv .1 .long, omega arith)) (λ c. search needs) (λ c. search needs) loop-again
-    (λ c. let l = c .before .loop in (
-      laid-all (c .before .before .before .before .args .instance) (l .u) (omega (arith, l .inv .0)) (l .inv .1),
-      l .inv .2,
-    )))
+    (λ c. let l = c .before .loop in laid-all (c .before .before .before .before .args .instance) (l .u) (omega (arith, l .inv .0)) (l .inv .1)))
