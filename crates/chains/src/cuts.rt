@@ -60,7 +60,7 @@ fn above_with_gaps(t: &[u16; TOTALS], at: usize, steps: usize, sizes: usize, lim
 }
 
 // The items with which u is too long, by its total at `own` and theirs at `other`, where nothing lies between items.
-pub fn too_long(t: &[u16; TOTALS], own: usize, other: usize, a: usize, u: usize) -> u32
+fn too_long_plain(t: &[u16; TOTALS], own: usize, other: usize, a: usize, u: usize) -> u32
     requires { ⌜ Comparable (now t) own other a u ⌝ }
     requires { ⌜ gapped-at (now t) a ≡ 0 ⌝ }
     ensures { λ r. ⌜ Gives 10 r (λ v. above-both (now (t .entry)) own other a u v && not (eqb v u)) ⌝ }
@@ -70,13 +70,24 @@ pub fn too_long(t: &[u16; TOTALS], own: usize, other: usize, a: usize, u: usize)
 }
 
 // The same where something does.
-pub fn too_long_with_gaps(t: &[u16; TOTALS], own: usize, other: usize, a: usize, u: usize) -> u32
+fn too_long_with_gaps(t: &[u16; TOTALS], own: usize, other: usize, a: usize, u: usize) -> u32
     requires { ⌜ Comparable (now t) own other a u ⌝ }
     ensures { λ r. ⌜ Gives 10 r (λ v. above-both (now (t .entry)) own other a u v && not (eqb v u)) ⌝ }
 {
     let from = own + a * 10 + u;
     let limit = t[CAPACITY + a] - t[from];
     above_with_gaps(t, other + a * 10, STEPS + from * 10, SIZES + a * 10, limit) & (bit(u) ^ ITEMS)
+}
+
+// The same, whether something does or not.
+pub fn too_long(t: &[u16; TOTALS], own: usize, other: usize, a: usize, u: usize) -> u32
+    requires { ⌜ Comparable (now t) own other a u ⌝ }
+    ensures { λ r. ⌜ Gives 10 r (λ v. above-both (now (t .entry)) own other a u v && not (eqb v u)) ⌝ }
+{
+    if t[GAPPED + a] == 0 {
+        return too_long_plain(t, own, other, a, u);
+    }
+    too_long_with_gaps(t, own, other, a, u)
 }
 
 // An order of u, 1 or 2, is removed with the items of a set, with which it is left.
@@ -122,7 +133,7 @@ fn cut_ends(
         let u = lowest(left);
         left = rest(left);
         let line = Line { axis: a, item: u };
-        if !cut_item(k, rows, queue, 1, line, too_long(t, 0, STARTS, a, u)) {
+        if !cut_item(k, rows, queue, 1, line, too_long_plain(t, 0, STARTS, a, u)) {
             return false;
         }
     }
@@ -147,7 +158,7 @@ fn cut_starts(
         let v = lowest(left);
         left = rest(left);
         let line = Line { axis: a, item: v };
-        if !cut_item(k, rows, queue, 2, line, too_long(t, STARTS, 0, a, v)) {
+        if !cut_item(k, rows, queue, 2, line, too_long_plain(t, STARTS, 0, a, v)) {
             return false;
         }
     }

@@ -12,7 +12,7 @@ ghost use Rattle.instance.specs.Meaning.{problem-of};
 ghost use Rattle.domains.specs.Queue.{Good};
 ghost use Rattle.chains.specs.Totals.{Tabled};
 ghost use Rattle.opening.specs.Openings.{FixedIf, CutIf, RootedIf};
-use chains::cuts::too_long_with_gaps;
+use chains::cuts::too_long;
 use chains::totals::STARTS;
 use chains::totals::TOTALS;
 use domains::DOMAINS;
@@ -72,14 +72,7 @@ fn cut_pairs(
     while i < ROWS {
         let a = i / 10;
         let u = i % 10;
-        if !remove(
-            k,
-            rows,
-            queue,
-            a,
-            u,
-            too_long_with_gaps(t, 0, STARTS, a, u) << 10,
-        ) {
+        if !remove(k, rows, queue, a, u, too_long(t, 0, STARTS, a, u) << 10) {
             return false;
         }
         i = i + 1;

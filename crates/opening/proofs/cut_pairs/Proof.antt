@@ -17,7 +17,7 @@ returns c =
     let b = c .before .before .before .before .before .before .before in
     let f = c .before .remove in
     let (long, none) = rw (not-true (f .result) (c .if1 .taken)) at (f .ensures) in
-    let g = c .before .before .too-long-with-gaps .ensures in
+    let g = c .before .before .too-long .ensures in
     (long, pairs-refuted _ _ _ _ (omega arith) (omega arith) g (b .loop .i) (omega arith) (b .loop .inv .1) (b .before .pre .0 .least) none)
 
 loop-again : tie.Need-loop-again Inv-loop μ-loop
@@ -25,7 +25,7 @@ loop-again c =
     let b = c .before .before .before .before .before .before .before in
     let f = c .before .remove in
     let n = rw (not-false (f .result) (c .if1 .left)) at (f .ensures) in
-    let g = c .before .before .too-long-with-gaps .ensures in
+    let g = c .before .before .too-long .ensures in
     let (next, outside) =
     pairs-next _ _ _ _ (omega arith) (omega arith) g (b .loop .i) (omega arith) (b .loop .inv .1) (b .before .pre .0 .least) n (b .before .pre .1)
     (b .loop .inv .2) in
@@ -36,6 +36,6 @@ cut-pairs-spec = tie.close (tie.spec Inv-loop μ-loop (λ c. (omega arith, cut-s
     (λ c κs. let s = c .before .before .before .before .before in
     record { tabled = s .pre .1; aligned = refl; other = refl; axis = omega arith; item = omega arith })
     (λ c κs. let b = c .before .before .before .before .before in
-    (b .loop .inv .1 .grown .good, pairs-askable (b .before .args .t .now) _ _ _ (omega arith) (omega arith) (c .too-long-with-gaps .ensures))) returns
+    (b .loop .inv .1 .grown .good, pairs-askable (b .before .args .t .now) _ _ _ (omega arith) (omega arith) (c .too-long .ensures))) returns
     (λ c. omega arith) (λ c. omega arith) loop-again
     (λ c. (cut-end (c .before .loop .i) (c .loop-test .left) (c .before .loop .inv .1), c .before .loop .inv .2)))

@@ -15,7 +15,7 @@ cut-starts-spec = tie.close (tie.spec Inv-loop μ-loop (λ c. cutting-start (ome
     (λ c κs. let d = c .before .before .before in let l = d .before .before .before in
     (cutting-compared (l .loop .inv) (d .before .lowest .ensures), l .before .pre .1))
     (λ c κs. let d = c .before .before .before .before in
-    cutting-given (d .before .before .before .loop .inv) (d .before .lowest .ensures) (c .too-long .ensures))
+    cutting-given (d .before .before .before .loop .inv) (d .before .lowest .ensures) (c .too-long-plain .ensures))
     (λ c. let r = c .before .cut-item in let e = c .before .before in let d = e .before .before .before .before in
-    cutting-refuted (d .before .before .before .loop .inv) (d .before .lowest .ensures) (e .too-long .ensures) (r .result) (c .if1 .taken) (r .ensures))
+    cutting-refuted (d .before .before .before .loop .inv) (d .before .lowest .ensures) (e .too-long-plain .ensures) (r .result) (c .if1 .taken) (r .ensures))
     (λ c. search needs) (λ c. search cutting-next) (λ c. search cutting-end))

@@ -1,10 +1,8 @@
 -- `chains::cuts::too_long` meets its contract.
 use Rattle.prelude.specs.Names.{needs}
-use Rattle.chains.proofs.Cutting.{compared, too-long-plain}
 use Rattle.chains.proofs.cuts.too_long.Tie as tie
 
 pub too-long-spec : {M : Type 1} → Rattle.chains.proofs.cuts.too_long.Statement.statement M
-too-long-spec = tie.close (tie.spec (λ c. search needs) (λ c. search needs) (λ c. search needs) (λ c. search needs) (λ c. search needs)
-    (λ c. search needs) (λ c. search needs) (λ c. search needs) (λ c. search compared) (λ c. search needs) (λ c. search needs) (λ c κs. search needs)
-    (λ c κs. search needs) (λ c. let s = c .before .before .before .before in
-    rw (c .bit .ensures .0) (too-long-plain (s .pre .0) (s .pre .1) (c .before .above .ensures))))
+too-long-spec = tie.close (tie.spec (λ c. search needs) (λ c. search needs) (λ c. search needs)
+    (λ c κs. (c .before .before .pre, c .if1 .taken)) (λ c. c .too-long-plain .ensures) (λ c κs. c .before .before .pre)
+    (λ c. c .too-long-with-gaps .ensures))
