@@ -120,7 +120,7 @@ fn put_row(t: &mut [u16; TOTALS], i: usize, a: usize)
     }
 }
 
-// All sixty rows.
+// All sixty rows: of each direction, axis and item.
 fn put_steps(t: &mut [u16; TOTALS])
     requires { ⌜ length (now t) ≡ 696 ⌝ }
     ensures { λ _. ⌜ Stepped 60 (now (t .entry)) (now (t .exit)) ⌝ }
@@ -147,7 +147,7 @@ fn put_lag(t: &mut [u16; TOTALS], u: usize, v: usize, lag: u16)
     }
 }
 
-// The lags of the first m precedences, where none was put.
+// The lags of the first m precedences, where no lag was put yet.
 fn put_lags(t: &mut [u16; TOTALS], precedences: [Precedence; Instance::MAX_PRECEDENCES], m: usize)
     requires { ⌜ (length (now t) ≡ 696) × (m ≤ max-precedences) × (all-allowed 10 Previous.Nothing (map arc-of (take m precedences)) ≡ true) ⌝ }
     requires { ⌜ LateIf (now t) precedences m false × Small (now t) ⌝ }
@@ -166,12 +166,13 @@ fn put_lags(t: &mut [u16; TOTALS], precedences: [Precedence; Instance::MAX_PRECE
     }
 }
 
-// An instance's measures with the steps of its chains; or that something is too large.
+// An instance's measures with the steps of its chains; or that an item, or a precedence with its lag, is longer than the container.
 pub struct Layout {
     pub fits: bool,
     pub totals: [u16; TOTALS],
 }
 
+// Lays an instance out.
 pub fn lay_out(instance: Instance) -> Layout
     requires { ⌜ valid instance ≡ true ⌝ }
     ensures { λ r. ⌜ FitsIf (problem-of instance) (r .totals) (r .fits) ⌝ }
