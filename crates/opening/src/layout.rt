@@ -3,7 +3,7 @@ ghost use mathlib.Core.Path.{_≡_};
 ghost use mathlib.Core.Bool.{true, false};
 ghost use mathlib.Core.List.{map};
 ghost use Prim.Native.Nat.{_+_, _≤_, _<_};
-ghost use lib.ListN.{getD, length, take};
+ghost use lib.ListN.{getD, length, take, replicate};
 ghost use Rattle.sheet.specs.Sheet.{max-precedences};
 ghost use Rattle.parts.specs.Precedences.{arc-of, all-allowed};
 ghost use Rattle.parts.specs.declared.Previous.{Previous};
@@ -43,24 +43,22 @@ fn put_item(t: &mut [u16; TOTALS], u: usize, size: Size)
 }
 
 // The measures of an instance, 0 past its items, with chains of one item each.
-fn totals_of(instance: Instance) -> [u16; TOTALS]
-    requires { ⌜ instance .«item_count» ≤ 10 ⌝ }
-    ensures { λ r. ⌜ LaidOut (problem-of instance) r ⌝ }
+fn put_items(t: &mut [u16; TOTALS], instance: Instance)
+    requires { ⌜ (now t ≡ replicate 696 0) × (instance .«item_count» ≤ 10) ⌝ }
+    ensures { λ _. ⌜ LaidOut (problem-of instance) (now (t .exit)) ⌝ }
 {
     let n = instance.item_count;
     let items = instance.items;
     let container = instance.container;
-    let mut t = [0u16; TOTALS];
     t[CAPACITY] = container.width;
     t[CAPACITY + 1] = container.depth;
     t[CAPACITY + 2] = container.shifts;
     let mut u: usize = 0;
     while u < n {
         let item = items[u];
-        put_item(&mut t, u, item.size);
+        put_item(t, u, item.size);
         u = u + 1;
     }
-    t
 }
 
 // Whether an item is above the container's measure.
@@ -166,33 +164,22 @@ fn put_lags(t: &mut [u16; TOTALS], precedences: [Precedence; Instance::MAX_PRECE
     }
 }
 
-// An instance's measures with the steps of its chains; or that an item, or a precedence with its lag, is longer than the container.
-pub struct Layout {
-    pub fits: bool,
-    pub totals: [u16; TOTALS],
-}
-
-// Lays an instance out.
-pub fn lay_out(instance: Instance) -> Layout
-    requires { ⌜ valid instance ≡ true ⌝ }
-    ensures { λ r. ⌜ FitsIf (problem-of instance) (r .totals) (r .fits) ⌝ }
+// Lays an instance out, in an array of zeros: its measures with the steps of its chains. The answer is false where an item, or a precedence with its
+// lag, is longer than the container.
+pub fn lay_out(t: &mut [u16; TOTALS], instance: Instance) -> bool
+    requires { ⌜ (now t ≡ replicate 696 0) × (valid instance ≡ true) ⌝ }
+    ensures { λ r. ⌜ FitsIf (problem-of instance) (now (t .exit)) r ⌝ }
 {
     let precedences = instance.precedences;
     let m = instance.precedence_count;
-    let mut totals = totals_of(instance);
-    if any_large(&totals) {
-        return Layout {
-            fits: false,
-            totals,
-        };
+    put_items(t, instance);
+    if any_large(t) {
+        return false;
     }
-    if any_late(&totals, precedences, m) {
-        return Layout {
-            fits: false,
-            totals,
-        };
+    if any_late(t, precedences, m) {
+        return false;
     }
-    put_steps(&mut totals);
-    put_lags(&mut totals, precedences, m);
-    Layout { fits: true, totals }
+    put_steps(t);
+    put_lags(t, precedences, m);
+    true
 }

@@ -99,9 +99,8 @@ pub fn root_of(instance: Instance) -> Root
     ensures { λ r. ⌜ RootedIf (problem-of instance) r (r .consistent) ⌝ }
 {
     let precedences = instance.precedences;
-    let layout = layout::lay_out(instance);
-    let totals = layout.totals;
-    if !layout.fits {
+    let mut totals = [0u16; TOTALS];
+    if !layout::lay_out(&mut totals, instance) {
         return no_root(totals);
     }
     let mut domains = [7u8; DOMAINS];
