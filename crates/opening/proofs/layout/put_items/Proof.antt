@@ -5,7 +5,7 @@ use mir.Val.{Fits}
 use Rattle.model.proofs.Below.{below-three}
 use Rattle.opening.specs.Layout.{LaidOut}
 use Rattle.instance.specs.Meaning.{measure-on}
-use Rattle.opening.proofs.Layouts.{first-items, no-items, laid-none, laid-next, laid-all}
+use Rattle.opening.proofs.Layouts.{first-items, laid-none, laid-next, laid-all}
 use Rattle.opening.proofs.layout.put_items.Tie as tie
 
 abbrev Inv-loop : tie.InvT-loop
