@@ -193,9 +193,6 @@ gives-part m s = record { small = and-small-right 10 (m / 2 ^ s) 1023 (omega ari
 pub gives-first : (m : ℕ) → Gives 10 (bitAnd m 1023) (λ v. bit-at m (0 * 10 + v))
 gives-first m = record { small = and-small-right 10 m 1023 (omega arith); is = λ v h. simp (bit-and, bit-first, bit-ones 10 v h, and-true) }
 
--- Numbers as the code computes them: a bit's part of a domain, and where a domain stands
+-- A bit's part of a domain as the code computes it
 pub weigh : (x c : ℕ) → cond (odd x) c 0 ≡ x % 2 * c
 weigh x c = elim (mod-two x) [ inl e ↦ rw e (omega arith) | inr e ↦ rw e (omega arith) ]
-
-pub square-small : (v : ℕ) → v < 10 → v * (v - 1) < 100
-square-small v h = ltb-true _ 100 (all-at 10 (λ v. ltb (v * (v - 1)) 100) refl v h)

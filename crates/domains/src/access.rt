@@ -6,13 +6,14 @@ ghost use Rattle.model.specs.Domains as D;
 ghost use Rattle.model.specs.Order.{Rising};
 ghost use Rattle.domains.specs.Access.{Removable};
 use crate::DOMAINS;
+use pairs::pair_number;
 
 // Where the domain of u < v stands.
 pub fn index(a: usize, u: usize, v: usize) -> usize
     requires { ⌜ Rising 10 a u v ⌝ }
     ensures { λ r. ⌜ (r ≡ D.index a u v) × (r < 135) ⌝ }
 {
-    (v * (v - 1) / 2 + u) * 3 + a
+    pair_number(u, v) * 3 + a
 }
 
 // A domain without one of its relations.

@@ -2,7 +2,7 @@
 use Rattle.prelude.specs.Names.{Bool, true, false, not, _&&_, _||_, false≢true, Bool-discrete, _↔_, _⊎_, inl, inr, ⊎-elim, _≡_, refl, sym, _∙_, ap, ℕ}
 use Rattle.prelude.specs.Names.{zero, suc, _≤_, _<_, eq-or-lt-of-le, le-of-suc-le-suc, decLe, arith, ltb, getD, length, ltb-true, lt-ltb, not-true}
 use Rattle.prelude.specs.Names.{not-false, List, [], _∷_, List·Memᴰ, List·Memᴰ·head, List·Memᴰ·tail, List·Memᴰ·not-nil, List·Memᴰ·cases-cons}
-use Rattle.model.specs.Below.{some-below, all-below, most-below, all-in, first-in}
+use Rattle.model.specs.Below.{some-below, all-below, most-below, all-in, first-below}
 
 -- where the first test passes, so does the second
 abbrev pub Implies : Bool → Bool → Type 0
@@ -168,31 +168,35 @@ most-some (suc n) f h = elim (decLe (most-below n f) (f n)) [
   | no l ↦ (let (i, li, e) = most-some n f (omega arith) in (i, omega arith, omega arith))
 ]
 
--- the first element of a list that passes: it is found if some element passes, and it is the one before which none does
-pub record First {A : Type 0} (f : A → Bool) (d : A) (l : List A) (j : ℕ) : Type 0 where
-  pub within : j < length l
-  pub passes : f (getD l j d) ≡ true
-  pub earlier : (m : ℕ) → m < j → f (getD l m d) ≡ false
+-- the first number below n that passes: it is found if some number passes, and it is the one before which none does
+pub record First (n : ℕ) (f : ℕ → Bool) (j : ℕ) : Type 0 where
+  pub within : j < n
+  pub passes : f j ≡ true
+  pub earlier : (i : ℕ) → i < j → f i ≡ false
 
-pub first-is : {A : Type 0} (f : A → Bool) (d : A) (l : List A) (j : ℕ) → First f d l j → first-in f d l ≡ getD l j d
-first-is f d [] j h = absurd (omega (arith, h .within))
-first-is f d (x ∷ l) zero h = rw (h .passes, first-in)
-first-is f d (x ∷ l) (suc j) h =
-    rw (h .earlier zero (omega arith), first-in)
-    (first-is f d l j (record { within = omega (arith, h .within); passes = h .passes; earlier = λ m g. h .earlier (suc m) (omega arith) }))
+first-none : (n : ℕ) (f : ℕ → Bool) (d : ℕ) → ((i : ℕ) → i < n → f i ≡ false) → first-below n f d ≡ d
+first-none zero f d h = refl
+first-none (suc n) f d h = first-none n f _ (λ i l. h i (omega arith)) ∙ rw (h n (omega arith))
 
-pub first-exists : {A : Type 0} (f : A → Bool) (d : A) (l : List A) (i : ℕ) → i < length l → f (getD l i d) ≡ true → (j : ℕ) × (j ≤ i) × First f d l j
-first-exists f d [] i h e = absurd (omega arith)
-first-exists f d (x ∷ l) zero h e = (zero, omega arith, record { within = omega arith; passes = e; earlier = λ m g. absurd (omega arith) })
-first-exists f d (x ∷ l) (suc i) h e = elim (Bool-discrete (f x) true) [
-  | yes q ↦ (zero, omega arith, record { within = omega arith; passes = q; earlier = λ m g. absurd (omega arith) })
-  | no n ↦ (let (j, le, r) = first-exists f d l i (omega arith) e in (
-    suc j,
-    omega arith,
-    record {
-      within = omega (arith, r .within);
-      passes = r .passes;
-      earlier = elim [ zero ↦ λ g. refuted _ n | suc m ↦ λ g. r .earlier m (omega arith) ];
-    },
-  ))
+pub first-is : (n : ℕ) (f : ℕ → Bool) (d j : ℕ) → First n f j → first-below n f d ≡ j
+first-is zero f d j h = absurd (omega (arith, h .within))
+first-is (suc n) f d j h = elim (eq-or-lt-of-le (le-of-suc-le-suc (h .within))) [
+  | inl e ↦ (let p : f n ≡ true = rw e at (h .passes) in first-none n f _ (λ i l. h .earlier i (omega arith)) ∙ rw (p, e))
+  | inr l ↦ first-is n f _ j (record { within = l; passes = h .passes; earlier = h .earlier })
+]
+
+first-or-none : (n : ℕ) (f : ℕ → Bool) → ((i : ℕ) → i < n → f i ≡ false) ⊎ ((j : ℕ) × First n f j)
+first-or-none zero f = inl (λ i l. absurd (omega arith))
+first-or-none (suc n) f = elim (first-or-none n f) [
+  | inl none ↦ elim (Bool-discrete (f n) true) [
+    | yes q ↦ inr (n, record { within = omega arith; passes = q; earlier = none })
+    | no r ↦ inl (below-suc (λ i. f i ≡ false) n (refuted _ r) none)
+  ]
+  | inr (j, r) ↦ inr (j, record { within = omega (arith, r .within); passes = r .passes; earlier = r .earlier })
+]
+
+pub first-exists : (n : ℕ) (f : ℕ → Bool) (i : ℕ) → i < n → f i ≡ true → (j : ℕ) × (j ≤ i) × First n f j
+first-exists n f i h e = elim (first-or-none (suc i) f) [
+  | inl none ↦ absurd (clash e (none i (omega arith)))
+  | inr (j, r) ↦ (j, omega (arith, r .within), record { within = omega (arith, r .within); passes = r .passes; earlier = r .earlier })
 ]

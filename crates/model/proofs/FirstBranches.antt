@@ -3,27 +3,27 @@ use Rattle.prelude.specs.Names.{Bool, true, false, not, cond, _||_, List, [], _
 use Rattle.prelude.specs.Names.{arith, length, not-true, not-false}
 use Rattle.model.specs.Below.{all-below}
 use Rattle.model.specs.Problem.{Problem}
-use Rattle.model.specs.Domains.{Domains, Pair, pairs, pair-number, may-overlap, may-before, gone, without, fixed-before, remove-overlap}
-use Rattle.model.specs.Domains.{remove-before}
+use Rattle.model.specs.Pairs.{pair-number, pair-of}
+use Rattle.model.specs.Domains.{Domains, may-overlap, may-before, gone, without, fixed-before, remove-overlap, remove-before}
 use Rattle.model.specs.Propagate.{Slot, passes}
-use Rattle.model.specs.Branching.{separated, packed, undecided, choice-pair, choice-axis, choice, Branch, first, second, branch-at, branched}
-use Rattle.model.specs.Branching.{path-domains}
+use Rattle.model.specs.Branching.{separated, packed, undecided, pair-separated, choice-number, choice-axis, choice, Branch, first, second}
+use Rattle.model.specs.Branching.{branch-at, branched, path-domains}
 use Rattle.model.specs.Order.{Proper, WellFormed, _⊑_, Fork}
 use Rattle.model.specs.Admits.{Sound}
 use Rattle.model.specs.Search.{fork, Forking}
 use Rattle.model.specs.Run.{look}
-use Rattle.model.specs.FirstBranches.{firsts, saved, choice-number, Passed}
+use Rattle.model.specs.FirstBranches.{firsts, saved, Passed}
 use Rattle.model.proofs.Below.{fails, Implies, and-mono, or-mono, some-mono, all-of, none-at, or-neither, stays, First, first-is, first-exists}
 use Rattle.model.proofs.Below.{clash}
-use Rattle.model.proofs.Slots.{no-pair, pair-of, pairs-count, pair-number-small, pair-at-number, proper-sym}
+use Rattle.model.proofs.Pairs.{number-of-pair, pair-at-number}
+use Rattle.model.proofs.Slots.{pair-number-small, proper-sym}
 use Rattle.model.proofs.Domains.{may-overlap-sym, fixed-before-of}
 use Rattle.model.proofs.Without.{without-gone}
 use Rattle.model.proofs.Monotone.{gone-mono, may-overlap-mono, may-before-mono, fixed-before-mono}
 use Rattle.model.proofs.Propagate.{propagate-less}
-use Rattle.model.proofs.Fork.{axes, axis-at, unseparated-pair, choice-pair-is}
+use Rattle.model.proofs.Fork.{choice-number-is}
 use Rattle.model.proofs.Path.{path-branch, path-well-formed, path-less, path-fork}
 use Rattle.model.proofs.Search.{look-fork}
-pub use Rattle.model.proofs.Slots.{number-of-pair}
 
 -- A stack with a snapshot for each first branch is enough to go back
 pub saved-count : (path : List Branch) → length (saved path) ≡ firsts path
@@ -42,18 +42,13 @@ passed-mono j k m h r i l =
 
 module _ (p : Problem) (limited : p .items ≤ 10) (k : Domains) (f : Fork p k (choice k)) where
   -- the number of the choice is that of the first pair without a fixed "before"
-  choice-first : First (unseparated-pair k) no-pair pairs (choice-number k)
-  unfolding choice choice-number
+  choice-first : First 45 (λ i. not (pair-separated k i)) (choice-number k)
+  unfolding choice
   choice-first =
-      let c = choice-pair k in
-      let i = pair-number (c .u) (c .v) in
-      let l : c .v < 10 = omega arith in
-      let at : pair-of i ≡ c = pair-at-number (c .u) (c .v) (f .place .rising) l no-pair in
-      let small : i < 45 = pair-number-small (c .u) (c .v) (f .place .rising) l in
-      let (j, le, r) = first-exists (unseparated-pair k) no-pair pairs i (rw pairs-count small)
-      (ap (unseparated-pair k) at ∙ ap not (f .unseparated)) in
-      let e : i ≡ j = ap (λ (d : Pair). pair-number (d .u) (d .v)) (choice-pair-is k j r) ∙ number-of-pair j (omega arith) in
-      rw e r
+      let i = choice-number k in
+      let small = rw (number-of-pair i) at (pair-number-small (pair-of i .u) (pair-of i .v) (f .place .rising) (omega arith)) in
+      let (j, le, r) = first-exists 45 (λ i. not (pair-separated k i)) i small (ap not (f .unseparated)) in
+      rw (choice-number-is k j r) r
 
   choice-passed : Passed k (choice-number k)
   choice-passed i l = not-false _ (choice-first .earlier i l)
@@ -65,8 +60,8 @@ axis-least : (k : Domains) (u v b : ℕ) → b < 3 → undecided k b u v ≡ tru
 unfolding choice-axis
 axis-least k u v b h e =
     let f : ℕ → Bool = λ a. undecided k a u v in
-    let (j, le, r) = first-exists f 0 axes b h (rw (axis-at b h) e) in
-    omega (arith, first-is f 0 axes j r ∙ axis-at j (r .within))
+    let (j, le, r) = first-exists 3 f b h e in
+    omega (arith, first-is 3 f 0 j r)
 
 -- without overlap, an axis of a pair without a fixed "before" has both orders left
 module _ (k : Domains) (u v : ℕ) (open-pair : separated k u v ≡ false) (a : ℕ) (ha : a < 3) where
@@ -112,21 +107,18 @@ module _ (p : Problem) (limited : p .items ≤ 10) (k : Domains) (w : WellFormed
 
   -- while the choice is of one pair, its axis stays once overlap is removed
   module _ (same : choice-number k ≡ choice-number j) where
-    same-pair : choice-pair j ≡ choice-pair k
-    same-pair = choice-pair-is j _ (choice-first p limited j g) ∙ (ap pair-of (sym same) ∙ sym (choice-pair-is k _ (choice-first p limited k f)))
-
     still-open : separated j (c .u) (c .v) ≡ false
     unfolding choice
-    still-open = rw same-pair at (g .unseparated)
+    still-open = rw (sym same) at (g .unseparated)
 
     stays-halfway : may-overlap j (c .axis) (c .u) (c .v) ≡ false → halfway j ≡ 1
     unfolding choice halfway
     stays-halfway o =
         let up = axis-least j (c .u) (c .v) (c .axis) (f .place .axis) (both-orders j (c .u) (c .v) still-open (c .axis) (f .place .axis) o) in
-        let down = axis-least k (c .u) (c .v) (choice-axis j (c .u) (c .v)) (rw same-pair at (g .place .axis))
-        (undecided-mono j k less _ _ _ (rw same-pair at (g .several))) in
+        let down = axis-least k (c .u) (c .v) (choice-axis j (c .u) (c .v)) (rw (sym same) at (g .place .axis))
+        (undecided-mono j k less _ _ _ (rw (sym same) at (g .several))) in
         let e : choice-axis j (c .u) (c .v) ≡ c .axis = omega arith in
-        rw (same-pair, e, o)
+        rw (sym same, e, o)
 
     spent : (b : Branch) (o : Bool) → may-overlap k (c .axis) (c .u) (c .v) ≡ o → j ⊑ branch-at o b k (c .axis) (c .u) (c .v)
         → firsts (b ∷ []) + cond o 0 1 ≤ halfway j
@@ -174,7 +166,7 @@ module _ (p : Problem) (σ : Sound p) where
   pub fork-firsts-90 : (path : List Branch) → Forking (look p) path → look p path ≡ fork → firsts path < 90
   fork-firsts-90 path l e =
       let k = path-domains p path in
-      omega (arith, fork-firsts path l e, halfway-once k, rw pairs-count at (choice-first p (σ .limited) k (fork-at path e) .within))
+      omega (arith, fork-firsts path l e, halfway-once k, choice-first p (σ .limited) k (fork-at path e) .within)
 
   pub firsts-90 : (path : List Branch) → Forking (look p) path → firsts path ≤ 90
   firsts-90 [] l = omega arith
@@ -187,14 +179,12 @@ module _ (p : Problem) (σ : Sound p) where
       passed-mono (path-domains p (b ∷ path)) _ _ (path-less p b path) (choice-passed p (σ .limited) (path-domains p path) (fork-at path e))
 
 -- A look that starts at m finds the choice, or that all is packed
-pub first-from : (k : Domains) (m j : ℕ) → Passed k m → j < 45 → separated k (pair-of j .u) (pair-of j .v) ≡ false
-    → ((i : ℕ) → m ≤ i → i < j → separated k (pair-of i .u) (pair-of i .v) ≡ true) → First (unseparated-pair k) no-pair pairs j
+pub first-from : (k : Domains) (m j : ℕ) → Passed k m → j < 45 → pair-separated k j ≡ false
+    → ((i : ℕ) → m ≤ i → i < j → pair-separated k i ≡ true) → First 45 (λ i. not (pair-separated k i)) j
 first-from k m j r hj e f = record {
-  within = rw pairs-count hj;
+  within = hj;
   passes = ap not e;
-  earlier = λ i l.
-      let q : separated k (pair-of i .u) (pair-of i .v) ≡ true = elim (decLt i m) [ yes h ↦ r i h | no h ↦ f i (omega arith) l ] in
-      ap not q;
+  earlier = λ i l. let q : pair-separated k i ≡ true = elim (decLt i m) [ yes h ↦ r i h | no h ↦ f i (omega arith) l ] in ap not q;
 }
 
 pub packed-from : (p : Problem) → p .items ≤ 10 → (k : Domains) (m : ℕ) → Passed k m
@@ -202,6 +192,6 @@ pub packed-from : (p : Problem) → p .items ≤ 10 → (k : Domains) (m : ℕ) 
 unfolding packed
 packed-from p limited k m r f =
     all-of (p .items) (λ v. all-below v (λ u. separated k u v)) (λ v hv. all-of v (λ u. separated k u v) (λ u hu. elim (decLt (pair-number u v) m) [
-      | yes h ↦ ap (λ (d : Pair). separated k (d .u) (d .v)) (sym (pair-at-number u v hu (omega arith) no-pair)) ∙ r (pair-number u v) h
+      | yes h ↦ rw (pair-at-number u v hu) at (r (pair-number u v) h)
       | no h ↦ f u v hu hv (omega arith)
     ]))

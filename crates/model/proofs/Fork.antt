@@ -1,19 +1,19 @@
 -- Where domains at rest are neither inconsistent nor packed there is a place to branch, and the two branches split what is admitted.
-use Rattle.prelude.specs.Names.{Bool, true, false, not, _&&_, _||_, List, [], _∷_, _⊎_, inl, inr, _≡_, refl, _∙_, ap, ℕ, _≤_, _<_, arith, getD}
+use Rattle.prelude.specs.Names.{Bool, true, false, not, _&&_, _||_, _⊎_, inl, inr, _≡_, refl, _∙_, ℕ, _≤_, _<_, arith}
 use Rattle.prelude.specs.Names.{not-true}
 use Rattle.model.specs.Below.{all-below}
 use Rattle.model.specs.Problem.{Problem, Positions, EndsBefore}
-use Rattle.model.specs.Domains.{Domains, Pair, pairs, pair-number, may-overlap, may-before, without, fixed-before, fixed-overlap, fix-overlap}
+use Rattle.model.specs.Pairs.{pair-number, pair-of}
+use Rattle.model.specs.Domains.{Domains, may-overlap, may-before, without, fixed-before, fixed-overlap, fix-overlap}
 use Rattle.model.specs.Rules.{asks-overlap}
-use Rattle.model.specs.Branching.{inconsistent, separated, packed, undecided, choice-pair, choice-axis, choice, Branch, first, second}
-use Rattle.model.specs.Branching.{branch-at, branched}
+use Rattle.model.specs.Branching.{inconsistent, separated, packed, undecided, pair-separated, choice-number, choice-axis, choice, Branch}
+use Rattle.model.specs.Branching.{first, second, branch-at, branched}
 use Rattle.model.specs.Order.{Proper, WellFormed, _⊑_, AtRest, Fork}
 use Rattle.model.specs.Admits.{Sound, Overlaps, Admits}
 use Rattle.model.proofs.Below.{all-not, some-at, none-at, and-intro, or-left, or-neither, First, first-is, first-exists, stays, clash}
-use Rattle.model.proofs.Below.{below-three}
 use Rattle.model.proofs.Asks.{not-overlap, rule1-of}
-use Rattle.model.proofs.Slots.{no-pair, pair-of, pairs-count, pair-number-small, pair-at-number, pairs-rise, pairs-sorted, proper-sym}
-use Rattle.model.proofs.Slots.{proper-up}
+use Rattle.model.proofs.Pairs.{number-below, pair-rises, number-of-pair, pair-at-number, pair-below}
+use Rattle.model.proofs.Slots.{pair-number-small, proper-sym, proper-up}
 use Rattle.model.proofs.Domains.{may-overlap-sym, fixed-before-of, fixed-overlap-of, fixed-overlap-says}
 use Rattle.model.proofs.Without.{without-less, without-well-formed}
 use Rattle.model.proofs.Order.{sub-refl, sub-trans}
@@ -21,26 +21,18 @@ use Rattle.model.proofs.Ends.{ends?}
 use Rattle.model.proofs.Consistent.{relation-left}
 use Rattle.model.proofs.Admits.{not-both, without-admits, fix-overlap-admits}
 
-abbrev pub axes : List ℕ
-axes = 0 ∷ 1 ∷ 2 ∷ []
+-- The choice is the first by number
+pub choice-number-is : (k : Domains) (j : ℕ) → First 45 (λ i. not (pair-separated k i)) j → choice-number k ≡ j
+unfolding choice-number
+choice-number-is k j h = first-is 45 (λ i. not (pair-separated k i)) 0 j h
 
-pub axis-at : (a : ℕ) → a < 3 → getD axes a 0 ≡ a
-axis-at = below-three (λ a. getD axes a 0 ≡ a) refl refl refl
-
-abbrev pub unseparated-pair : Domains → Pair → Bool
-unseparated-pair k c = not (separated k (c .u) (c .v))
-
--- The choice is the first in the tables
-pub choice-pair-is : (k : Domains) (j : ℕ) → First (unseparated-pair k) no-pair pairs j → choice-pair k ≡ pair-of j
-unfolding choice-pair
-choice-pair-is k j h = first-is (unseparated-pair k) no-pair pairs j h
+pub choice-numbered : (k : Domains) → pair-number (choice k .u) (choice k .v) ≡ choice-number k
+unfolding choice
+choice-numbered k = number-of-pair (choice-number k)
 
 pub choice-axis-is : (k : Domains) (u v a : ℕ) → a < 3 → undecided k a u v ≡ true → ((b : ℕ) → b < a → undecided k b u v ≡ false) → choice-axis k u v ≡ a
 unfolding choice-axis
-choice-axis-is k u v a h e f =
-    first-is (λ (a : ℕ). undecided k a u v) 0 axes a
-    (record { within = h; passes = rw (axis-at a h) e; earlier = λ m l. rw (axis-at m (omega arith)) (f m l) })
-    ∙ axis-at a h
+choice-axis-is k u v a h e f = first-is 3 (λ a. undecided k a u v) 0 a (record { within = h; passes = e; earlier = f })
 
 -- At most one relation is left, and no "before" is fixed: overlap is
 lone-overlap : (o f b : Bool) → (o && (f || b) || f && b) ≡ false → (o ≡ false → b ≡ false → ⊥) → (o ≡ false → f ≡ false → ⊥) → (f ≡ false) × (b ≡ false)
@@ -71,10 +63,8 @@ module _ (p : Problem) (k : Domains) (rest : AtRest p k) (consistent : inconsist
     unfolding choice-axis
     choice-axis-undecided =
         let (a, ha, e) = some-at 3 (λ a. undecided k a u v) (stays _ (λ e. all-decided (none-at 3 (λ a. undecided k a u v) e))) in
-        let (j, le, r) = first-exists (λ (a : ℕ). undecided k a u v) 0 axes a ha (rw (axis-at a ha) e) in
-        let at = axis-at j (r .within) in
-        let found : choice-axis k u v ≡ j = first-is (λ (a : ℕ). undecided k a u v) 0 axes j r ∙ at in
-        (rw found (r .within), rw found (rw at at (r .passes)))
+        let (j, le, r) = first-exists 3 (λ a. undecided k a u v) a ha e in
+        rw (first-is 3 (λ a. undecided k a u v) 0 j r) (r .within, r .passes)
 
   -- the choice is a place to branch
   pub choice-fork : p .items ≤ 10 → packed p k ≡ false → Fork p k (choice k)
@@ -82,18 +72,14 @@ module _ (p : Problem) (k : Domains) (rest : AtRest p k) (consistent : inconsist
   choice-fork limited unpacked =
       let (v, hv, d) = all-not (p .items) (λ v. all-below v (λ u. separated k u v)) unpacked in
       let (u, hu, e) = all-not v (λ u. separated k u v) d in
-      let l : v < 10 = omega arith in
       let i = pair-number u v in
-      let at : pair-of i ≡ record { u = u; v = v } = pair-at-number u v hu l no-pair in
-      let small = pair-number-small u v hu l in
-      let (j, le, r) = first-exists (unseparated-pair k) no-pair pairs i (rw pairs-count small) (ap (unseparated-pair k) at ∙ ap not e) in
-      let same : choice-pair k ≡ pair-of j = choice-pair-is k j r in
-      let top : pair-of i .v ≡ v = ap (λ (c : Pair). c .v) at in
-      let rising : choice-pair k .u < choice-pair k .v = rw same (pairs-rise j (omega arith)) in
-      let item : choice-pair k .v < p .items = rw same (omega (arith, pairs-sorted i j small le)) in
-      let open-pair : separated k (choice-pair k .u) (choice-pair k .v) ≡ false = rw same (not-true _ (r .passes)) in
-      let (axis, several) = choice-axis-undecided (choice-pair k .u) (choice-pair k .v) rising item open-pair in
-      record { place = record { axis = axis; rising = rising; item = item }; unseparated = open-pair; several = several }
+      let small = pair-number-small u v hu (omega arith) in
+      let (j, le, r) = first-exists 45 (λ i. not (pair-separated k i)) i small (rw (pair-at-number u v hu, e) refl) in
+      let item = pair-below (p .items) j (omega (arith, number-below (p .items) u v hu hv)) in
+      let open-pair = not-true (pair-separated k j) (r .passes) in
+      let (axis, several) = choice-axis-undecided (pair-of j .u) (pair-of j .v) (pair-rises j) item open-pair in
+      rw (choice-number-is k j r)
+      (record { place = record { axis = axis; rising = pair-rises j; item = item }; unseparated = open-pair; several = several })
 
 -- What every removal at the choice keeps a branch keeps; so it only removes
 pub branched-keeps : (P : Domains → Type 0) (k : Domains)

@@ -1,5 +1,6 @@
 -- Each module comes after those that it cites. Theorems has what it all comes to; Examples tries the definitions.
 pub mod Below
+pub mod Pairs
 pub mod Feasible
 pub mod Order
 pub mod Slots

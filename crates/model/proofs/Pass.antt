@@ -1,50 +1,45 @@
 -- One pass: it removes just the relations that some rule asks for, keeps the order of domains, and lowers their sum or changes nothing.
 use Rattle.prelude.specs.Names.{Bool, true, false, not, _&&_, _||_, or-comm, and-true, and-false, false≢true, List, [], _∷_, _⊎_, inl, inr, _≡_, refl}
-use Rattle.prelude.specs.Names.{sym, _∙_, ap, ap₂, ℕ, zero, suc, _≤_, _<_, min, max, le-refl, arith, ltb, eqb, getD, length, ext-getD, eqb-true}
+use Rattle.prelude.specs.Names.{sym, _∙_, ap, ap₂, ℕ, zero, suc, _+_, _≤_, _<_, min, max, le-refl, add-zero, zero-add, arith, ltb, eqb, getD, length, ext-getD, eqb-true}
 use Rattle.prelude.specs.Names.{eq-eqb, ltb-true, lt-ltb, le-ltb, not-true}
 use Rattle.model.specs.Below.{all-below}
 use Rattle.model.specs.Problem.{Problem}
 use Rattle.model.specs.Domains.{Domains, overlap-bit, before-bit, after-bit, index, index-of, bit, converse, left}
 use Rattle.model.specs.Rules.{rule1, rule2, asks-overlap, asks}
-use Rattle.model.specs.Propagate.{Slot, slots, kept-if, kept, at-slots, pass, same, sum}
+use Rattle.model.specs.Propagate.{Slot, slot-at, kept-if, kept, at-slots, pass, same, sum}
 use Rattle.model.specs.Order.{Proper, Rising, WellFormed, Subdomain, _⊑_, AtRest}
 use Rattle.model.proofs.Below.{all-case, and-first, and-mono, not-mono, clash}
 use Rattle.model.proofs.Order.{overlap-bit-of, before-bit-of, after-bit-of, domain-bits, domain-le, sub-refl, sub-zero, sub-trans, sub-of}
 use Rattle.model.proofs.Order.{sub-mono}
-use Rattle.model.proofs.Slots.{lt-or-gt, no-slot, slot-at, slot-of, slot-is, slot-indexed, slots-count, index-small}
+use Rattle.model.proofs.Slots.{lt-or-gt, slot-of-index, slot-indexed, index-small}
 use Rattle.model.proofs.Without.{same-or-lower}
 use Rattle.model.proofs.Domains.{converse-small, left-converse, left-up, gone-is, fixed-overlap-sym}
 use Rattle.model.proofs.Monotone.{asks-mono}
 
 -- A function of domains applied at every slot
-getD-at : (f : Slot → ℕ → ℕ) (cs : List Slot) (k : Domains) (i : ℕ) (d : Slot) → i < length cs → i < length k
-    → getD (at-slots f cs k) i 0 ≡ f (getD cs i d) (getD k i 0)
-getD-at f [] k i d h g = absurd (omega arith)
-getD-at f (c ∷ cs) [] i d h g = absurd (omega arith)
-getD-at f (c ∷ cs) (m ∷ k) zero d h g = refl
-getD-at f (c ∷ cs) (m ∷ k) (suc i) d h g = getD-at f cs k i d (omega arith) (omega arith)
+getD-at : (f : Slot → ℕ → ℕ) (i : ℕ) (k : Domains) (j : ℕ) → j < length k → getD (at-slots f i k) j 0 ≡ f (slot-at (i + j)) (getD k j 0)
+getD-at f i [] j h = absurd (omega arith)
+getD-at f i (m ∷ k) zero h = rw (add-zero i) refl
+getD-at f i (m ∷ k) (suc j) h = let e : i + suc j ≡ suc i + j = omega arith in rw e (getD-at f (suc i) k j (omega arith))
 
-length-at : (f : Slot → ℕ → ℕ) (cs : List Slot) (k : Domains) → length (at-slots f cs k) ≡ length k
-length-at f [] k = refl
-length-at f (c ∷ cs) [] = refl
-length-at f (c ∷ cs) (m ∷ k) = ap suc (length-at f cs k)
+length-at : (f : Slot → ℕ → ℕ) (i : ℕ) (k : Domains) → length (at-slots f i k) ≡ length k
+length-at f i [] = refl
+length-at f i (m ∷ k) = ap suc (length-at f (suc i) k)
 
 -- what holds of each domain and what becomes of it
-at-slots-each : (P : ℕ → ℕ → Type 0) → ((m : ℕ) → P m m) → (f : Slot → ℕ → ℕ) → ((c : Slot) (m : ℕ) → P (f c m) m)
-    → (cs : List Slot) (k : Domains) (i : ℕ) → P (getD (at-slots f cs k) i 0) (getD k i 0)
-at-slots-each P r f h [] k i = r (getD k i 0)
-at-slots-each P r f h (c ∷ cs) [] i = r 0
-at-slots-each P r f h (c ∷ cs) (m ∷ k) zero = h c m
-at-slots-each P r f h (c ∷ cs) (m ∷ k) (suc i) = at-slots-each P r f h cs k i
+at-slots-each : (P : ℕ → ℕ → Type 0) → P 0 0 → (f : Slot → ℕ → ℕ) → ((c : Slot) (m : ℕ) → P (f c m) m)
+    → (i : ℕ) (k : Domains) (j : ℕ) → P (getD (at-slots f i k) j 0) (getD k j 0)
+at-slots-each P r f h i [] j = r
+at-slots-each P r f h i (m ∷ k) zero = h (slot-at i) m
+at-slots-each P r f h i (m ∷ k) (suc j) = at-slots-each P r f h (suc i) k j
 
 module _ (f g : Slot → ℕ → ℕ) (less : (c : Slot) (m : ℕ) → Subdomain (f c m) m)
     (mono : (c : Slot) (m j : ℕ) → Subdomain m j → Subdomain (f c m) (g c j)) where
-  at-slots-mono : (cs : List Slot) (k j : Domains) → k ⊑ j → at-slots f cs k ⊑ at-slots g cs j
-  at-slots-mono [] k j h i = h i
-  at-slots-mono (c ∷ cs) k [] h i = sub-trans (at-slots-each Subdomain sub-refl f less (c ∷ cs) k i) (h i)
-  at-slots-mono (c ∷ cs) [] (x ∷ j) h i = sub-zero _
-  at-slots-mono (c ∷ cs) (m ∷ k) (x ∷ j) h zero = mono c m x (h zero)
-  at-slots-mono (c ∷ cs) (m ∷ k) (x ∷ j) h (suc i) = at-slots-mono cs k j (λ n. h (suc n)) i
+  at-slots-mono : (i : ℕ) (k j : Domains) → k ⊑ j → at-slots f i k ⊑ at-slots g i j
+  at-slots-mono i [] j h n = sub-zero _
+  at-slots-mono i (m ∷ k) [] h n = sub-trans (at-slots-each Subdomain (sub-refl 0) f less i (m ∷ k) n) (h n)
+  at-slots-mono i (m ∷ k) (x ∷ j) h zero = mono (slot-at i) m x (h zero)
+  at-slots-mono i (m ∷ k) (x ∷ j) h (suc n) = at-slots-mono (suc i) k j (λ n. h (suc n)) n
 
 same-refl : (k : Domains) → same k k ≡ true
 same-refl [] = refl
@@ -74,21 +69,21 @@ kept-mono k j h p c m m′ r = elim (ltb (c .v) (p .items)) as (λ b. Subdomain 
 -- A pass only removes, and removes no less where less is left
 pub pass-less : (p : Problem) (k : Domains) → pass p k ⊑ k
 unfolding pass
-pass-less p k = at-slots-each Subdomain sub-refl (kept p k) (kept-less p k) slots k
+pass-less p k = at-slots-each Subdomain (sub-refl 0) (kept p k) (kept-less p k) 0 k
 
 pub pass-mono : (p : Problem) (k j : Domains) → k ⊑ j → pass p k ⊑ pass p j
 unfolding pass
-pass-mono p k j h = at-slots-mono (kept p k) (kept p j) (kept-less p k) (kept-mono k j h p) slots k j h
+pass-mono p k j h = at-slots-mono (kept p k) (kept p j) (kept-less p k) (kept-mono k j h p) 0 k j h
 
 module _ (p : Problem) (k : Domains) where
   pass-length : length (pass p k) ≡ length k
   unfolding pass
-  pass-length = length-at (kept p k) slots k
+  pass-length = length-at (kept p k) 0 k
 
   pass-le : (i : ℕ) → getD (pass p k) i 0 ≤ getD k i 0
   unfolding pass kept
-  pass-le = at-slots-each _≤_ le-refl (kept p k) (λ c m. elim (ltb (c .v) (p .items)) as (λ b. kept-if b p k c m ≤ m)
-      [ true ↦ domain-le m _ _ _ (and-first (overlap-bit m) _) (and-first (before-bit m) _) (and-first (after-bit m) _) | false ↦ le-refl m ]) slots k
+  pass-le = at-slots-each _≤_ (le-refl 0) (kept p k) (λ c m. elim (ltb (c .v) (p .items)) as (λ b. kept-if b p k c m ≤ m)
+      [ true ↦ domain-le m _ _ _ (and-first (overlap-bit m) _) (and-first (before-bit m) _) (and-first (after-bit m) _) | false ↦ le-refl m ]) 0 k
 
   pub pass-same-or-lower : (pass p k ≡ k) ⊎ (sum (pass p k) < sum k)
   pass-same-or-lower = same-or-lower (pass p k) k pass-length pass-le
@@ -99,9 +94,9 @@ module _ (p : Problem) (k : Domains) where
   pub pass-well-formed : WellFormed k → WellFormed (pass p k)
   pass-well-formed w = record { long = pass-length ∙ w .long; small = λ i. omega (arith, pass-le i, w .small i) }
 
-  pass-at : length k ≡ 135 → (i : ℕ) → i < 135 → getD (pass p k) i 0 ≡ kept p k (slot-of i) (getD k i 0)
+  pass-at : length k ≡ 135 → (i : ℕ) → i < 135 → getD (pass p k) i 0 ≡ kept p k (slot-at i) (getD k i 0)
   unfolding pass
-  pass-at long i h = getD-at (kept p k) slots k i no-slot (rw slots-count h) (rw long h) ∙ ap (λ (c : Slot). kept p k c (getD k i 0)) (slot-is i h)
+  pass-at long i h = getD-at (kept p k) 0 k i (rw long h) ∙ ap (λ (j : ℕ). kept p k (slot-at j) (getD k i 0)) (zero-add i)
 
 -- What the accessors read after a pass
 asks-converse : (p : Problem) (k : Domains) (x a u v : ℕ) → asks p k (converse x) a v u ≡ asks p k x a u v
@@ -127,7 +122,7 @@ module _ (p : Problem) (limited : p .items ≤ 10) (k : Domains) (long : length 
         left-up (pass p k) x a (r .rising),
         left-up k x a (r .rising),
         pass-at p k long (index a u v) (index-small w),
-        slot-at w,
+        slot-of-index w,
         lt-ltb v (p .items) (r .item),
         e,
       ) (kept-bit x h _ _)
@@ -153,7 +148,7 @@ pub pass-past : (p : Problem) (k : Domains) → length k ≡ 135 → {a u v : �
 unfolding kept index-of
 pass-past p k long {a} {u} {v} s past =
     let w : Rising 10 a (min u v) (max u v) = omega arith in
-    pass-at p k long (index-of a u v) (index-small w) ∙ rw (slot-at w, le-ltb (max u v) (p .items) (omega arith))
+    pass-at p k long (index-of a u v) (index-small w) ∙ rw (slot-of-index w, le-ltb (max u v) (p .items) (omega arith))
 
 -- and where no rule asks for a relation that is left, a pass changes nothing
 and-not-keep : (b c : Bool) → (c ≡ true → b ≡ false) → (b && not c) ≡ b
@@ -161,13 +156,13 @@ and-not-keep b true h = and-false b ∙ sym (h refl)
 and-not-keep b false h = and-true b
 
 module _ (p : Problem) (k : Domains) (w : WellFormed k) (rest : AtRest p k) where
-  keeps : (i : ℕ) → i < 135 → (b : Bool) → ltb (slot-of i .v) (p .items) ≡ b → kept-if b p k (slot-of i) (getD k i 0) ≡ getD k i 0
+  keeps : (i : ℕ) → i < 135 → (b : Bool) → ltb (slot-at i .v) (p .items) ≡ b → kept-if b p k (slot-at i) (getD k i 0) ≡ getD k i 0
   unfolding asks
   keeps i h true e = cc (cut 0 (omega arith), cut 1 (omega arith), cut 2 (omega arith), domain-bits _ (w .small i))
     where
-      cut : (y : ℕ) → y < 3 → (bit y (getD k i 0) && not (asks p k y (slot-of i .axis) (slot-of i .u) (slot-of i .v))) ≡ bit y (getD k i 0)
+      cut : (y : ℕ) → y < 3 → (bit y (getD k i 0) && not (asks p k y (slot-at i .axis) (slot-at i .u) (slot-at i .v))) ≡ bit y (getD k i 0)
       cut y l = and-not-keep _ _ (λ d.
-          let c = slot-of i in
+          let c = slot-at i in
           let (r, at) = slot-indexed i h in
           let q : min y 2 ≡ y = omega arith in
           let s : Proper (p .items) (c .axis) (c .u) (c .v) = omega (arith, ltb-true (c .v) (p .items) e) in

@@ -7,6 +7,7 @@ use Rattle.model.specs.Branching.{undecided, choice, Branch, first, seco
 use Rattle.model.specs.Order.{Proper, Rising, WellFormed, _⊑_, Fork}
 use Rattle.model.specs.Weight.{sum-below, sum-slots, relations, weight}
 use Rattle.model.proofs.Below.{Implies}
+use Rattle.model.proofs.Pairs.{squares}
 use Rattle.model.proofs.Slots.{proper-sym}
 use Rattle.model.proofs.Monotone.{may-overlap-mono, may-before-mono}
 use Rattle.model.proofs.Without.{without-less, without-well-formed, without-gone}
@@ -135,10 +136,6 @@ weight-bound p k = omega (arith, axis-bound (p .items) 0, axis-bound (p .items) 
     upper-bound : (a v n : ℕ) → sum-below n (λ u. over a u v) ≤ 2 * n
     upper-bound a v zero = omega arith
     upper-bound a v (suc n) = omega (arith, upper-bound a v n, over-most k a n v)
-
-    squares : (n : ℕ) → n * (n - 1) + 2 * n ≡ suc n * (suc n - 1)
-    squares zero = omega arith
-    squares (suc n) = let (e, f) : (suc n - 1 ≡ n) × (suc (suc n) - 1 ≡ suc n) = (omega arith, omega arith) in rw (e, f) (omega arith)
 
     axis-bound : (n a : ℕ) → sum-below n (λ v. sum-below v (λ u. over a u v)) ≤ n * (n - 1)
     axis-bound zero a = omega arith

@@ -16,12 +16,12 @@ abbrev pub most-below : ℕ → (ℕ → ℕ) → ℕ
 most-below zero f = 0
 most-below (suc n) f = max (f n) (most-below n f)
 
+-- the first number below n that passes, or d
+abbrev pub first-below : ℕ → (ℕ → Bool) → ℕ → ℕ
+first-below zero f d = d
+first-below (suc n) f d = first-below n f (elim (f n) [ true ↦ n | false ↦ d ])
+
 -- every element of the list passes
 abbrev pub all-in : {A : Type 0} → (A → Bool) → List A → Bool
 all-in f [] = true
 all-in f (x ∷ xs) = elim (f x) [ true ↦ all-in f xs | false ↦ false ]
-
--- the first element that passes, or d
-abbrev pub first-in : {A : Type 0} → (A → Bool) → A → List A → A
-first-in f d [] = d
-first-in f d (x ∷ xs) = elim (f x) [ true ↦ x | false ↦ first-in f d xs ]

@@ -1,8 +1,9 @@
 -- What domains show and where the search branches (document 01, "The search"; a turn is a branch, a row of turns a path).
 use Rattle.prelude.specs.Names.{Bool, true, false, not, _&&_, _||_, List, [], _∷_, ℕ, _-_, ltb}
-use Rattle.model.specs.Below.{some-below, all-below, first-in}
+use Rattle.model.specs.Below.{some-below, all-below, first-below}
 use Rattle.model.specs.Problem.{Problem, Precedence, Positions, time}
-use Rattle.model.specs.Domains.{Domains, Pair, pairs, may-overlap, may-before, fixed-before, remove-overlap, remove-before, fix-before}
+use Rattle.model.specs.Pairs.{pair-of}
+use Rattle.model.specs.Domains.{Domains, may-overlap, may-before, fixed-before, remove-overlap, remove-before, fix-before}
 use Rattle.model.specs.Domains.{fix-overlap, full-domains}
 use Rattle.model.specs.Rules.{greatest-ending}
 use Rattle.model.specs.Propagate.{Slot, propagate}
@@ -36,16 +37,20 @@ packed p k = all-below (p .items) (λ v. all-below v (λ u. separated k u v))
 unfoldable pub undecided : Domains → ℕ → ℕ → ℕ → Bool
 undecided k a u v = may-overlap k a u v && (may-before k a u v || may-before k a v u) || may-before k a u v && may-before k a v u
 
--- "take the first pair in number order that has no known 'before'"
-unfoldable pub choice-pair : Domains → Pair
-choice-pair k = first-in (λ (c : Pair). not (separated k (c .u) (c .v))) (record { u = 0; v = 0 }) pairs
+-- of the pair with this number
+abbrev pub pair-separated : Domains → ℕ → Bool
+pair-separated k i = separated k (pair-of i .u) (pair-of i .v)
+
+-- "take the first pair in number order that has no known 'before'": its number
+unfoldable pub choice-number : Domains → ℕ
+choice-number k = first-below 45 (λ i. not (pair-separated k i)) 0
 
 -- "and its first axis of x, y, t with more than one word left"
 unfoldable pub choice-axis : Domains → ℕ → ℕ → ℕ
-choice-axis k u v = first-in (λ (a : ℕ). undecided k a u v) 0 (0 ∷ 1 ∷ 2 ∷ [])
+choice-axis k u v = first-below 3 (λ a. undecided k a u v) 0
 
 unfoldable pub choice : Domains → Slot
-choice k = let c = choice-pair k in record { axis = choice-axis k (c .u) (c .v); u = c .u; v = c .v }
+choice k = let c = pair-of (choice-number k) in record { axis = choice-axis k (c .u) (c .v); u = c .u; v = c .v }
 
 -- a turn: "each first or second"
 pub data Branch : Type 0 where

@@ -1,21 +1,22 @@
 -- To compute with a problem and its search: `unfolding search-computing` opens all that a feasible packing, the rules, propagation and the search go
 -- through.
 use Rattle.model.specs.Problem.{ends-before, ends-ahead, gap, inside-test, apart-on-some-axis, apart-test, ordered-test, feasible}
-use Rattle.model.specs.Domains.{pairs, pair-number, domain, overlap-bit, before-bit, after-bit, index, index-of, may-overlap, may-before}
+use Rattle.model.specs.Pairs.{pair-number, pair-of}
+use Rattle.model.specs.Domains.{domain, overlap-bit, before-bit, after-bit, index, index-of, may-overlap, may-before}
 use Rattle.model.specs.Domains.{remove-overlap, remove-before, fixed-before, fixed-overlap, fix-before, fix-overlap}
 use Rattle.model.specs.Rules.{joined, ending, starting, greatest-ending, greatest-starting, rule1, rule2, rule3, rule4, rule5, asks-overlap}
 use Rattle.model.specs.Rules.{asks-before}
-use Rattle.model.specs.Propagate.{slots, kept, pass, passes, propagate}
-use Rattle.model.specs.Branching.{opening-domains, empty, inconsistent, separated, packed, undecided, choice-pair, choice-axis, choice}
+use Rattle.model.specs.Propagate.{slot-at, kept, pass, passes, propagate}
+use Rattle.model.specs.Branching.{opening-domains, empty, inconsistent, separated, packed, undecided, choice-number, choice-axis, choice}
 use Rattle.model.specs.Branching.{branched, path-domains, starts, plan}
 use Rattle.model.specs.Run.{look, step-count}
 
 unfoldable pub search-computing : Unit {0}
 unfolding ends-before ends-ahead gap inside-test apart-on-some-axis apart-test ordered-test feasible
-    pairs pair-number domain overlap-bit before-bit after-bit index index-of may-overlap may-before
+    pair-number pair-of domain overlap-bit before-bit after-bit index index-of may-overlap may-before
     remove-overlap remove-before fixed-before fixed-overlap fix-before fix-overlap
     joined ending starting greatest-ending greatest-starting rule1 rule2 rule3 rule4 rule5 asks-overlap asks-before
-    slots kept pass passes propagate
-    opening-domains empty inconsistent separated packed undecided choice-pair choice-axis choice branched path-domains starts plan
+    slot-at kept pass passes propagate
+    opening-domains empty inconsistent separated packed undecided choice-number choice-axis choice branched path-domains starts plan
     look step-count
 search-computing = tt

@@ -2,29 +2,7 @@
 -- the words left a domain, striking removal, known fixed).
 use Rattle.prelude.specs.Names.{Bool, true, false, not, cond, _&&_, List, [], _∷_, ℕ, zero, suc, _+_, _*_, _-_, _/_, _%_, min, max, compare, Ordering}
 use Rattle.prelude.specs.Names.{Ordering·lt, Ordering·eq, Ordering·gt, eqb, getD, set, replicate}
-
--- two items, u < v
-pub record Pair : Type 0 where
-  pub u : ℕ
-  pub v : ℕ
-
--- (0, v), (1, v) up to (u - 1, v), in front of l
-abbrev pub pairs-with : ℕ → ℕ → List Pair → List Pair
-pairs-with zero v l = l
-pairs-with (suc u) v l = pairs-with u v (record { u = u; v = v } ∷ l)
-
--- the pairs of items below v, in front of l
-abbrev pub pairs-below : ℕ → List Pair → List Pair
-pairs-below zero l = l
-pairs-below (suc v) l = pairs-below v (pairs-with v v l)
-
--- "Pairs are numbered from a table: u, v with u < v in the sequence (0,1), (0,2), (1,2), (0,3), up to (8,9)"
-unfoldable pub pairs : List Pair
-pairs = pairs-below 10 []
-
--- where the table has the pair u, v, with u < v (proofs/Slots shows it)
-unfoldable pub pair-number : ℕ → ℕ → ℕ
-pair-number u v = v * (v - 1) / 2 + u
+use Rattle.model.specs.Pairs.{pair-number}
 
 -- 135 numbers from 0 to 7: the domain of a pair on an axis is at pair number × 3 + axis
 abbrev pub Domains : Type 0

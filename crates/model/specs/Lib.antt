@@ -1,5 +1,6 @@
 -- The planner's mathematics, in the order of document 01.
 pub mod Below
+pub mod Pairs
 pub mod Problem
 pub mod Domains
 pub mod Rules

@@ -1,7 +1,8 @@
 -- Propagation: the rules applied "until nothing more can be struck". proofs/Propagate shows that any order of removals comes to the same.
-use Rattle.prelude.specs.Names.{Bool, true, false, not, _&&_, List, [], _∷_, ℕ, zero, suc, _+_, ltb, eqb}
+use Rattle.prelude.specs.Names.{Bool, true, false, not, _&&_, List, [], _∷_, ℕ, zero, suc, _+_, _/_, _%_, ltb, eqb}
 use Rattle.model.specs.Problem.{Problem}
-use Rattle.model.specs.Domains.{Domains, Pair, pairs, domain, overlap-bit, before-bit, after-bit}
+use Rattle.model.specs.Pairs.{pair-of}
+use Rattle.model.specs.Domains.{Domains, domain, overlap-bit, before-bit, after-bit}
 use Rattle.model.specs.Rules.{asks-overlap, asks-before}
 
 -- what a domain belongs to: a pair u < v on an axis
@@ -10,14 +11,9 @@ pub record Slot : Type 0 where
   pub u : ℕ
   pub v : ℕ
 
-abbrev pub slots-of : List Pair → List Slot
-slots-of [] = []
-slots-of (c ∷ cs) =
-    record { axis = 0; u = c .u; v = c .v } ∷ record { axis = 1; u = c .u; v = c .v } ∷ record { axis = 2; u = c .u; v = c .v } ∷ slots-of cs
-
--- the slots in the order of their domains
-unfoldable pub slots : List Slot
-slots = slots-of pairs
+-- the slot whose domain is at place i: pair number × 3 + axis
+unfoldable pub slot-at : ℕ → Slot
+slot-at i = let c = pair-of (i / 3) in record { axis = i % 3; u = c .u; v = c .v }
 
 -- what a pass leaves of the domain m; of pairs that are not of the problem it leaves all
 abbrev pub kept-if : Bool → Problem → Domains → Slot → ℕ → ℕ
@@ -30,15 +26,14 @@ kept-if false p k c m = m
 unfoldable pub kept : Problem → Domains → Slot → ℕ → ℕ
 kept p k c m = kept-if (ltb (c .v) (p .items)) p k c m
 
--- the function applied to each domain with its slot
-abbrev pub at-slots : (Slot → ℕ → ℕ) → List Slot → Domains → Domains
-at-slots f [] k = k
-at-slots f (c ∷ cs) [] = []
-at-slots f (c ∷ cs) (m ∷ k) = f c m ∷ at-slots f cs k
+-- the function applied to each domain with its slot, from place i on
+abbrev pub at-slots : (Slot → ℕ → ℕ) → ℕ → Domains → Domains
+at-slots f i [] = []
+at-slots f i (m ∷ k) = f (slot-at i) m ∷ at-slots f (suc i) k
 
 -- everything removed that some rule asks for, seen from the domains k
 unfoldable pub pass : Problem → Domains → Domains
-pass p k = at-slots (kept p k) slots k
+pass p k = at-slots (kept p k) 0 k
 
 abbrev pub same : Domains → Domains → Bool
 same [] [] = true

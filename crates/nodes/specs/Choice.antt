@@ -1,7 +1,7 @@
--- The table of pairs, and the branching place.
+-- The branching place.
 use Rattle.prelude.specs.Names.{Bool, true, false, not, _&&_, _||_, List, _≡_, ℕ, _+_, _*_, getD, length, set}
 use Rattle.model.specs.Problem.{Problem}
-use Rattle.model.specs.Domains.{Domains, pairs, overlap-bit, before-bit, after-bit, may-overlap}
+use Rattle.model.specs.Domains.{Domains, overlap-bit, before-bit, after-bit, may-overlap}
 use Rattle.model.specs.Branching.{packed, undecided, choice, Branch, first, second, branch-at}
 use Rattle.model.specs.Order.{Rising}
 use Rattle.domains.specs.Rows.{Laid}
@@ -9,17 +9,7 @@ use Rattle.domains.specs.Queue.{max-queue}
 use Rattle.domains.specs.Narrowed.{Grown}
 use Rattle.nodes.specs.declared.branching.Branching.{Branching}
 use Rattle.nodes.specs.declared.branching.Branching.the-variants.{Packed, At}
-use Rattle.nodes.specs.declared.branching.Pair.{Pair}
 use Rattle.domains.specs.declared.Place.{Place}
-use Rattle.model.specs.Domains as D
-
-abbrev pub no-pair : D.Pair
-no-pair = record { u = 0; v = 0 }
-
--- the pair with this number
-pub record PairAt (number : ℕ) (c : Pair) : Type 0 where
-  pub is-u : c .u ≡ getD pairs number no-pair .u
-  pub is-v : c .v ≡ getD pairs number no-pair .v
 
 -- "'before' known, one way or the other", of a domain
 abbrev pub separates : ℕ → Bool

@@ -1,10 +1,9 @@
 // Where the search branches, and what a branch removes.
 ghost use mathlib.Core.Path.{_≡_};
 ghost use Prim.Native.Nat.{_<_, _≤_};
-ghost use Rattle.model.specs.Domains as D;
 ghost use Rattle.model.specs.Order.{WellFormed};
 ghost use Rattle.model.specs.FirstBranches.{Passed};
-ghost use Rattle.nodes.specs.Choice.{PairAt, separates, several, separated-at, Chosen, Branchable, Branched};
+ghost use Rattle.nodes.specs.Choice.{separates, several, separated-at, Chosen, Branchable, Branched};
 use domains::DOMAINS;
 use domains::Place;
 use domains::ROWS;
@@ -13,12 +12,7 @@ use domains::bits::has;
 use domains::queue::MAX_QUEUE;
 use domains::removal::remove;
 use domains::removal::remove_each;
-
-// Two items, the lower first.
-struct Pair {
-    pub u: usize,
-    pub v: usize,
-}
+use pairs::pair_of;
 
 // Where to branch, if not every pair is separated.
 pub enum Branching {
@@ -26,124 +20,15 @@ pub enum Branching {
     At(Place),
 }
 
-// The pairs in number order: u, v with u < v.
-const PAIRS: [u8; 90] = [
-    0,
-    1,
-    0,
-    2,
-    1,
-    2,
-    0,
-    3,
-    1,
-    3,
-    2,
-    3,
-    0,
-    4,
-    1,
-    4,
-    2,
-    4,
-    3,
-    4,
-    0,
-    5,
-    1,
-    5,
-    2,
-    5,
-    3,
-    5,
-    4,
-    5,
-    0,
-    6,
-    1,
-    6,
-    2,
-    6,
-    3,
-    6,
-    4,
-    6,
-    5,
-    6,
-    0,
-    7,
-    1,
-    7,
-    2,
-    7,
-    3,
-    7,
-    4,
-    7,
-    5,
-    7,
-    6,
-    7,
-    0,
-    8,
-    1,
-    8,
-    2,
-    8,
-    3,
-    8,
-    4,
-    8,
-    5,
-    8,
-    6,
-    8,
-    7,
-    8,
-    0,
-    9,
-    1,
-    9,
-    2,
-    9,
-    3,
-    9,
-    4,
-    9,
-    5,
-    9,
-    6,
-    9,
-    7,
-    9,
-    8,
-    9,
-];
-
-// The pair of a number, from the table.
-fn pair_at(number: usize) -> Pair
-    requires { ⌜ number < 45 ⌝ }
-    ensures { λ r. ⌜ PairAt number r ⌝ }
-{
-    let pairs = PAIRS;
-    Pair {
-        u: pairs[2 * number] as usize,
-        v: pairs[2 * number + 1] as usize,
-    }
-}
+// The domains in which "before" is known, one way or the other: 0, 2 and 4, as a set of bits.
+const SEPARATED: u32 = 21;
 
 // "before" is known, one way or the other.
 fn is_separated(domain: u8) -> bool
     requires { ⌜ domain < 8 ⌝ }
     ensures { λ r. ⌜ r ≡ separates domain ⌝ }
 {
-    if domain == 2 {
-        return true;
-    }
-    if domain == 4 {
-        return true;
-    }
-    domain == 0
+    has(SEPARATED, domain as usize)
 }
 
 // More than one relation is left.
@@ -181,7 +66,7 @@ pub fn choose(k: &[u8; DOMAINS], n: usize, from: usize) -> Branching
     let mut answer = Branching::Packed;
     'found: for number in from..count {
         if !separated(k, number) {
-            let pair = pair_at(number);
+            let pair = pair_of(number);
             for a in 0..3 {
                 if is_undecided(k[3 * number + a]) {
                     answer = Branching::At(Place {
@@ -201,14 +86,6 @@ pub fn choose(k: &[u8; DOMAINS], n: usize, from: usize) -> Branching
         }
     }
     answer
-}
-
-// The number of a pair.
-pub fn pair_number(u: usize, v: usize) -> usize
-    requires { ⌜ (u < v) × (v < 10) ⌝ }
-    ensures { λ r. ⌜ r ≡ D.pair-number u v ⌝ }
-{
-    v * (v - 1) / 2 + u
 }
 
 // The first or the second branch at a place: what it removes is all that is on the queue.

@@ -3,18 +3,20 @@ use Rattle.prelude.specs.Names.{true, not, List, [], _∷_, _++_, _⊎_, inl, i
 use Rattle.prelude.specs.Names.{_%_, _≤_, _<_, arith, eqb, eqb·suc-zero, length, getD, set, take, drop, length-set, length-drop, ext-getD, take-all}
 use Rattle.prelude.specs.Names.{getD-drop, getD-set-same, getD-set-other}
 use lib.ListN.{take-append-drop}
+use Rattle.model.proofs.Fork.{choice-numbered}
 use Rattle.model.proofs.Path.{path-fork}
 use Rattle.model.proofs.Search.{look-fork, limit-270}
 use Rattle.model.proofs.Theorems.{fork-most}
 use Rattle.model.proofs.FirstBranches.{saved-count, firsts-90, fork-firsts-90, branch-passed}
 use Rattle.model.specs.Admits.{Sound}
 use Rattle.model.specs.Branching.{Branch, first, second, choice, path-domains}
-use Rattle.model.specs.Domains.{Domains, pair-number}
+use Rattle.model.specs.Pairs.{pair-number}
+use Rattle.model.specs.Domains.{Domains}
 use Rattle.model.specs.Order.{Rising}
 use Rattle.model.specs.Problem.{Problem}
 use Rattle.model.specs.Propagate.{Slot}
 use Rattle.model.specs.Run.{look}
-use Rattle.model.specs.FirstBranches.{saved, Passed, choice-number}
+use Rattle.model.specs.FirstBranches.{saved, Passed}
 use Rattle.nodes.specs.Choice.{branch-by, Branchable, Branched}
 use Rattle.nodes.specs.Levels.{chunk, Stored, Loaded}
 use Rattle.domains.specs.Queue.{max-queue, pair-code, Long}
@@ -101,9 +103,9 @@ module _ (p : Problem) (sound : Sound p) (path : List Branch) (fork : look p pat
     fork-pair = (fork-rising .rising, omega (arith, fork-rising .item, sound .limited))
 
     fork-passed : (b : Branch) → Passed (path-domains p (b ∷ path)) (pair-number (c .u) (c .v))
-    unfolding choice-number
     fork-passed b =
-        subst (λ (s : Slot). Passed (path-domains p (b ∷ path)) (pair-number (s .u) (s .v))) e (branch-passed p sound b path fork)
+        subst (λ (s : Slot). Passed (path-domains p (b ∷ path)) (pair-number (s .u) (s .v))) e
+        (rw (choice-numbered (path-domains p path)) (branch-passed p sound b path fork))
 
 -- A fork: what it shows is kept, and a branch of it taken
 module _ {p : Problem} (sound : Sound p) {k₀ : Domains} {rows₀ q₀ t₀ : List ℕ} {s : Snapshots} {kept depth from : ℕ} {path : List Branch}

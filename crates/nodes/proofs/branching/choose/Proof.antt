@@ -24,14 +24,14 @@ abbrev μ-found : tie.MeasureT-found
 -- the pair whose axes are looked at
 pair : (c : tie.At-loop Inv-loop μ-loop Inv-found μ-found) → let f = c .before .before .before .before .before in
     Passed (f .before .args .k .now) (f .before .args .from)
-    → Unseparated (f .before .args .k .now) (f .before .args .n) (f .before .args .from) (f .found .number) (c .before .pair-at .result)
+    → Unseparated (f .before .args .k .now) (f .before .args .n) (f .before .args .from) (f .found .number) (c .before .pair-of .result)
 pair c passed =
     let t = c .before .before .before in
     record {
       limited = t .before .before .before .pre .1;
       passed = passed;
       below = t .before .found-test .taken;
-      is = c .before .pair-at .ensures;
+      is = c .before .pair-of .ensures;
       unseparated = sym (t .separated .ensures) ∙ not-true (t .separated .result) (c .before .before .if1 .taken);
       earlier = t .before .before .found .inv .2;
     }
