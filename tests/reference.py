@@ -1,4 +1,5 @@
-"""Instances, packings, item records, clearance and the search, written plainly from document 01 and request #101 of document 02 alone.
+"""Instances, packings, item records, clearance and the search, written plainly from document 01 and requests #101 and #102 of document 02
+alone.
 
 It shares nothing with the crates. tests/make_vectors.py takes the expected lines of crates/test_vectors from here.
 
@@ -396,6 +397,23 @@ def settle(value, struck):
 OPEN, NONE, PLACED = "open", "none", "placed"
 
 
+def pair_number(u, v):
+    # #102: "v × (v − 1) / 2 + u for u < v"
+    return v * (v - 1) // 2 + u
+
+
+def pair_of(number):
+    # "each of 0 to 44 belongs to exactly one pair"
+    (pair,) = [(u, v) for v in range(MAX_ITEMS) for u in range(v) if pair_number(u, v) == number]
+    return pair
+
+
+PAIRS = [pair_of(number) for number in range(45)]
+
+# Document 01: "in the sequence (0,1), (0,2), (1,2), (0,3), up to (8,9)"
+assert PAIRS[:4] == [(0, 1), (0, 2), (1, 2), (0, 3)] and PAIRS[-1] == (8, 9)
+
+
 def opening_knowledge(value):
     struck = [set(), set(), set()]
     for u, v, _ in value["precedences"][: value["precedence_count"]]:
@@ -409,10 +427,9 @@ def look(value, struck):
     n = value["item_count"]
     if contradictory(value, struck, range(n)):
         return "contradictory"
-    for v in range(n):
-        for u in range(v):
-            if not any(before_known(struck, axis, u, v) or before_known(struck, axis, v, u) for axis in (0, 1, 2)):
-                return u, v, [axis for axis in (0, 1, 2) if len(set(words(u, v)) - struck[axis]) > 1][0]
+    for u, v in PAIRS:
+        if v < n and not any(before_known(struck, axis, u, v) or before_known(struck, axis, v, u) for axis in (0, 1, 2)):
+            return u, v, [axis for axis in (0, 1, 2) if len(set(words(u, v)) - struck[axis]) > 1][0]
     return "placed"
 
 

@@ -1,12 +1,12 @@
 -- Rows of bits and sets of items as numbers: what and, or, xor, shifts and powers of 2 make of them. The laws hold of numbers of any length.
 use Rattle.prelude.specs.Names.{Bool, cond, true, false, not, _&&_, _||_, and-true, _⊎_, inl, inr, _≢_, _≡_, refl, sym, _∙_, ℕ, zero, suc, _+_, _-_}
 use Rattle.prelude.specs.Names.{_*_, _/_, _%_, _^_, _≤_, _<_, min, max, ℕ-discrete, decLt, arith, bitAnd, bitOr, bitXor, or-step, trailingZeros, eqb}
-use Rattle.prelude.specs.Names.{ltb, eqb·suc-zero, pow-mono, eq-eqb, ne-eqb, ltb-true}
+use Rattle.prelude.specs.Names.{eqb·suc-zero, pow-mono, eq-eqb, ne-eqb}
 use mathlib.Core.Bool.{and-self}
 use lib.Bits.{differ, and-step, xor-step, and-shr, or-shr, xor-shr, and-le-l, and-le-r, shifted-half, shifted-even}
 use lib.Dec.{eqb·zero-suc, eqb·suc-suc}
 use lib.Pow.{pow-pos, shl-lt, shl-exact, shl-shr, shr-shr}
-use Rattle.model.proofs.Below.{and-both, all-at, clash}
+use Rattle.model.proofs.Below.{and-both, clash}
 use Rattle.model.specs.Domains.{odd}
 use Rattle.model.proofs.Slots.{lt-or-gt}
 use Rattle.domains.specs.Bits.{bit-at, Gives, lowest-bit, TakenOut}

@@ -1,6 +1,6 @@
 -- Laws of tests: what a test over all numbers below n says, and that tests are monotone in their parts. Assumes nothing.
 use Rattle.prelude.specs.Names.{Bool, true, false, not, _&&_, _||_, false≢true, Bool-discrete, _↔_, _⊎_, inl, inr, ⊎-elim, _≡_, refl, sym, _∙_, ap, ℕ}
-use Rattle.prelude.specs.Names.{zero, suc, _≤_, _<_, eq-or-lt-of-le, le-of-suc-le-suc, decLe, arith, ltb, getD, length, ltb-true, lt-ltb, not-true}
+use Rattle.prelude.specs.Names.{zero, suc, _≤_, _<_, eq-or-lt-of-le, le-of-suc-le-suc, decLe, arith, ltb, ltb-true, lt-ltb, not-true}
 use Rattle.prelude.specs.Names.{not-false, List, [], _∷_, List·Memᴰ, List·Memᴰ·head, List·Memᴰ·tail, List·Memᴰ·not-nil, List·Memᴰ·cases-cons}
 use Rattle.model.specs.Below.{some-below, all-below, most-below, all-in, first-below}
 

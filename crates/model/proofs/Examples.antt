@@ -1,8 +1,9 @@
--- Document 01's "Plausible errors", each refuted by a small example, and halls with lags (document 02, #101); by computation.
+-- Document 01's "Plausible errors", each refuted by a small example, halls with lags and pairs by number (document 02, #101, #102); by computation.
 use Rattle.prelude.specs.Names.{Bool, true, false, cond, _&&_, List, [], _∷_, List·Memᴰ·not-nil, _≡_, refl, ℕ, zero, suc, _+_, _*_, arith, leb, ltb}
-use Rattle.prelude.specs.Names.{getD, leb-true}
+use Rattle.prelude.specs.Names.{getD, map, leb-true}
 use Rattle.model.specs.Below.{all-below}
 use Rattle.model.specs.Problem.{Problem, Precedence, Positions, time, Feasible, ends-before, feasible}
+use Rattle.model.specs.Pairs.{Pair, pair-number, pair-of}
 use Rattle.model.specs.Domains.{Domains, may-before, may-overlap, remove-overlap, fix-before, fix-overlap, full-domains}
 use Rattle.model.specs.Rules.{rule4}
 use Rattle.model.specs.Propagate.{propagate}
@@ -136,3 +137,18 @@ lagged = problem (trial (xyt 2 1 4) (unit ∷ unit ∷ []) (order 0 1 2 ∷ []) 
 pub lag-missed : (feasible lagged (at-starts (xyt 0 0 0 ∷ xyt 0 0 3 ∷ [])) ≡ true) × (feasible lagged (at-starts (xyt 0 0 0 ∷ xyt 1 0 2 ∷ [])) ≡ false)
 unfolding trial-right
 lag-missed = (refl, refl)
+
+-- Pairs by number: "the sequence (0,1), (0,2), (1,2), (0,3), up to (8,9)" has the numbers 0, 1, 2, 3, up to 44
+abbrev items : ℕ → ℕ → Pair
+items u v = record { u = u; v = v }
+
+abbrev sequence : List Pair
+sequence = items 0 1 ∷ items 0 2 ∷ items 1 2 ∷ items 0 3 ∷ items 8 9 ∷ []
+
+pub sequence-pairs : map pair-of (0 ∷ 1 ∷ 2 ∷ 3 ∷ 44 ∷ []) ≡ sequence
+unfolding pair-of
+sequence-pairs = refl
+
+pub sequence-numbers : map (λ (c : Pair). pair-number (c .u) (c .v)) sequence ≡ 0 ∷ 1 ∷ 2 ∷ 3 ∷ 44 ∷ []
+unfolding pair-number
+sequence-numbers = refl

@@ -15,8 +15,8 @@ use Rattle.model.specs.Run.{look}
 use Rattle.model.specs.FirstBranches.{firsts, saved, Passed}
 use Rattle.model.proofs.Below.{fails, Implies, and-mono, or-mono, some-mono, all-of, none-at, or-neither, stays, First, first-is, first-exists}
 use Rattle.model.proofs.Below.{clash}
-use Rattle.model.proofs.Pairs.{number-of-pair, pair-at-number}
-use Rattle.model.proofs.Slots.{pair-number-small, proper-sym}
+use Rattle.model.proofs.Pairs.{number-of-pair, pair-at-number, pair-number-small}
+use Rattle.model.proofs.Slots.{proper-sym}
 use Rattle.model.proofs.Domains.{may-overlap-sym, fixed-before-of}
 use Rattle.model.proofs.Without.{without-gone}
 use Rattle.model.proofs.Monotone.{gone-mono, may-overlap-mono, may-before-mono, fixed-before-mono}

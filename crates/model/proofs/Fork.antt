@@ -12,8 +12,8 @@ use Rattle.model.specs.Order.{Proper, WellFormed, _⊑_, AtRest, Fork}
 use Rattle.model.specs.Admits.{Sound, Overlaps, Admits}
 use Rattle.model.proofs.Below.{all-not, some-at, none-at, and-intro, or-left, or-neither, First, first-is, first-exists, stays, clash}
 use Rattle.model.proofs.Asks.{not-overlap, rule1-of}
-use Rattle.model.proofs.Pairs.{number-below, pair-rises, number-of-pair, pair-at-number, pair-below}
-use Rattle.model.proofs.Slots.{pair-number-small, proper-sym, proper-up}
+use Rattle.model.proofs.Pairs.{number-below, pair-rises, number-of-pair, pair-at-number, pair-below, pair-number-small}
+use Rattle.model.proofs.Slots.{proper-sym, proper-up}
 use Rattle.model.proofs.Domains.{may-overlap-sym, fixed-before-of, fixed-overlap-of, fixed-overlap-says}
 use Rattle.model.proofs.Without.{without-less, without-well-formed}
 use Rattle.model.proofs.Order.{sub-refl, sub-trans}

@@ -1,6 +1,6 @@
 -- A pair's number and a number's pair undo one another, for any count of items.
 use Rattle.prelude.specs.Names.{inl, inr, _≡_, refl, sym, _∙_, ℕ, zero, suc, _+_, _*_, _-_, _≤_, _<_, decLt, eq-or-lt-of-le, arith, lt-ltb, le-ltb}
-use Rattle.model.specs.Pairs.{Pair, pair-number, next-pair, pair-of, Numbered, OnePair}
+use Rattle.model.specs.Pairs.{Pair, pair-number, next-pair, pair-of, OnePair}
 
 pub squares : (n : ℕ) → n * (n - 1) + 2 * n ≡ suc n * (suc n - 1)
 squares zero = omega arith
@@ -15,6 +15,7 @@ pub first-next : (v : ℕ) → pair-number 0 (suc v) ≡ pair-number 0 v + v
 unfolding pair-number
 first-next v = omega (arith, squares v)
 
+-- it is no less than v − 1
 pub first-least : (v : ℕ) → v ≤ suc (pair-number 0 v)
 first-least zero = omega arith
 first-least (suc v) = omega (arith, first-next v)
@@ -87,7 +88,11 @@ one-pair n i h = (
       λ j. record { u = e j; v = f j },
 )
 
--- "each of 0 to 44 belongs to exactly one pair"
+-- Ten items: "each of 0 to 44 belongs to exactly one pair"
+pub pair-number-small : (u v : ℕ) → u < v → v < 10 → pair-number u v < 45
+unfolding pair-number
+pair-number-small u v = number-below 10 u v
+
 pub each-of-45 : (i : ℕ) → i < 45 → OnePair 10 i
 unfolding pair-number
-each-of-45 i h = one-pair 10 i h
+each-of-45 i = one-pair 10 i

@@ -1,7 +1,7 @@
 -- One pass: it removes just the relations that some rule asks for, keeps the order of domains, and lowers their sum or changes nothing.
-use Rattle.prelude.specs.Names.{Bool, true, false, not, _&&_, _||_, or-comm, and-true, and-false, false≢true, List, [], _∷_, _⊎_, inl, inr, _≡_, refl}
-use Rattle.prelude.specs.Names.{sym, _∙_, ap, ap₂, ℕ, zero, suc, _+_, _≤_, _<_, min, max, le-refl, add-zero, zero-add, arith, ltb, eqb, getD, length, ext-getD, eqb-true}
-use Rattle.prelude.specs.Names.{eq-eqb, ltb-true, lt-ltb, le-ltb, not-true}
+use Rattle.prelude.specs.Names.{Bool, true, false, not, _&&_, _||_, or-comm, and-true, and-false, false≢true, [], _∷_, _⊎_, inl, inr, _≡_, refl, sym}
+use Rattle.prelude.specs.Names.{_∙_, ap, ap₂, ℕ, zero, suc, _+_, _≤_, _<_, min, max, le-refl, add-zero, zero-add, arith, ltb, eqb, getD, length}
+use Rattle.prelude.specs.Names.{ext-getD, eqb-true, eq-eqb, ltb-true, lt-ltb, le-ltb, not-true}
 use Rattle.model.specs.Below.{all-below}
 use Rattle.model.specs.Problem.{Problem}
 use Rattle.model.specs.Domains.{Domains, overlap-bit, before-bit, after-bit, index, index-of, bit, converse, left}

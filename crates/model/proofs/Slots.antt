@@ -6,7 +6,7 @@ use Rattle.model.specs.Domains.{index, index-of}
 use Rattle.model.specs.Propagate.{slot-at}
 use Rattle.model.specs.Order.{Proper, Rising}
 use Rattle.model.proofs.Below.{all-at}
-use Rattle.model.proofs.Pairs.{number-below, pair-rises, number-of-pair, number-once, pair-at-number, pair-below}
+use Rattle.model.proofs.Pairs.{pair-rises, number-of-pair, number-once, pair-at-number, pair-below, pair-number-small}
 
 pub lt-or-gt : (u v : ℕ) → u ≢ v → (u < v) ⊎ (v < u)
 lt-or-gt u v h = elim (decLt u v) [ yes l ↦ inl l | no l ↦ inr (omega arith) ]
@@ -24,10 +24,6 @@ proper-wide h w = omega arith
 -- what a test of all pairs below n says of one
 pub pairs-at : (n : ℕ) (f : ℕ → ℕ → Bool) → all-below n (λ v. all-below v (λ u. f u v)) ≡ true → (u v : ℕ) → u < v → v < n → f u v ≡ true
 pairs-at n f e u v h l = all-at v (λ u. f u v) (all-at n (λ v. all-below v (λ u. f u v)) e v l) u h
-
-pub pair-number-small : (u v : ℕ) → u < v → v < 10 → pair-number u v < 45
-unfolding pair-number
-pair-number-small u v = number-below 10 u v
 
 pub index-small : {a u v : ℕ} → Rising 10 a u v → index a u v < 135
 unfolding index

@@ -1,6 +1,7 @@
 -- What the planner's mathematics comes to, in document 01's order.
 use Rattle.prelude.specs.Names.{true, List, [], _↔_, inl, inr, _≡_, sym, _∙_, subst, ℕ, _+_, _≤_, _<_, arith, length}
 use Rattle.model.specs.Problem.{Problem, Positions, Feasible, feasible}
+use Rattle.model.specs.Pairs.{OnePair}
 use Rattle.model.specs.Domains.{Domains}
 use Rattle.model.specs.Propagate.{propagate}
 use Rattle.model.specs.Branching.{Branch, path-domains, plan}
@@ -13,6 +14,7 @@ use Rattle.model.specs.Calls.{budget-spent, packing, answer-at}
 use Rattle.model.specs.Lists.{Service, Serves, Claim}
 use Rattle.model.specs.Run.{look, machine, plan-at, search, path-limit, run-end, step-count}
 use Rattle.model.proofs.Feasible.{feasible-exactly}
+use Rattle.model.proofs.Pairs.{each-of-45}
 use Rattle.model.proofs.Propagate.{propagate-at-rest, between-rest}
 use Rattle.model.proofs.Sound.{propagate-admits}
 use Rattle.model.proofs.Weight.{weight-bound}
@@ -58,6 +60,10 @@ pub path-at-once : (p : Problem) (path : List Branch) → propagate p (path-remo
 path-at-once = one-propagation
 
 -- "The search"
+
+-- document 02, #102: "each of 0 to 44 belongs to exactly one pair"
+pub numbers-of-pairs : (i : ℕ) → i < 45 → OnePair 10 i
+numbers-of-pairs = each-of-45
 
 -- how the run ends: "none, or placed with its plan"
 pub data RunEnds (p : Problem) : Type 0 where

@@ -29,6 +29,10 @@ inconsistent p k =
 unfoldable pub separated : Domains → ℕ → ℕ → Bool
 separated k u v = some-below 3 (λ a. fixed-before k a u v || fixed-before k a v u)
 
+-- the same of the pair with number i
+abbrev pub pair-separated : Domains → ℕ → Bool
+pair-separated k i = separated k (pair-of i .u) (pair-of i .v)
+
 -- placed: "each pair has 'before' known"
 unfoldable pub packed : Problem → Domains → Bool
 packed p k = all-below (p .items) (λ v. all-below v (λ u. separated k u v))
@@ -37,11 +41,7 @@ packed p k = all-below (p .items) (λ v. all-below v (λ u. separated k u v))
 unfoldable pub undecided : Domains → ℕ → ℕ → ℕ → Bool
 undecided k a u v = may-overlap k a u v && (may-before k a u v || may-before k a v u) || may-before k a u v && may-before k a v u
 
--- of the pair with this number
-abbrev pub pair-separated : Domains → ℕ → Bool
-pair-separated k i = separated k (pair-of i .u) (pair-of i .v)
-
--- "take the first pair in number order that has no known 'before'": its number
+-- "take the first pair in number order that has no known 'before'": its number, of the 45 of ten items
 unfoldable pub choice-number : Domains → ℕ
 choice-number k = first-below 45 (λ i. not (pair-separated k i)) 0
 

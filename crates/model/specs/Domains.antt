@@ -1,6 +1,6 @@
 -- The relations left of each pair of items on each axis (document 01, "Knowledge and striking"; knowledge is `Domains`, a word a relation,
 -- the words left a domain, striking removal, known fixed).
-use Rattle.prelude.specs.Names.{Bool, true, false, not, cond, _&&_, List, [], _∷_, ℕ, zero, suc, _+_, _*_, _-_, _/_, _%_, min, max, compare, Ordering}
+use Rattle.prelude.specs.Names.{Bool, true, false, not, cond, _&&_, List, ℕ, zero, suc, _+_, _*_, _/_, _%_, min, max, compare, Ordering}
 use Rattle.prelude.specs.Names.{Ordering·lt, Ordering·eq, Ordering·gt, eqb, getD, set, replicate}
 use Rattle.model.specs.Pairs.{pair-number}
 

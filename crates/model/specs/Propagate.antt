@@ -1,5 +1,5 @@
 -- Propagation: the rules applied "until nothing more can be struck". proofs/Propagate shows that any order of removals comes to the same.
-use Rattle.prelude.specs.Names.{Bool, true, false, not, _&&_, List, [], _∷_, ℕ, zero, suc, _+_, _/_, _%_, ltb, eqb}
+use Rattle.prelude.specs.Names.{Bool, true, false, not, _&&_, [], _∷_, ℕ, zero, suc, _+_, _/_, _%_, ltb, eqb}
 use Rattle.model.specs.Problem.{Problem}
 use Rattle.model.specs.Pairs.{pair-of}
 use Rattle.model.specs.Domains.{Domains, domain, overlap-bit, before-bit, after-bit}

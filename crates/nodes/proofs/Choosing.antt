@@ -1,6 +1,6 @@
 -- The branching place.
-use Rattle.prelude.specs.Names.{Bool, true, false, not, _&&_, _||_, or-true, not-eq-not, Bool-discrete, List, [], _∷_, _≡_, refl, sym, _∙_, ap, ℕ, zero}
-use Rattle.prelude.specs.Names.{suc, _+_, _*_, _-_, _/_, _≤_, _<_, arith, eqb, ltb, leb, getD, eqb-true, ltb-true, leb-true}
+use Rattle.prelude.specs.Names.{Bool, true, false, not, _&&_, _||_, or-true, not-eq-not, Bool-discrete, _≡_, refl, sym, _∙_, ap, ℕ, zero}
+use Rattle.prelude.specs.Names.{suc, _+_, _*_, _-_, _/_, _≤_, _<_, arith, eqb, leb, getD, leb-true}
 use mathlib.Core.Bool.{and-or-distrib-left, decide, decide-iff}
 use Rattle.model.specs.Below.{all-below, some-below}
 use Rattle.model.specs.Pairs.{pair-number, pair-of}
