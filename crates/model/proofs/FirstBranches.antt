@@ -21,7 +21,7 @@ use Rattle.model.proofs.Domains.{may-overlap-sym, fixed-before-of}
 use Rattle.model.proofs.Without.{without-gone}
 use Rattle.model.proofs.Monotone.{gone-mono, may-overlap-mono, may-before-mono, fixed-before-mono}
 use Rattle.model.proofs.Propagate.{propagate-less}
-use Rattle.model.proofs.Fork.{choice-number-is}
+use Rattle.model.proofs.Fork.{unseparated-pair, choice-number-is}
 use Rattle.model.proofs.Path.{path-branch, path-well-formed, path-less, path-fork}
 use Rattle.model.proofs.Search.{look-fork}
 
@@ -42,12 +42,12 @@ passed-mono j k m h r i l =
 
 module _ (p : Problem) (limited : p .items ≤ 10) (k : Domains) (f : Fork p k (choice k)) where
   -- the number of the choice is that of the first pair without a fixed "before"
-  choice-first : First 45 (λ i. not (pair-separated k i)) (choice-number k)
+  choice-first : First 45 (unseparated-pair k) (choice-number k)
   unfolding choice
   choice-first =
       let i = choice-number k in
       let small = rw (number-of-pair i) at (pair-number-small (pair-of i .u) (pair-of i .v) (f .place .rising) (omega arith)) in
-      let (j, le, r) = first-exists 45 (λ i. not (pair-separated k i)) i small (ap not (f .unseparated)) in
+      let (j, le, r) = first-exists 45 (unseparated-pair k) i small (ap not (f .unseparated)) in
       rw (choice-number-is k j r) r
 
   choice-passed : Passed k (choice-number k)
@@ -180,7 +180,7 @@ module _ (p : Problem) (σ : Sound p) where
 
 -- A look that starts at m finds the choice, or that all is packed
 pub first-from : (k : Domains) (m j : ℕ) → Passed k m → j < 45 → pair-separated k j ≡ false
-    → ((i : ℕ) → m ≤ i → i < j → pair-separated k i ≡ true) → First 45 (λ i. not (pair-separated k i)) j
+    → ((i : ℕ) → m ≤ i → i < j → pair-separated k i ≡ true) → First 45 (unseparated-pair k) j
 first-from k m j r hj e f = record {
   within = hj;
   passes = ap not e;

@@ -22,9 +22,12 @@ use Rattle.model.proofs.Consistent.{relation-left}
 use Rattle.model.proofs.Admits.{not-both, without-admits, fix-overlap-admits}
 
 -- The choice is the first by number
-pub choice-number-is : (k : Domains) (j : ℕ) → First 45 (λ i. not (pair-separated k i)) j → choice-number k ≡ j
+abbrev pub unseparated-pair : Domains → ℕ → Bool
+unseparated-pair k i = not (pair-separated k i)
+
+pub choice-number-is : (k : Domains) (j : ℕ) → First 45 (unseparated-pair k) j → choice-number k ≡ j
 unfolding choice-number
-choice-number-is k j h = first-is 45 (λ i. not (pair-separated k i)) 0 j h
+choice-number-is k j h = first-is 45 (unseparated-pair k) 0 j h
 
 pub choice-numbered : (k : Domains) → pair-number (choice k .u) (choice k .v) ≡ choice-number k
 unfolding choice
@@ -74,7 +77,7 @@ module _ (p : Problem) (k : Domains) (rest : AtRest p k) (consistent : inconsist
       let (u, hu, e) = all-not v (λ u. separated k u v) d in
       let i = pair-number u v in
       let small = pair-number-small u v hu (omega arith) in
-      let (j, le, r) = first-exists 45 (λ i. not (pair-separated k i)) i small (rw (pair-at-number u v hu, e) refl) in
+      let (j, le, r) = first-exists 45 (unseparated-pair k) i small (rw (pair-at-number u v hu, e) refl) in
       let item = pair-below (p .items) j (omega (arith, number-below (p .items) u v hu hv)) in
       let open-pair = not-true (pair-separated k j) (r .passes) in
       let (axis, several) = choice-axis-undecided (pair-of j .u) (pair-of j .v) (pair-rises j) item open-pair in
