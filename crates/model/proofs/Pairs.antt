@@ -93,6 +93,10 @@ pub pair-number-small : (u v : ℕ) → u < v → v < 10 → pair-number u v < 4
 unfolding pair-number
 pair-number-small u v = number-below 10 u v
 
+pub pair-count-small : (n : ℕ) → n ≤ 10 → pair-number 0 n ≤ 45
+unfolding pair-number
+pair-count-small n = first-mono n 10
+
 pub each-of-45 : (i : ℕ) → i < 45 → OnePair 10 i
 unfolding pair-number
 each-of-45 i = one-pair 10 i

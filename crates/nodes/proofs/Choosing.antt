@@ -1,14 +1,14 @@
 -- The branching place.
 use Rattle.prelude.specs.Names.{Bool, true, false, not, _&&_, _||_, or-true, not-eq-not, Bool-discrete, _≡_, refl, sym, _∙_, ap, ℕ, zero}
-use Rattle.prelude.specs.Names.{suc, _+_, _*_, _-_, _/_, _≤_, _<_, arith, eqb, leb, getD, leb-true}
+use Rattle.prelude.specs.Names.{suc, _+_, _*_, _≤_, _<_, arith, eqb, getD}
 use mathlib.Core.Bool.{and-or-distrib-left, decide, decide-iff}
 use Rattle.model.specs.Below.{all-below, some-below}
 use Rattle.model.specs.Pairs.{pair-number, pair-of}
 use Rattle.model.specs.Domains.{Domains, index, overlap-bit, before-bit, after-bit, fixed-before}
 use Rattle.model.specs.Branching.{separated, packed, undecided, pair-separated, choice-axis, choice}
-use Rattle.model.proofs.Below.{all-at, and-both, clash}
+use Rattle.model.proofs.Below.{all-at, clash}
 use Rattle.model.proofs.Domains.{may-overlap-sym, before-up, before-down, overlap-up}
-use Rattle.model.proofs.Pairs.{number-below, pair-rises, number-of-pair, pair-below}
+use Rattle.model.proofs.Pairs.{number-below, pair-rises, number-of-pair, pair-below, pair-count-small}
 use Rattle.model.proofs.Fork.{choice-number-is, choice-axis-is}
 use Rattle.model.proofs.FirstBranches.{first-from, packed-from}
 use Rattle.model.specs.FirstBranches.{Passed}
@@ -27,22 +27,6 @@ separates-is m h = decide-iff (Bool-discrete _ _) .0 (all-at 8 (λ m. decide (Bo
 pub several-is : (m : ℕ) → m < 8 → several m ≡ (not (eqb m 1) && not (separates m))
 unfolding overlap-bit before-bit after-bit decide
 several-is m h = decide-iff (Bool-discrete _ _) .0 (all-at 8 (λ m. decide (Bool-discrete (several m) (not (eqb m 1) && not (separates m)))) refl m h)
-
--- The pairs of n items come first
-abbrev pub pair-count : ℕ → ℕ
-pair-count n = (n * n - n) / 2
-
-count-is : (n : ℕ) → pair-count n ≡ pair-number 0 n
-unfolding pair-number
-count-is zero = refl
-count-is (suc n) = let e : suc n - 1 ≡ n = omega arith in rw e (omega arith)
-
-module _ (n : ℕ) (limited : n ≤ 10) where
-  pub square-bounds : (n ≤ n * n) × (n * n ≤ 100) × (pair-count n ≤ 45)
-  square-bounds =
-      let q = and-both _ _ (all-at 11 (λ n. leb n (n * n) && (leb (n * n) 100 && leb (pair-count n) 45)) refl n (omega arith)) in
-      let r = and-both _ _ (q .1) in
-      (leb-true _ _ (q .0), leb-true _ _ (r .0), leb-true _ _ (r .1))
 
 some-axis : (f : ℕ → Bool) → some-below 3 f ≡ (f 0 || (f 1 || f 2))
 some-axis f = go (f 0) (f 1) (f 2)
@@ -75,24 +59,24 @@ module _ (k : Domains) (j : ℕ) {u v : ℕ} (rises : u < v) (number : pair-numb
   undecided-is a = rw (index-is a (3 * j + a) refl, overlap-up k a rises, before-down k a rises, before-up k a rises) refl
 
 -- every pair from some number on is separated: packed
-pub packed-of : (k : Domains) (n : ℕ) → n ≤ 10 → (from : ℕ) → Passed k from → ((j : ℕ) → j < pair-count n → from ≤ j → separated-at k j ≡ true)
+pub packed-of : (k : Domains) (n : ℕ) → n ≤ 10 → (from : ℕ) → Passed k from → ((j : ℕ) → j < pair-number 0 n → from ≤ j → separated-at k j ≡ true)
     → Chosen k n Packed
 packed-of k n limited from passed all p e =
     packed-from p (rw e limited) k from passed
-    (λ u v hu hv low. sym (separated-is k (pair-number u v) hu refl) ∙ all (pair-number u v) (rw (count-is n) (number-below n u v hu (rw e at hv))) low)
+    (λ u v hu hv low. sym (separated-is k (pair-number u v) hu refl) ∙ all (pair-number u v) (number-below n u v hu (rw e at hv)) low)
 
 -- the first pair from some number on that is not
 pub record Unseparated (k : Domains) (n from j : ℕ) (c : P.Pair) : Type 0 where
   pub limited : n ≤ 10
   pub passed : Passed k from
-  pub below : j < pair-count n
+  pub below : j < pair-number 0 n
   pub is : pair-value c ≡ pair-of j
   pub unseparated : separated-at k j ≡ false
   pub earlier : (i : ℕ) → i < j → from ≤ i → separated-at k i ≡ true
 
 module _ {k : Domains} {n from j : ℕ} {c : P.Pair} (f : Unseparated k n from j c) where
   within : j < 45
-  within = omega (arith, square-bounds n (f .limited))
+  within = omega (arith, f .below, pair-count-small n (f .limited))
 
   separated-at-pair : (i : ℕ) → separated-at k i ≡ pair-separated k i
   separated-at-pair i = separated-is k i (pair-rises i) (number-of-pair i)
@@ -103,7 +87,7 @@ module _ {k : Domains} {n from j : ℕ} {c : P.Pair} (f : Unseparated k n from j
   chosen-at : (a : ℕ) → a < 3 → choice-axis k (pair-of j .u) (pair-of j .v) ≡ a → Chosen k n (At (record { axis = a; u = c .u; v = c .v }))
   unfolding choice packed
   chosen-at a ha e =
-      let top = pair-below n j (rw (count-is n) at (f .below)) in
+      let top = pair-below n j (f .below) in
       let rises = pair-rises j in
       let is-u : c .u ≡ pair-of j .u = ap (λ (d : M.Pair). d .u) (f .is) in
       let is-v : c .v ≡ pair-of j .v = ap (λ (d : M.Pair). d .v) (f .is) in

@@ -12,6 +12,7 @@ use domains::bits::has;
 use domains::queue::MAX_QUEUE;
 use domains::removal::remove;
 use domains::removal::remove_each;
+use pairs::pair_count;
 use pairs::pair_of;
 
 // Where to branch, if not every pair is separated.
@@ -62,7 +63,7 @@ pub fn choose(k: &[u8; DOMAINS], n: usize, from: usize) -> Branching
     requires { ⌜ WellFormed (now k) × (n ≤ 10) ⌝ }
     ensures { λ r. ⌜ (Passed (now (k .entry)) from → Chosen (now (k .entry)) n r) ⌝ }
 {
-    let count = (n * n - n) / 2;
+    let count = pair_count(n);
     let mut answer = Branching::Packed;
     'found: for number in from..count {
         if !separated(k, number) {
