@@ -1,5 +1,5 @@
 -- A pair's number and a number's pair undo one another, for any count of items.
-use Rattle.prelude.specs.Names.{inl, inr, _≡_, refl, sym, _∙_, ℕ, zero, suc, _+_, _*_, _-_, _≤_, _<_, decLt, eq-or-lt-of-le, arith, lt-ltb, le-ltb}
+use Rattle.prelude.specs.Names.{inl, inr, _≡_, refl, sym, _∙_, ap, ℕ, zero, suc, _+_, _*_, _-_, _≤_, _<_, decLt, eq-or-lt-of-le, arith, lt-ltb, le-ltb}
 use Rattle.model.specs.Pairs.{Pair, pair-number, next-pair, pair-of, OnePair}
 
 pub squares : (n : ℕ) → n * (n - 1) + 2 * n ≡ suc n * (suc n - 1)
@@ -81,11 +81,8 @@ pair-below n i h = elim (decLt (pair-of i .v) n) [
 
 pub one-pair : (n i : ℕ) → i < pair-number 0 n → OnePair n i
 one-pair n i h = (
-  pair-of i,
   record { rising = pair-rises i; item = pair-below n i h; number = number-of-pair i },
-  λ d m.
-      let (e, f) = number-once (m .rising) (pair-rises i) (m .number ∙ sym (number-of-pair i)) in
-      λ j. record { u = e j; v = f j },
+  λ c m. sym (pair-at-number (c .u) (c .v) (m .rising)) ∙ ap pair-of (m .number),
 )
 
 -- Ten items: "each of 0 to 44 belongs to exactly one pair"

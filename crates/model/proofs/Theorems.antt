@@ -61,7 +61,7 @@ path-at-once = one-propagation
 
 -- "The search"
 
--- document 02, #102: "each of 0 to 44 belongs to exactly one pair"
+-- document 02, #102: "each of 0 to 44 belongs to exactly one pair", the one worked out from it: so numbers and pairs of ten items undo one another
 pub numbers-of-pairs : (i : ℕ) → i < 45 → OnePair 10 i
 numbers-of-pairs = each-of-45
 

@@ -25,6 +25,6 @@ pub record Numbered (n i : ℕ) (c : Pair) : Type 0 where
   pub item : c .v < n
   pub number : pair-number (c .u) (c .v) ≡ i
 
--- "each of 0 to 44 belongs to exactly one pair": of ten items; n have n × (n − 1) / 2 (proofs/Pairs `one-pair`)
+-- "each of 0 to 44 belongs to exactly one pair": of n items it is the pair worked out from the number, and no other
 abbrev pub OnePair : ℕ → ℕ → Type 0
-OnePair n i = (c : Pair) × Numbered n i c × ((d : Pair) → Numbered n i d → d ≡ c)
+OnePair n i = Numbered n i (pair-of i) × ((c : Pair) → Numbered n i c → c ≡ pair-of i)
