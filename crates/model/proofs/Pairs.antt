@@ -2,9 +2,12 @@
 use Rattle.prelude.specs.Names.{inl, inr, _≡_, refl, sym, _∙_, ap, ℕ, zero, suc, _+_, _*_, _-_, _≤_, _<_, decLt, eq-or-lt-of-le, arith, lt-ltb, le-ltb}
 use Rattle.model.specs.Pairs.{Pair, pair-number, next-pair, pair-of, OnePair}
 
+pub square-split : (n : ℕ) → n * n ≡ n * (n - 1) + n
+square-split zero = omega arith
+square-split (suc n) = let e : suc n - 1 ≡ n = omega arith in rw e (omega arith)
+
 pub squares : (n : ℕ) → n * (n - 1) + 2 * n ≡ suc n * (suc n - 1)
-squares zero = omega arith
-squares (suc n) = let (e, f) : (suc n - 1 ≡ n) × (suc (suc n) - 1 ≡ suc n) = (omega arith, omega arith) in rw (e, f) (omega arith)
+squares n = let e : suc n - 1 ≡ n = omega arith in rw e (omega (arith, square-split n))
 
 -- The number of (0, v) is the count of pairs below v, and v has v pairs
 pub number-split : (u v : ℕ) → pair-number u v ≡ pair-number 0 v + u

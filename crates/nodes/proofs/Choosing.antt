@@ -19,14 +19,17 @@ use Rattle.pairs.specs.Values.{pair-value}
 use Rattle.pairs.specs.declared.Pair as P
 use Rattle.model.specs.Pairs as M
 
--- The numbers of domains, 0 to 7
+-- Two tests of domains are the same: computed for the domains 0 to 7
+same-test : (f g : ℕ → Bool) → all-below 8 (λ m. decide (Bool-discrete (f m) (g m))) ≡ true → (m : ℕ) → m < 8 → f m ≡ g m
+same-test f g e m h = decide-iff (Bool-discrete _ _) .0 (all-at 8 (λ m. decide (Bool-discrete (f m) (g m))) e m h)
+
 pub separates-is : (m : ℕ) → m < 8 → bit-at 21 m ≡ separates m
 unfolding bit-at overlap-bit before-bit after-bit decide
-separates-is m h = decide-iff (Bool-discrete _ _) .0 (all-at 8 (λ m. decide (Bool-discrete (bit-at 21 m) (separates m))) refl m h)
+separates-is = same-test (bit-at 21) separates refl
 
 pub several-is : (m : ℕ) → m < 8 → several m ≡ (not (eqb m 1) && not (separates m))
 unfolding overlap-bit before-bit after-bit decide
-several-is m h = decide-iff (Bool-discrete _ _) .0 (all-at 8 (λ m. decide (Bool-discrete (several m) (not (eqb m 1) && not (separates m)))) refl m h)
+several-is = same-test several (λ m. not (eqb m 1) && not (separates m)) refl
 
 some-axis : (f : ℕ → Bool) → some-below 3 f ≡ (f 0 || (f 1 || f 2))
 some-axis f = go (f 0) (f 1) (f 2)

@@ -1,15 +1,12 @@
 -- `pairs::pair_count` meets its contract.
-use Rattle.prelude.specs.Names.{arith, _≡_, ℕ, zero, suc, _*_, _-_, _+_, _≤_}
+use Rattle.prelude.specs.Names.{arith, ℕ, _*_, _≤_}
 use native.Mathlib.Nat.{mul-le-mul}
 use Rattle.model.specs.Pairs.{pair-number}
+use Rattle.model.proofs.Pairs.{square-split}
 use Rattle.pairs.proofs.pair_count.Tie as tie
 
 square-small : (n : ℕ) → n ≤ 10 → n * n ≤ 100
 square-small n h = mul-le-mul {n₁ = n} {m₁ = n} {n₂ = 10} {m₂ = 10} h h
-
-square-split : (n : ℕ) → n * n ≡ n * (n - 1) + n
-square-split zero = omega arith
-square-split (suc n) = let e : suc n - 1 ≡ n = omega arith in rw e (omega arith)
 
 pub pair-count-spec : {M : Type 1} → Rattle.pairs.proofs.pair_count.Statement.statement M
 unfolding pair-number
