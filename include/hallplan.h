@@ -1,4 +1,5 @@
-/* The casting hall planner, called on bytes: how many pieces a sheet has, whether a plan fits it, and the search for a plan.
+/* The casting hall planner, called on bytes: how many pieces a sheet has, whether a plan fits it, the search for a plan, and the shortest time in
+ * which there is one.
  *
  * A sheet is the bytes of document 01, "Sheet bytes", with the lags of document 02 (README.md has one byte by byte). A plan is
  * x, y, t for each piece of the sheet, 2 bytes each, low byte first: HALLPLAN_PIECE_BYTES for each piece. A note is
@@ -20,9 +21,10 @@
 extern "C" {
 #endif
 
-/* Lengths of notes, of steps, and of a plan for each piece. */
+/* Lengths of notes, of steps, of a finish's length, and of a plan for each piece. */
 #define HALLPLAN_NOTE_BYTES 273
 #define HALLPLAN_STEP_BYTES 4
+#define HALLPLAN_LENGTH_BYTES 2
 #define HALLPLAN_PIECE_BYTES 6
 
 /* No sheet has more pieces or bytes, and no plan more bytes. */
@@ -37,7 +39,7 @@ extern "C" {
 #define HALLPLAN_NO 0
 #define HALLPLAN_YES 1
 
-/* What search returns: not decided within the allowance; a plan was found; there is none. */
+/* What search and finish return: not decided within the allowance; a plan was found; there is none. */
 #define HALLPLAN_SPENT 0
 #define HALLPLAN_PLACED 1
 #define HALLPLAN_NONE 2
@@ -52,7 +54,7 @@ extern "C" {
 #define HALLPLAN_SHEET_BAD_ORDER 5      /* an order names a piece not on the sheet, or one piece twice */
 #define HALLPLAN_SHEET_ORDERS_UNSORTED 6 /* an order is not above the one before it */
 #define HALLPLAN_SHEET_BYTES_AFTER 7    /* bytes after the last field */
-#define HALLPLAN_BAD_LENGTH 8           /* plan_len is not 6 for each piece, note_len not 273, or steps_len not 4 */
+#define HALLPLAN_BAD_LENGTH 8           /* plan_len is not 6 for each piece, note_len not 273, steps_len not 4, or length_len not 2 */
 #define HALLPLAN_BAD_NOTE 10            /* the note is not one that this sheet's search can have */
 #define HALLPLAN_SHEET_NO_LAG 11        /* a field of lags in which no lag is above 0 */
 
@@ -65,6 +67,13 @@ uint32_t hallplan_check(const uint8_t *sheet, size_t sheet_len, const uint8_t *p
 /* One call of the search, which takes at most `allowance` steps: HALLPLAN_SPENT, HALLPLAN_PLACED or HALLPLAN_NONE; or a refusal.
  * Unless it is refused, it rewrites the note and the steps taken, and the plan when it returns HALLPLAN_PLACED. */
 uint32_t hallplan_search(const uint8_t *sheet, size_t sheet_len, uint8_t *note, size_t note_len, uint32_t allowance, uint8_t *steps, size_t steps_len, uint8_t *plan, size_t plan_len);
+
+/* The earliest finish: the sheet with its hall's shifts set to 1, 2 and so on up to its own, each searched whole, with `allowance` steps for all of
+ * them together. HALLPLAN_PLACED: the length is the first that has a plan, and the plan is one for it; it fits the sheet too. HALLPLAN_NONE: no length
+ * up to the sheet's shifts has one; the length is 0. HALLPLAN_SPENT: the allowance is below the steps that another answer needs, and all of it is
+ * taken; the length is the greatest already shown to have none, 0 if there is none. Or a refusal. Unless it is refused, it writes the length, low byte
+ * first, and the steps of all lengths tried, and the plan when it returns HALLPLAN_PLACED. It keeps no note: a call begins at length 1. */
+uint32_t hallplan_finish(const uint8_t *sheet, size_t sheet_len, uint32_t allowance, uint8_t *length, size_t length_len, uint8_t *steps, size_t steps_len, uint8_t *plan, size_t plan_len);
 
 #ifdef __cplusplus
 }

@@ -1,5 +1,6 @@
-/* Check, pieces and search as a C client calls them: every row of document 01's "Small halls" and sheets with lags, alone and as lists of
- * calls with refused calls among them; wrong lengths; damaged notes. The buffers are compared whole, with a guard byte on each side. */
+/* Check, pieces, search and finish as a C client calls them: every row of document 01's "Small halls" and sheets with lags, alone and as
+ * lists of calls with refused calls among them; earliest finishes under each allowance; wrong lengths; damaged notes. The buffers are
+ * compared whole, with a guard byte on each side. */
 #include "hallplan.h"
 
 #include <stdio.h>
@@ -8,6 +9,7 @@
 #define GUARD 0xA5
 #define MOST_PIECES 5
 #define MOST_STEPS 3
+#define MOST_LENGTHS 300
 
 /* The buffers lent to be written. */
 struct lent {
@@ -312,6 +314,144 @@ static void notes(void)
     }
 }
 
+/* The buffers that finish writes. */
+struct finish_lent {
+    uint8_t length[1 + HALLPLAN_LENGTH_BYTES + 1];
+    uint8_t steps[1 + HALLPLAN_STEP_BYTES + 1];
+    uint8_t plan[1 + HALLPLAN_PIECE_BYTES * MOST_PIECES + 1];
+};
+
+/* An earliest finish: the lengths tried, what the last of them gives, the steps of each (0 stands for 1), the starts of a placed plan. */
+struct finish_row {
+    const char *name, *sheet;
+    size_t len, pieces, lengths;
+    uint32_t answer;
+    uint8_t steps[MOST_LENGTHS];
+    uint8_t starts[3 * MOST_PIECES];
+};
+
+#define UNITS_2 "\x02\x00\x00"
+#define UNITS_3 "\x03\x00\x00\x00"
+
+/* Worked out by hand: compare/src/finishes.rs says how. */
+static const struct finish_row finish_rows[] = {
+    {"byte 00 alone", BYTES("\x00"), 0, 1, HALLPLAN_PLACED, {0}, {0}},
+    {"no pieces, 9 shifts", BYTES("\x04\x09\x00"), 0, 1, HALLPLAN_PLACED, {0}, {0}},
+    {"no pieces, 65535 shifts", BYTES("\x04\xFF\xFF"), 0, 1, HALLPLAN_PLACED, {0}, {0}},
+    {"1x1x1; 1x1x1", BYTES("\x08\x01\x00"), 1, 1, HALLPLAN_PLACED, {0}, {0}},
+    {"3x3x9; 2x2x4", BYTES("\x0F\x03\x00\x03\x00\x09\x00\x01\x07\x02\x00\x02\x00\x04\x00"), 1, 4, HALLPLAN_PLACED, {0}, {0}},
+    {"3x3x3; 2x2x4", BYTES("\x0F\x03\x00\x03\x00\x03\x00\x01\x07\x02\x00\x02\x00\x04\x00"), 1, 3, HALLPLAN_NONE, {0}, {0}},
+    {"1x1x300; 1x1x258", BYTES("\x0C\x2C\x01\x01\x04\x02\x01"), 1, 258, HALLPLAN_PLACED, {0}, {0}},
+    {"1x1x257; 1x1x258", BYTES("\x0C\x01\x01\x01\x04\x02\x01"), 1, 257, HALLPLAN_NONE, {0}, {0}},
+    {"1x1x3; 2x1x1", BYTES("\x0C\x03\x00\x01\x01\x02\x00"), 1, 3, HALLPLAN_NONE, {0}, {0}},
+    {"2x1x2; 2x1x1, 1x1x1; order 1,0", BYTES("\x1D\x02\x00\x02\x00\x02\x01\x02\x00\x00\x01\x01\x00"), 2, 2, HALLPLAN_PLACED, {1, 1}, {0, 0, 1, 0, 0, 0}},
+    {"the same, 9 shifts", BYTES("\x1D\x02\x00\x09\x00\x02\x01\x02\x00\x00\x01\x01\x00"), 2, 2, HALLPLAN_PLACED, {1, 1}, {0, 0, 1, 0, 0, 0}},
+    {"the same, 1 shift", BYTES("\x19\x02\x00\x02\x01\x02\x00\x00\x01\x01\x00"), 2, 1, HALLPLAN_NONE, {1}, {0}},
+    {"the same, 5 shifts, no order", BYTES("\x0D\x02\x00\x05\x00\x02\x01\x02\x00\x00"), 2, 2, HALLPLAN_PLACED, {1, 2}, {0, 0, 0, 0, 0, 1}},
+    {"2x2x5; two of 1x1x1", BYTES("\x0F\x02\x00\x02\x00\x05\x00" UNITS_2), 2, 1, HALLPLAN_PLACED, {3}, {0, 0, 0, 1, 0, 0}},
+    {"2x1x1; three of 1x1x1", BYTES("\x09\x02\x00" UNITS_3), 3, 1, HALLPLAN_NONE, {3}, {0}},
+    {"2x1x4; three of 1x1x1", BYTES("\x0D\x02\x00\x04\x00" UNITS_3), 3, 2, HALLPLAN_PLACED, {3, 5}, {0, 0, 0, 1, 0, 0, 1, 0, 1}},
+    {"1x1x2; three of 1x1x1", BYTES("\x0C\x02\x00" UNITS_3), 3, 2, HALLPLAN_NONE, {1, 3}, {0}},
+    {"1x1x9; three of 1x1x1", BYTES("\x0C\x09\x00" UNITS_3), 3, 3, HALLPLAN_PLACED, {1, 3, 4}, {0, 0, 0, 0, 0, 1, 0, 0, 2}},
+    {"3x1x4; three of 1x1x1; a circle", BYTES("\x1D\x03\x00\x04\x00" UNITS_3 "\x03\x00\x01\x01\x02\x02\x00"), 3, 4, HALLPLAN_NONE, {0}, {0}},
+    {"100x1x300; boxes of okp17-4", BYTES("\x1D\x64\x00\x2C\x01" BOXES), 5, 231, HALLPLAN_PLACED, {0}, {0, 0, 211, 0, 0, 53, 0, 0, 0, 0, 0, 121, 0, 0, 56}},
+    {"100x1x230; boxes of okp17-4", BYTES("\x1D\x64\x00\xE6\x00" BOXES), 5, 230, HALLPLAN_NONE, {0}, {0}},
+    {"1x1x9; lags 1, 5, 0", BYTES(LAGS_1_5_0("\x09")), 3, 7, HALLPLAN_PLACED, {0}, {0, 0, 0, 0, 0, 2, 0, 0, 6}},
+    {"1x1x6; lags 1, 5, 0", BYTES(LAGS_1_5_0("\x06")), 3, 6, HALLPLAN_NONE, {0}, {0}},
+    /* in 3 shifts 2 stands in the lag; the plan is not the one of 4, where it would stand last */
+    {"1x1x4; lag 1", BYTES(LAG_1("\x04")), 3, 3, HALLPLAN_PLACED, {0}, {0, 0, 0, 0, 0, 2, 0, 0, 1}},
+    {"1x1x2; lag 1", BYTES(LAG_1("\x02")), 3, 2, HALLPLAN_NONE, {0}, {0}},
+};
+
+static struct finish_lent nothing_finished(void)
+{
+    struct finish_lent lent;
+    memset(&lent, GUARD, sizeof lent);
+    return lent;
+}
+
+/* The buffers after a call with this allowance, from what the row says, and the answer. */
+static struct finish_lent finish_left_by(const struct finish_row *row, uint32_t allowance, uint32_t *answer)
+{
+    struct finish_lent lent = nothing_finished();
+    uint32_t sum = 0, length = 0;
+    while (length < row->lengths && sum + (row->steps[length] ? row->steps[length] : 1) <= allowance) {
+        sum += row->steps[length] ? row->steps[length] : 1;
+        length++;
+    }
+    *answer = length == row->lengths ? row->answer : HALLPLAN_SPENT;
+    sum = *answer == HALLPLAN_SPENT ? allowance : sum;
+    length = *answer == HALLPLAN_NONE ? 0 : length;
+    for (size_t i = 0; i < HALLPLAN_STEP_BYTES; i++) {
+        lent.steps[1 + i] = (uint8_t)(sum >> 8 * i);
+    }
+    for (size_t i = 0; i < HALLPLAN_LENGTH_BYTES; i++) {
+        lent.length[1 + i] = (uint8_t)(length >> 8 * i);
+    }
+    for (size_t i = 0; *answer == HALLPLAN_PLACED && i < 3 * row->pieces; i++) {
+        lent.plan[1 + 2 * i] = row->starts[i];
+        lent.plan[2 + 2 * i] = 0;
+    }
+    return lent;
+}
+
+static void finish_under(const struct finish_row *row, uint32_t allowance)
+{
+    const uint8_t *sheet = (const uint8_t *)row->sheet;
+    size_t plan = HALLPLAN_PIECE_BYTES * row->pieces;
+    uint32_t want_answer;
+    struct finish_lent lent = nothing_finished(), want = finish_left_by(row, allowance, &want_answer);
+    EXPECT(row->name, hallplan_finish(sheet, row->len, allowance, lent.length + 1, 2, lent.steps + 1, 4, lent.plan + 1, plan), want_answer);
+    EXPECT(row->name, memcmp(&lent, &want, sizeof lent) == 0, 1);
+    if (want_answer == HALLPLAN_PLACED) {
+        EXPECT(row->name, hallplan_check(sheet, row->len, lent.plan + 1, plan), HALLPLAN_YES);
+    }
+}
+
+/* A call that must be refused with `want`, and leave every byte. */
+static void finish_refused(const char *name, const char *sheet, size_t len, size_t length, size_t steps, size_t plan, uint32_t want)
+{
+    for (uint32_t allowance = 0; allowance < 4; allowance++) {
+        struct finish_lent lent = nothing_finished(), before = lent;
+        EXPECT(name, hallplan_finish((const uint8_t *)sheet, len, allowance, lent.length + 1, length, lent.steps + 1, steps, lent.plan + 1, plan), want);
+        EXPECT(name, memcmp(&lent, &before, sizeof lent) == 0, 1);
+    }
+}
+
+/* Other lengths of the three buffers: 8, and on a sheet that is refused or cut its own number first. */
+static void finish_lengths(const char *name, const char *sheet, size_t len, size_t pieces, uint32_t answer)
+{
+    static const size_t lengths[][3] = {{1, 4, 0}, {3, 4, 0}, {0, 4, 0}, {2, 3, 0}, {2, 5, 0}, {2, 0, 0}, {2, 4, 1}, {2, 4, 6}, {1, 5, 1}};
+    for (size_t k = 0; k < sizeof lengths / sizeof lengths[0]; k++) {
+        size_t plan = lesser(HALLPLAN_PIECE_BYTES * pieces + lengths[k][2], HALLPLAN_PIECE_BYTES * MOST_PIECES + 1);
+        finish_refused(name, sheet, len, lengths[k][0], lengths[k][1], plan, answer < HALLPLAN_REFUSED ? HALLPLAN_REFUSED + 8 : answer);
+        finish_refused("cut", sheet, 0, lengths[k][0], lengths[k][1], plan, HALLPLAN_REFUSED + 1);
+    }
+    if (pieces > 0) {
+        finish_refused(name, sheet, len, 2, 4, HALLPLAN_PIECE_BYTES * pieces - 1, HALLPLAN_REFUSED + 8);
+    }
+}
+
+/* Every allowance up to more than is needed, and the greatest; then refused calls, on the sheets that search refuses too. */
+static void finishes(void)
+{
+    for (size_t r = 0; r < sizeof finish_rows / sizeof finish_rows[0]; r++) {
+        const struct finish_row *row = &finish_rows[r];
+        for (uint32_t allowance = 0; allowance < row->lengths + 10; allowance++) {
+            finish_under(row, allowance);
+        }
+        finish_under(row, 1000000);
+        finish_under(row, 0xFFFFFFFF);
+        finish_lengths(row->name, row->sheet, row->len, row->pieces, row->answer);
+    }
+    for (size_t r = 0; r < sizeof rows / sizeof rows[0]; r++) {
+        if (rows[r].answer > HALLPLAN_REFUSED) {
+            finish_refused(rows[r].name, rows[r].sheet, rows[r].len, 2, 4, 0, rows[r].answer);
+            finish_lengths(rows[r].name, rows[r].sheet, rows[r].len, 0, rows[r].answer);
+        }
+    }
+}
+
 int main(void)
 {
     small_halls();
@@ -321,5 +461,6 @@ int main(void)
     pieces();
     longest_sheet();
     notes();
+    finishes();
     return failed;
 }

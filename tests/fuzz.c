@@ -1,4 +1,4 @@
-/* Random and damaged sheets, plans, notes, lengths and allowances, put to check, pieces and search: fuzz SECONDS SEED
+/* Random and damaged sheets, plans, notes, lengths and allowances, put to check, pieces, search and finish: fuzz SECONDS SEED
  *
  * Every call is made twice on copies of the same bytes: on heap blocks of exactly their length, so that memcheck sees each access
  * outside, and on blocks with guard bytes around them. Both must return and leave the same, and what documents 01 and 02 allow. */
@@ -29,7 +29,7 @@ struct block {
 };
 
 static uint64_t state;
-static unsigned long long cases, checks[2 + NUMBERS], piece_calls[1 + NUMBERS], searches[3 + NUMBERS];
+static unsigned long long cases, checks[2 + NUMBERS], piece_calls[1 + NUMBERS], searches[3 + NUMBERS], finishes[3 + NUMBERS];
 
 static uint64_t next_random(void)
 {
@@ -272,12 +272,17 @@ static uint32_t search_on(const struct bytes *sheet, struct lent *lent, uint32_t
     return answer;
 }
 
+static uint32_t steps_in(const struct bytes *steps)
+{
+    const uint8_t *t = steps->at;
+    return t[0] + 256u * t[1] + 65536u * t[2] + 16777216u * t[3];
+}
+
 /* What document 01 says of a call that is not refused, as far as it can be seen from outside. */
 static void answered(const struct bytes *sheet, const struct lent *before, const struct lent *after, uint32_t allowance, uint32_t answer)
 {
     static const uint8_t state_of[] = {0, 2, 1};
-    const uint8_t *t = after->steps.at;
-    uint32_t steps = t[0] + 256u * t[1] + 65536u * t[2] + 16777216u * t[3];
+    uint32_t steps = steps_in(&after->steps);
     must(answer <= HALLPLAN_NONE, "an answer of search");
     must(after->note.at[0] == state_of[answer], "the note's state");
     must(answer == HALLPLAN_SPENT ? steps == allowance : steps <= allowance, "the steps");
@@ -305,6 +310,101 @@ static uint32_t search(const struct bytes *sheet, struct lent *lent, uint32_t al
     return answer;
 }
 
+/* The three buffers that finish writes. */
+struct finish_lent {
+    struct bytes length, steps, plan;
+};
+
+static uint32_t finish_on(const struct bytes *sheet, struct finish_lent *lent, uint32_t allowance, size_t guards)
+{
+    struct block s = lend(sheet, guards), l = lend(&lent->length, guards), t = lend(&lent->steps, guards), p = lend(&lent->plan, guards);
+    uint32_t answer = hallplan_finish(s.at, s.len, allowance, l.at, l.len, t.at, t.len, p.at, p.len);
+    struct bytes left = take_back(s);
+    must(same(&left, sheet), "finish wrote the sheet");
+    lent->length = take_back(l);
+    lent->steps = take_back(t);
+    lent->plan = take_back(p);
+    return answer;
+}
+
+/* Where the hall's shifts stand, if they are written. */
+static size_t shifts_place(const struct bytes *sheet)
+{
+    return 1 + 2u * (sheet->at[0] & 1) + 2u * (sheet->at[0] >> 1 & 1);
+}
+
+/* The hall's shifts, on a sheet that reads. */
+static uint32_t shifts_of(const struct bytes *sheet)
+{
+    const uint8_t *at = sheet->at + shifts_place(sheet);
+    return sheet->at[0] >> 2 & 1 ? at[0] + 256u * at[1] : 1;
+}
+
+/* The sheet with other shifts, at most its own; with its own where a sheet cannot have them written, 0 and 1. */
+static struct bytes with_shifts(const struct bytes *sheet, uint32_t shifts)
+{
+    struct bytes other = *sheet;
+    if (shifts > 1) {
+        other.at[shifts_place(sheet)] = (uint8_t)(shifts % 256);
+        other.at[shifts_place(sheet) + 1] = (uint8_t)(shifts / 256);
+    }
+    return other;
+}
+
+/* Whether a search of the sheet with these shifts finds a plan, in a few steps; where they cannot be written, it does not. */
+static int has_plan(const struct bytes *sheet, uint32_t shifts, size_t plan_len)
+{
+    struct bytes other = with_shifts(sheet, shifts);
+    uint8_t note[HALLPLAN_NOTE_BYTES] = {0}, steps[HALLPLAN_STEP_BYTES], plan[HALLPLAN_MAX_PLAN_BYTES];
+    return shifts > 1 && hallplan_search(other.at, other.len, note, sizeof note, 50, steps, sizeof steps, plan, plan_len) == HALLPLAN_PLACED;
+}
+
+/* What request #103 says of a call that is not refused, as far as it can be seen from outside: a length takes a step at least. */
+static void finished(const struct bytes *sheet, const struct finish_lent *before, const struct finish_lent *after, uint32_t allowance, uint32_t answer)
+{
+    uint32_t length = after->length.at[0] + 256u * after->length.at[1], steps = steps_in(&after->steps), shifts = shifts_of(sheet);
+    must(answer <= HALLPLAN_NONE, "an answer of finish");
+    must(answer == HALLPLAN_SPENT ? steps == allowance : steps <= allowance, "the steps of finish");
+    must(length <= shifts && length <= steps, "the length");
+    if (answer == HALLPLAN_PLACED) {
+        struct bytes shortened = with_shifts(sheet, length);
+        must(length > 0 && check(sheet, &after->plan) == HALLPLAN_YES, "an earliest plan does not fit");
+        must(check(&shortened, &after->plan) == HALLPLAN_YES, "an earliest plan does not fit its length");
+        must(!has_plan(sheet, length - 1, after->plan.len), "a shorter length has a plan");
+        return;
+    }
+    must(same(&before->plan, &after->plan), "finish wrote the plan");
+    must(answer == HALLPLAN_NONE ? length == 0 && steps >= shifts : length < shifts, "the length without a plan");
+    must(!has_plan(sheet, answer == HALLPLAN_NONE ? shifts : length, after->plan.len), "a length shown impossible has a plan");
+}
+
+static void finish(const struct bytes *sheet, struct finish_lent *lent, uint32_t allowance)
+{
+    struct finish_lent before = *lent, again = *lent;
+    uint32_t answer = finish_on(sheet, lent, allowance, 0);
+    must(answer == finish_on(sheet, &again, allowance, GUARD_BYTES), "finish answers twice");
+    must(same(&lent->length, &again.length) && same(&lent->steps, &again.steps) && same(&lent->plan, &again.plan), "finish leaves twice");
+    if (answer > HALLPLAN_REFUSED) {
+        must(answer <= HALLPLAN_REFUSED + 8 || answer == NO_LAG, "a refusal of finish");
+        must(same(&lent->length, &before.length) && same(&lent->steps, &before.steps) && same(&lent->plan, &before.plan), "a refusal of finish wrote");
+    } else {
+        finished(sheet, &before, lent, allowance, answer);
+    }
+    finishes[answer < 3 ? answer : 3 + answer - HALLPLAN_REFUSED]++;
+}
+
+/* Finish on the sheet, mostly with buffers of the lengths due. */
+static void finish_case(const struct bytes *sheet, unsigned pieces)
+{
+    static struct finish_lent lent;
+    make_plan(&lent.plan, pieces);
+    make_random(&lent.length, 5);
+    make_random(&lent.steps, 8);
+    lent.length.len = below(20) ? HALLPLAN_LENGTH_BYTES : lent.length.len;
+    lent.steps.len = below(20) ? HALLPLAN_STEP_BYTES : lent.steps.len;
+    finish(sheet, &lent, below(below(2) ? 12 : MOST_ALLOWANCE + 1));
+}
+
 static void one_case(void)
 {
     static struct bytes sheet;
@@ -326,6 +426,7 @@ static void one_case(void)
         damage(&lent.note);
         search(&sheet, &lent, below(20));
     }
+    finish_case(&sheet, pieces);
 }
 
 static void print_counts(const char *what, const unsigned long long *counts, unsigned answers, const char *const *words)
@@ -354,6 +455,7 @@ int main(int argc, char **argv)
     print_counts("check", checks, 2, yes_no);
     print_counts("pieces", piece_calls, 1, counted);
     print_counts("search", searches, 3, words);
+    print_counts("finish", finishes, 3, words);
     printf("fuzz: %llu cases in %.0f s, seed %llu: nothing outside, nothing unexpected\n", cases, seconds, (unsigned long long)seed);
     return 0;
 }

@@ -1,9 +1,10 @@
-"""Makes crates/test_vectors/stdin and crates/test_vectors/stdout: cases for reading, writing, item records, check, clearance and runs.
+"""Makes crates/test_vectors/stdin and crates/test_vectors/stdout: cases for reading, writing, item records, check, clearance, runs and
+earliest finishes.
 
     python3 tests/make_vectors.py            writes both files
     python3 tests/make_vectors.py --check    says whether they are what it would write
 
-The expected lines come from tests/reference.py. The cases under "by hand" were worked out from document 01 and request #101:
+The expected lines come from tests/reference.py. The cases under "by hand" were worked out from document 01 and requests #101 and #103:
 their lines stand here, and the reference has to agree with them.
 
 A case is an op byte, the payload's length in 2 bytes, and the payload; numbers have the low byte first.
@@ -17,12 +18,14 @@ A case is an op byte, the payload's length in 2 bytes, and the payload; numbers 
     6 rewrite     a sheet, read and then written               rewritten LENGTH HEX or refused ..
     7 valid       instance                                     valid, not valid
     8 run         a sheet                                      what the program prints, and an empty line
+    9 finish      instance, allowance (4)                      finish ANSWER LENGTH STEPS and ten positions, or refused ..
 
 An instance is 354 bytes: container (6), item count (8), ten items (6 each), precedence count (8), ninety
 precedences (3 each: u, v, lag), yard number (2). Positions are ten times x, y, t, 2 bytes each.
 A line `read` is WIDTH DEPTH SHIFTS items N and their measures, precedences M and for each U V, and `lag L` where L is above 0, yard
 NUMBER, rest zero or not zero: whether anything past the counts is other than 0.
 A write gets a room of that many bytes, all of them fill; its HEX is the room and the 4 fill bytes after it.
+The ANSWER of a finish is 0 spent, 1 placed, 2 none; its positions are x, y, t, ten times.
 """
 
 import os
@@ -30,12 +33,14 @@ import sys
 
 import reference
 
-READ, WRITE, RECORD, CHECK, CLEARANCE, REWRITE, VALID, RUN = range(1, 9)
-KINDS = ["", "read", "write", "record", "check", "clearance", "rewrite", "valid", "run"]
+READ, WRITE, RECORD, CHECK, CLEARANCE, REWRITE, VALID, RUN, FINISH = range(1, 10)
+KINDS = ["", "read", "write", "record", "check", "clearance", "rewrite", "valid", "run", "finish"]
 GUARD = 4
 MOST_ROOM = 400
 MOST_STDIN = 1048576
 MOST_PAYLOAD = 16384
+GREATEST = 2 ** 32 - 1
+ANSWERS = ["spent", "placed", "none"]
 
 cases = []
 lines = []
@@ -166,6 +171,14 @@ def run_line(sheet):
     return reference.program(sheet)
 
 
+def finish_line(value, allowance):
+    answer = reference.finish(value, allowance)
+    if is_refused(answer):
+        return refused(answer)
+    numbers = [ANSWERS.index(answer["answer"]), answer["length"], answer["steps"]]
+    return " ".join(["finish"] + [str(number) for number in numbers + sum(answer["packing"], [])])
+
+
 def add(op, payload, line, expected):
     assert len(payload) <= MOST_PAYLOAD
     assert expected is None or line == expected, (KINDS[op], payload.hex()[:200], line, expected)
@@ -205,6 +218,10 @@ def add_valid(value, expected=None):
 
 def add_run(sheet, expected=None):
     add(RUN, sheet, run_line(sheet), expected)
+
+
+def add_finish(value, allowance, expected=None):
+    add(FINISH, instance_bytes(value) + little(allowance, 4), finish_line(value, allowance), expected)
 
 
 # By hand: reading
@@ -913,6 +930,97 @@ def hand_lags_run():
     row([3, 1, 99], units, [(0, 1, 1), (1, 2, 0), (2, 0, 0)], "none 1")
 
 
+# By hand: the earliest finish (request #103)
+
+
+def hand_finish():
+    units = [[1, 1, 1]] * 3
+    example = [[2, 1, 1], [1, 1, 1]]
+
+    def spent(value, budgets):
+        """Each allowance with the length that it shows: all of it is taken."""
+        for allowance, length in budgets:
+            add_finish(value, allowance, "finish 0 %d %d" % (length, allowance) + " 0" * 30)
+
+    def decided(value, answer, length, steps, *starts):
+        """From so many steps on, and not one earlier; all shorter lengths have their steps before."""
+        line = "finish %d %d %d" % (answer, length, steps)
+        line += "".join(" %d %d %d" % tuple(start) for start in packing(*starts))
+        for allowance in (steps, steps + 1, GREATEST):
+            add_finish(value, allowance, line)
+
+    # no pieces: 1 once a step is allowed, however many shifts there are
+    for shifts in (1, 2, 65535):
+        spent(instance([1, 1, shifts]), [(0, 0)])
+        decided(instance([1, 1, shifts]), 1, 1, 1)
+    # one piece: each length below its own takes the step that says none
+    for shifts in (1, 2, 9, 65535):
+        spent(instance([1, 1, shifts], units[:1]), [(0, 0)])
+        decided(instance([1, 1, shifts], units[:1]), 1, 1, 1, [0, 0, 0])
+    spent(instance([3, 3, 9], [[2, 2, 4]]), [(0, 0), (1, 1), (2, 2), (3, 3)])
+    decided(instance([3, 3, 9], [[2, 2, 4]]), 1, 4, 4)
+    spent(instance([3, 3, 3], [[2, 2, 4]]), [(0, 0), (1, 1), (2, 2)])
+    decided(instance([3, 3, 3], [[2, 2, 4]]), 2, 0, 3)
+    spent(instance([1, 1, 300], [[1, 1, 258]]), [(255, 255), (256, 256), (257, 257)])
+    decided(instance([1, 1, 300], [[1, 1, 258]]), 1, 258, 258)
+    # wider or deeper than the hall: no length helps
+    for piece in ([2, 1, 1], [1, 2, 1]):
+        spent(instance([1, 1, 3], [piece]), [(0, 0), (1, 1), (2, 2)])
+        decided(instance([1, 1, 3], [piece]), 2, 0, 3)
+    # all lengths there are: the last step of the last one says none
+    spent(instance([1, 1, 65535], [[2, 1, 1]]), [(4, 4)])
+    add_finish(instance([1, 1, 65535], [[2, 1, 1]]), 65535, "finish 2 0 65535" + " 0" * 30)
+    # the printed example, with its shifts and more: none 1 and placed 1
+    for shifts in (2, 3, 9):
+        spent(instance([2, 1, shifts], example, [(1, 0)]), [(0, 0), (1, 1)])
+        decided(instance([2, 1, shifts], example, [(1, 0)]), 1, 2, 2, [0, 0, 1], [0, 0, 0])
+    spent(instance([2, 1, 1], example, [(1, 0)]), [(0, 0)])
+    decided(instance([2, 1, 1], example, [(1, 0)]), 2, 0, 1)
+    # the same, no order: none 1 and placed 2, the turn that puts 0 first
+    spent(instance([2, 1, 5], example), [(0, 0), (1, 1), (2, 1)])
+    decided(instance([2, 1, 5], example), 1, 2, 3, [0, 0, 0], [0, 0, 1])
+    # 2 x 2, two units: beside one another in one shift, after 3 steps
+    spent(instance([2, 2, 5], units[:2]), [(0, 0), (1, 0), (2, 0)])
+    decided(instance([2, 2, 5], units[:2]), 1, 1, 3, [0, 0, 0], [1, 0, 0])
+    # 2 x 1, three units: none 3; then 0 before 1 and before 2 on x, and 1 before 2 on t, four turns, and the step that says placed
+    spent(instance([2, 1, 1], units), [(0, 0), (1, 0), (2, 0)])
+    decided(instance([2, 1, 1], units), 2, 0, 3)
+    spent(instance([2, 1, 4], units), [(0, 0), (2, 0), (3, 1), (4, 1), (7, 1)])
+    decided(instance([2, 1, 4], units), 1, 2, 8, [0, 0, 0], [1, 0, 0], [1, 0, 1])
+    # 1 x 1, three units: none 1, none 3, then three turns one after another
+    spent(instance([1, 1, 2], units), [(0, 0), (1, 1), (2, 1), (3, 1)])
+    decided(instance([1, 1, 2], units), 2, 0, 4)
+    spent(instance([1, 1, 9], units), [(0, 0), (1, 1), (3, 1), (4, 2), (5, 2), (7, 2)])
+    decided(instance([1, 1, 9], units), 1, 3, 8, [0, 0, 0], [0, 0, 1], [0, 0, 2])
+    # a circle: each length takes a step
+    circle = instance([3, 1, 4], units, [(0, 1), (1, 2), (2, 0)])
+    spent(circle, [(0, 0), (3, 3)])
+    decided(circle, 2, 0, 4)
+    # the boxes of document 01: a chain of 231
+    orders = [(1, 3), (1, 4), (2, 0), (2, 1), (2, 3), (3, 0), (4, 3)]
+    boxes = [[58, 1, 20], [99, 1, 3], [7, 1, 53], [11, 1, 90], [26, 1, 65]]
+    spent(instance([100, 1, 300], boxes, orders), [(230, 230)])
+    starts = [0, 0, 211], [0, 0, 53], [0, 0, 0], [0, 0, 121], [0, 0, 56]
+    decided(instance([100, 1, 300], boxes, orders), 1, 231, 231, *starts)
+    # lags: in 3 shifts 2 stands in the lag, in 4 it would stand last; the plan is the one of 3
+    spent(instance([1, 1, 4], units, [(0, 1, 1)]), [(0, 0), (1, 1), (2, 2)])
+    decided(instance([1, 1, 4], units, [(0, 1, 1)]), 1, 3, 3, [0, 0, 0], [0, 0, 2], [0, 0, 1])
+    direct = [(0, 1, 1), (0, 2, 5), (1, 2, 0)]
+    spent(instance([1, 1, 20], units, direct), [(5, 5), (6, 6)])
+    decided(instance([1, 1, 20], units, direct), 1, 7, 7, [0, 0, 0], [0, 0, 2], [0, 0, 6])
+    decided(instance([1, 1, 300], units[:2], [(0, 1, 255)]), 1, 257, 257, [0, 0, 0], [0, 0, 256])
+    decided(instance([1, 1, 256], units[:2], [(0, 1, 255)]), 2, 0, 256)
+    # what is past the counts is no part of it
+    past = instance([2, 1, 9], example, [(1, 0)], 77)
+    past["items"][2:] = [[0, 7, 65535] for _ in range(8)]
+    past["precedences"][1:] = [[0, 1, 255] for _ in range(89)]
+    spent(past, [(0, 0), (1, 1)])
+    decided(past, 1, 2, 2, [0, 0, 1], [0, 0, 0])
+    # number 9 and nothing else, whatever the allowance
+    for number, value in enumerate(refused_values()):
+        add_finish(value, [0, 1, 2, 1000, GREATEST][number % 5], "refused 9 0")
+
+
 # Made: from a fixed seed
 
 
@@ -1152,6 +1260,44 @@ def made_lag_runs(numbers):
             made += 1
 
 
+def with_anything_past(numbers, value):
+    """The value with anything past its counts."""
+    for i in range(value["item_count"], 10):
+        value["items"][i] = [numbers.below(3) for _ in range(3)]
+    for i in range(value["precedence_count"], 90):
+        value["precedences"][i] = [numbers.below(12), numbers.below(12), numbers.below(256)]
+    return value
+
+
+def sums_of_lengths(value, most):
+    """The steps up to the end of each length, up to the answer; None where they are more than that."""
+    sums = []
+    for length in range(1, value["container"][2] + 1):
+        state, taken, _, _ = reference.run(reference.with_shifts(value, length), most)
+        sums.append((sums[-1] if sums else 0) + taken)
+        if state == reference.OPEN or sums[-1] > most:
+            return None
+        if state == reference.PLACED:
+            break
+    return sums
+
+
+def made_finishes(numbers):
+    made = 0
+    while made < 24:
+        value = small_with_lags(numbers, 5)
+        if numbers.below(3) == 0:
+            value = instance(value["container"], value["items"][: value["item_count"]])
+        value["container"][2] = max(1, value["container"][2] + numbers.one_of([-1, 0, 0, 1, 5]))
+        sums = sums_of_lengths(value, 200)
+        if sums is not None and len(sums) > 1:
+            made += 1
+            with_anything_past(numbers, value)
+            between, total = numbers.one_of(sums[:-1]), sums[-1]
+            for allowance in sorted({between - 1, between, between + 1, total - 1, total, numbers.one_of([total + 1, GREATEST])}):
+                add_finish(value, allowance)
+
+
 # All of it
 
 
@@ -1165,6 +1311,7 @@ def main():
     hand_lags_write()
     hand_lags_check()
     hand_lags_run()
+    hand_finish()
     by_hand = len(cases)
     made_reads(Numbers(1))
     made_records(Numbers(2))
@@ -1175,6 +1322,7 @@ def main():
     made_lag_writes(Numbers(7))
     made_lag_checks(Numbers(8))
     made_lag_runs(Numbers(9))
+    made_finishes(Numbers(10))
     for number in (1, 2, 3, 4, 5, 6, 7, 11):
         places = {line.split()[2] for line in lines if line.startswith("refused %d " % number)}
         assert len(places) >= 2, number
@@ -1194,11 +1342,12 @@ def main():
         for path, content in files:
             with open(path, "wb") as file:
                 file.write(content)
-    for op in range(1, 9):
+    for op in range(1, len(KINDS)):
         answers = {}
         for (case_op, _), line in zip(cases, lines):
             if case_op == op:
-                word = "not" if line.startswith("not ") else line.split()[0]
+                words = line.split()
+                word = ANSWERS[int(words[1])] if words[0] == "finish" else words[0]
                 answers[word] = answers.get(word, 0) + 1
         print(KINDS[op], sum(answers.values()), " ".join("%s %d" % pair for pair in sorted(answers.items())))
     print("cases %d, by hand %d; stdin %d bytes, stdout %d bytes" % (len(cases), by_hand, len(stdin), len(stdout)))

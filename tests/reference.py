@@ -1,5 +1,5 @@
-"""Instances, packings, item records, clearance and the search, written plainly from document 01 and requests #101 and #102 of document 02
-alone.
+"""Instances, packings, item records, clearance, the search and the earliest finish, written plainly from document 01 and requests #101 to
+#103 of document 02 alone.
 
 It shares nothing with the crates. tests/make_vectors.py takes the expected lines of crates/test_vectors from here.
 
@@ -448,7 +448,7 @@ def with_turn(value, struck, turn):
 def starts(value, struck):
     """On each axis a piece starts at the total of the greatest chain ending in it, less its own measure."""
     pieces = range(value["item_count"])
-    positions = [[0, 0, 0] for _ in range(MAX_ITEMS)]
+    positions = all_zeros()
     for axis in (0, 1, 2):
         ending, _ = greatest_totals(value, struck, axis, pieces)
         for piece in pieces:
@@ -475,13 +475,17 @@ def step(value, row, levels):
     return OPEN
 
 
+def all_zeros():
+    return [[0, 0, 0] for _ in range(MAX_ITEMS)]
+
+
 def run(value, allowance=1000000):
     """From the opening note: the state, the steps taken, the row of turns, and ten positions where it is placed, else ten zeros."""
     state, steps, row, levels = OPEN, 0, [], [opening_knowledge(value)]
     while state == OPEN and steps < allowance:
         state = step(value, row, levels)
         steps += 1
-    return state, steps, row, starts(value, levels[-1]) if state == PLACED else [[0, 0, 0] for _ in range(MAX_ITEMS)]
+    return state, steps, row, starts(value, levels[-1]) if state == PLACED else all_zeros()
 
 
 def program(sheet, allowance=1000000):
@@ -494,3 +498,36 @@ def program(sheet, allowance=1000000):
     if state == PLACED:
         lines += ["%d %d %d %d" % (piece, *positions[piece]) for piece in range(value["item_count"])]
     return "".join(line + "\n" for line in lines)
+
+
+# #103: the earliest finish
+
+SPENT = "spent"
+
+
+def with_shifts(value, length):
+    """The value with so many shifts, "the other measures unchanged"."""
+    width, depth, _ = value["container"]
+    return {**value, "container": [width, depth, length]}
+
+
+def finished(answer, length, steps, positions):
+    return {"answer": answer, "length": length, "steps": steps, "packing": positions}
+
+
+def finish(value, allowance):
+    """The answer with its length, steps and ten positions, all zeros unless it is placed; or the refusal."""
+    if not valid(value):
+        return (9, 0)
+    steps, shown = 0, 0
+    # "for lengths 1, 2 and so on up to the sheet's shifts, search with the other measures unchanged, under one total allowance"
+    for length in range(1, value["container"][2] + 1):
+        state, taken, _, positions = run(with_shifts(value, length), allowance - steps)
+        steps += taken
+        if state == PLACED:
+            return finished(PLACED, length, steps, positions)
+        if state == OPEN:
+            # "spent, with the greatest length already shown impossible (0 if there is none)"
+            return finished(SPENT, shown, steps, all_zeros())
+        shown = length
+    return finished(NONE, 0, steps, all_zeros())

@@ -12,3 +12,7 @@ steps-length = 4
 -- "x, y, t for each piece, 2 bytes each"
 abbrev pub position-length : ℕ
 position-length = 6
+
+-- the length that an earliest finish gives (document 02, #103): a number of 16 bits
+abbrev pub finish-length : ℕ
+finish-length = 2

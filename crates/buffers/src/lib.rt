@@ -11,3 +11,6 @@ pub const STEP_BYTES: usize = 4;
 
 // "x, y, t for each piece, 2 bytes each"
 pub const POSITION_BYTES: usize = 6;
+
+// The length of an earliest finish: a word.
+pub const FINISH_BYTES: usize = 2;

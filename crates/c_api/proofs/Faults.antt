@@ -10,19 +10,17 @@ use Rattle.instance.specs.Meaning.{problem-of}
 use Rattle.instance.specs.Reads.{Reads}
 use Rattle.search.proofs.Claim.{following-exactly, answered-small, zero-is-spent}
 use Rattle.tree_paths.specs.Checkpoints.{checkpoint-of, following}
-use Rattle.search.specs.declared.answer.Answer.{Answer}
-use Rattle.search.specs.declared.answer.Answer.the-variants.{Packed, Infeasible, BudgetSpent, Refused}
 use Rattle.search.specs.declared.answer.SearchResult.{SearchResult}
 use Rattle.buffers.proofs.Bytes.{steps-back}
 use Rattle.buffers.specs.Bytes.{packing-bytes, steps-in}
 use Rattle.buffers.specs.Checkpoints.{checkpoint-in, is-checkpoint}
-use Rattle.c_api.specs.Calls.{check-code, buffers-fit, note-follows, searched-if, instance-searched, rewritten, when-packed, search-call}
+use Rattle.c_api.specs.Calls.{check-code, buffers-fit, note-follows, searched-if, instance-searched, when-packed, search-call}
 use Rattle.c_api.specs.Calls.{search-code, note-after, steps-after, plan-after}
 use Rattle.c_api.specs.Faults.{SearchBytesFault}
 use Rattle.c_api.specs.Notes.{Lengths, NoteFollows}
 use Rattle.c_api.proofs.Tables.{refuses-by-table, served-by-table}
 use Rattle.c_api.proofs.Notes.{note-follows-exactly}
-use Rattle.c_api.proofs.Outcomes.{lengths-exactly}
+use Rattle.c_api.proofs.Outcomes.{lengths-exactly, refused-keeps}
 use Rattle.c_api.proofs.Plans.{fault-or-reads, reads-sound, placed-checks}
 use Rattle.model.proofs.Theorems as T
 use Rattle.model.specs.Calls as C
@@ -122,7 +120,7 @@ module _ (sheet note steps plan : List ℕ) (allowance : ℕ) where
         fits r (S.open-at path) f e = absurd (omega arith)
         fits r S.infeasible f e = absurd (omega arith)
         fits r (S.packed-at path) f e =
-            placed-checks sheet bytes r (S.packed-at path) (T.packed-feasible (problem r) (reads-sound sheet bytes r) path f)
+            placed-checks sheet bytes r (plan-at (problem r) (S.packed-at path)) (T.packed-feasible (problem r) (reads-sound sheet bytes r) path f)
 
         go : Searched sheet allowance call → check-code sheet (plan-after sheet note allowance steps plan) ≡ 1
         go σ =
@@ -146,11 +144,4 @@ module _ (sheet note steps plan : List ℕ) (allowance : ℕ) where
       → (note-after sheet note allowance steps plan ≡ note)
       × (steps-after sheet note allowance steps plan ≡ steps)
       × (plan-after sheet note allowance steps plan ≡ plan)
-  untouched = go (call .answer) _ _ _
-    where
-      go : (a : Answer) (x y z : List ℕ) → 100 ≤ R.answer-number a
-          → (rewritten a note x ≡ note) × (rewritten a steps y ≡ steps) × (when-packed a plan z ≡ plan)
-      go BudgetSpent x y z e = absurd (omega arith)
-      go Packed x y z e = absurd (omega arith)
-      go Infeasible x y z e = absurd (omega arith)
-      go (Refused r) x y z e = (refl, refl, refl)
+  untouched = refused-keeps (call .answer) note steps plan _ _ _

@@ -5,3 +5,4 @@ pub mod Plans
 pub mod Pieces
 pub mod Faults
 pub mod Claim
+pub mod Finishes

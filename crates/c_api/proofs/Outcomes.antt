@@ -1,5 +1,5 @@
 -- What a call comes to, case by case, and that a path that is to be written has room in a note.
-use Rattle.prelude.specs.Names.{true, false, List, _↔_, _≡_, sym, subst, ℕ, _*_, _≤_, eqb, length, eqb-true, eq-eqb}
+use Rattle.prelude.specs.Names.{true, false, List, _↔_, _≡_, refl, sym, subst, ℕ, _*_, _≤_, _<_, arith, eqb, length, eqb-true, eq-eqb}
 use Rattle.model.proofs.Below.{and-both}
 use Rattle.model.specs.Problem.{Positions}
 use Rattle.model.specs.Machine.{steps}
@@ -16,10 +16,12 @@ use Rattle.tree_paths.proofs.Checkpoints.{value-short}
 use Rattle.search.proofs.Claim.{short, CallIs, invalid, not-following, searched, call-is}
 use Rattle.opening.proofs.Sound.{valid-sound}
 use Rattle.tree_paths.specs.Checkpoints.{checkpoint-of, value-of}
+use Rattle.search.specs.declared.answer.Answer.{Answer}
+use Rattle.search.specs.declared.answer.Answer.the-variants.{Packed, Infeasible, BudgetSpent, Refused}
 use Rattle.search.specs.declared.answer.SearchResult.{SearchResult}
 use Rattle.buffers.specs.Bytes.{packing-in}
 use Rattle.buffers.specs.Checkpoints.{checkpoint-in, is-checkpoint}
-use Rattle.c_api.specs.Calls.{plan-fits, buffers-fit, instance-checked, note-follows, instance-searched, PathFits}
+use Rattle.c_api.specs.Calls.{plan-fits, buffers-fit, instance-checked, note-follows, rewritten, when-packed, instance-searched, PathFits}
 use Rattle.c_api.specs.Notes.{Lengths}
 use Rattle.model.proofs.Theorems as T
 use Rattle.model.specs.Calls as C
@@ -80,3 +82,36 @@ module _ (i : Instance) (v : valid i ≡ true) (long : length (i .items) ≡ 10)
 pub checked-is : (i : Instance) (plan : List ℕ) (q : Packing) (r : CheckAnswer) → length plan ≡ 6 * i .«item_count»
     → q ≡ packing-in plan → r ≡ check-answer i q → check-number r ≡ check-number (instance-checked i plan)
 checked-is i plan q r h e k = rw (eq-eqb _ _ h, ← e, k)
+
+-- What is written, by the answer's number: 1 is placed, 100 and above are a refusal's numbers
+pub plan-placed : (a : Answer) (old new : List ℕ) → R.answer-number a ≡ 1 → new ≡ when-packed a old new
+plan-placed BudgetSpent old new e = absurd (omega arith)
+plan-placed Packed old new e = refl
+plan-placed Infeasible old new e = absurd (omega arith)
+plan-placed (Refused r) old new e = absurd (omega arith)
+
+pub plan-kept : (a : Answer) (old new : List ℕ) → (R.answer-number a ≡ 1 → ⊥) → old ≡ when-packed a old new
+plan-kept BudgetSpent old new n = refl
+plan-kept Packed old new n = absurd (n refl)
+plan-kept Infeasible old new n = refl
+plan-kept (Refused r) old new n = refl
+
+pub not-refused : (a : Answer) (old new : List ℕ) → R.answer-number a < 100 → new ≡ rewritten a old new
+not-refused BudgetSpent old new h = refl
+not-refused Packed old new h = refl
+not-refused Infeasible old new h = refl
+not-refused (Refused r) old new h = absurd (omega arith)
+
+pub path-room : (a : Answer) (n : ℕ) → PathFits a n → R.answer-number a < 100 → n ≤ 270
+path-room BudgetSpent n f h = f
+path-room Packed n f h = f
+path-room Infeasible n f h = f
+path-room (Refused r) n f h = absurd (omega arith)
+
+-- "Every refusal leaves lent buffers untouched"
+pub refused-keeps : (a : Answer) (x y z x′ y′ z′ : List ℕ) → 100 ≤ R.answer-number a
+    → (rewritten a x x′ ≡ x) × (rewritten a y y′ ≡ y) × (when-packed a z z′ ≡ z)
+refused-keeps BudgetSpent x y z x′ y′ z′ e = absurd (omega arith)
+refused-keeps Packed x y z x′ y′ z′ e = absurd (omega arith)
+refused-keeps Infeasible x y z x′ y′ z′ e = absurd (omega arith)
+refused-keeps (Refused r) x y z x′ y′ z′ e = (refl, refl, refl)

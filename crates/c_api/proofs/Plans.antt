@@ -4,7 +4,6 @@ use Rattle.prelude.specs.Names.{ne-eqb, eqb-true}
 use Rattle.model.proofs.Below.{clash}
 use Rattle.model.specs.Admits.{Sound}
 use Rattle.model.specs.Problem.{Positions, Feasible, feasible}
-use Rattle.model.specs.Run.{plan-at}
 use Rattle.refusal.specs.Numbers.{number-of}
 use Rattle.refusal.specs.declared.Refusal.{Refusal}
 use Rattle.formats.specs.Reading.{Bytes}
@@ -18,14 +17,12 @@ use Rattle.packing.specs.Check.{check-answer-if, check-answer, check-number}
 use Rattle.opening.proofs.Sound.{valid-sound}
 use Rattle.search.specs.Results.{packing-of}
 use Rattle.buffers.proofs.Bytes.{packing-length, packing-back}
-use Rattle.buffers.specs.Bytes.{packing-in}
+use Rattle.buffers.specs.Bytes.{packing-bytes, packing-in}
 use Rattle.c_api.proofs.Tables.{refuses-by-table, served-by-table}
 use Rattle.c_api.specs.Calls.{plan-fits, check-code}
 use Rattle.c_api.specs.Faults.{CheckBytesFault}
-use Rattle.c_api.specs.Lists.{plan-bytes}
 use Rattle.c_api.specs.Plans.{Checkable, Fits}
 use Rattle.model.proofs.Theorems as T
-use Rattle.model.specs.Search as S
 use Rattle.search.proofs.Packing as Value
 
 -- A sheet has a first fault, or it reads as one instance, which is valid
@@ -105,27 +102,27 @@ module _ (sheet plan : List ℕ) where
     )
 
 -- the plan bytes of a plan that fits get yes
-module _ (sheet : List ℕ) (bytes : Bytes sheet) (r : Reads sheet) (κ : S.Checkpoint) where
+module _ (sheet : List ℕ) (bytes : Bytes sheet) (r : Reads sheet) (q : Positions) where
   abbrev n : ℕ
   n = r .instance .«item_count»
 
-  abbrev q : Positions
-  q = plan-at (problem-of (r .instance)) κ
+  abbrev q-bytes : List ℕ
+  q-bytes = packing-bytes n (packing-of (problem-of (r .instance)) q)
 
   few : n ≤ 10
   unfolding problem-of
   few = reads-sound sheet bytes r .limited
 
   -- the positions come back from the plan bytes
-  positions-back : (a u : ℕ) → a < 3 → u < problem-of (r .instance) .items → positions-of (packing-in (plan-bytes (r .instance) κ)) a u ≡ q a u
+  positions-back : (a u : ℕ) → a < 3 → u < problem-of (r .instance) .items → positions-of (packing-in q-bytes) a u ≡ q a u
   unfolding positions-of packing-of problem-of
   positions-back a u la lu =
       ap (start a) (packing-back n u (packing-of (problem-of (r .instance)) q) few few lu)
       ∙ Value.packing-back (problem-of (r .instance)) few q a u la lu
 
-  pub placed-checks : Feasible (problem-of (r .instance)) q → check-code sheet (plan-bytes (r .instance) κ) ≡ 1
+  pub placed-checks : Feasible (problem-of (r .instance)) q → check-code sheet (packing-bytes n (packing-of (problem-of (r .instance)) q)) ≡ 1
   unfolding packing-of
-  placed-checks f = yes-exactly sheet (plan-bytes (r .instance) κ) bytes .1 (
+  placed-checks f = yes-exactly sheet q-bytes bytes .1 (
     record { sheet-reads = r; plan-is = packing-length n (packing-of (problem-of (r .instance)) q) few },
     Value.feasible-same (problem-of (r .instance)) (reads-sound sheet bytes r) q _ positions-back f,
   )

@@ -24,9 +24,13 @@ use Rattle.search.specs.Results as R
 abbrev pub plan-fits : Instance → ℕ → Bool
 plan-fits i plan = eqb plan (position-length * i .«item_count»)
 
--- 8: "note bytes not 273; step bytes not 4"
+-- 8: "step bytes not 4"
+abbrev pub outputs-fit : Instance → ℕ → ℕ → Bool
+outputs-fit i steps plan = eqb steps steps-length && plan-fits i plan
+
+-- 8: "note bytes not 273"
 abbrev pub lengths-fit : Instance → ℕ → ℕ → ℕ → Bool
-lengths-fit i note steps plan = eqb note note-length && (eqb steps steps-length && plan-fits i plan)
+lengths-fit i note steps plan = eqb note note-length && outputs-fit i steps plan
 
 -- the same of the bytes lent
 abbrev pub buffers-fit : Instance → List ℕ → List ℕ → List ℕ → Bool

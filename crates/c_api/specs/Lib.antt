@@ -3,3 +3,4 @@ pub mod Notes
 pub mod Faults
 pub mod Plans
 pub mod Lists
+pub mod Finishes

@@ -1,5 +1,6 @@
 // Check, pieces and search for a C program: numbers and byte slices.
 ghost use Rattle.sheet.specs.Sheet.{max-items};
+ghost use Rattle.buffers.specs.Bytes.{packing-bytes, step-bytes};
 ghost use Rattle.buffers.specs.Lengths.{note-length, steps-length, position-length};
 ghost use mathlib.Core.Path.{_≡_};
 ghost use mathlib.Core.Bool.{true};
@@ -11,17 +12,20 @@ ghost use Rattle.instance.specs.Valid.{valid};
 ghost use Rattle.packing.specs.Check.{check-number};
 ghost use Rattle.search.specs.Results.{answer-number};
 ghost use Rattle.c_api.specs.Calls.{check-code, pieces-code, search-code, note-after, steps-after, plan-after};
-ghost use Rattle.c_api.specs.Calls.{instance-checked, lengths-fit, instance-code, instance-note, instance-steps, instance-plan};
-ghost use Rattle.c_api.specs.Calls.{PathFits, note-left, steps-left, plan-left};
+ghost use Rattle.c_api.specs.Calls.{instance-checked, outputs-fit, lengths-fit, instance-code, instance-note, instance-steps, instance-plan};
+ghost use Rattle.c_api.specs.Calls.{PathFits, when-packed, note-left, steps-left, plan-left};
 use buffers::checkpoints;
 use buffers::positions;
 use buffers::words;
 use instance::Instance;
+use instance::Packing;
 use instance::ReadAnswer;
 use packing::CheckAnswer;
 use refusal::Refusal;
 use search::answer::Answer;
 use search::answer::SearchResult;
+
+pub mod finish;
 
 // Whether the plan fits the sheet: 0 no, 1 yes, 100 plus the number of a refusal.
 #[no_mangle]
@@ -100,7 +104,18 @@ fn check_instance(instance: Instance, plan: &[u8]) -> u32
     }
 }
 
-// Whether the lent buffers are as long as they must be.
+// Whether the step bytes and the plan bytes are as many as they must be.
+fn outputs_fit(instance: Instance, steps: usize, plan: usize) -> bool
+    requires { ⌜ valid instance ≡ true ⌝ }
+    ensures { λ r. ⌜ r ≡ outputs-fit instance steps plan ⌝ }
+{
+    if steps != buffers::STEP_BYTES {
+        return false;
+    }
+    plan == buffers::POSITION_BYTES * instance.item_count
+}
+
+// Whether the buffers lent to the search are as long as they must be.
 fn lengths_fit(instance: Instance, note: usize, steps: usize, plan: usize) -> bool
     requires { ⌜ valid instance ≡ true ⌝ }
     ensures { λ r. ⌜ r ≡ lengths-fit instance note steps plan ⌝ }
@@ -108,10 +123,7 @@ fn lengths_fit(instance: Instance, note: usize, steps: usize, plan: usize) -> bo
     if note != buffers::NOTE_BYTES {
         return false;
     }
-    if steps != buffers::STEP_BYTES {
-        return false;
-    }
-    plan == buffers::POSITION_BYTES * instance.item_count
+    outputs_fit(instance, steps, plan)
 }
 
 // The search on a sheet that reads as the instance.
@@ -155,25 +167,34 @@ fn hand_over(
     ensures { λ _. ⌜ now (plan .exit) ≡ plan-left n result (now (plan .entry)) ⌝ }
 {
     let answer = result.answer;
+    let code = words::code(answer.number());
+    if 100 <= code {
+        return code;
+    }
     let checkpoint = result.checkpoint;
     let packing = result.packing;
-    match answer {
-        Answer::BudgetSpent => {
-            checkpoints::write_checkpoint(note, checkpoint);
-            words::write_steps(steps, result.steps);
-            0
-        }
-        Answer::Packed => {
-            checkpoints::write_checkpoint(note, checkpoint);
-            words::write_steps(steps, result.steps);
-            positions::write_packing(plan, packing, n);
-            1
-        }
-        Answer::Infeasible => {
-            checkpoints::write_checkpoint(note, checkpoint);
-            words::write_steps(steps, result.steps);
-            2
-        }
-        Answer::Refused(e) => refusal_code(e),
+    checkpoints::write_checkpoint(note, checkpoint);
+    put_answer(answer, result.steps, packing, n, steps, plan)
+}
+
+// The number of an answer that is no refusal; its steps and, where it is placed, its plan in the lent buffers.
+fn put_answer(
+    answer: Answer,
+    taken: u32,
+    packing: Packing,
+    n: usize,
+    steps: &mut [u8],
+    plan: &mut [u8],
+) -> u32
+    requires { ⌜ (length (now steps) ≡ steps-length) × (length (now plan) ≡ position-length * n) × (n ≤ max-items) ⌝ }
+    ensures { λ r. ⌜ r ≡ answer-number answer ⌝ }
+    ensures { λ _. ⌜ now (steps .exit) ≡ step-bytes taken ⌝ }
+    ensures { λ _. ⌜ now (plan .exit) ≡ when-packed answer (now (plan .entry)) (packing-bytes n packing) ⌝ }
+{
+    words::write_steps(steps, taken);
+    let code = words::code(answer.number());
+    if code == 1 {
+        positions::write_packing(plan, packing, n);
     }
+    code
 }

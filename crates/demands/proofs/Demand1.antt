@@ -18,6 +18,10 @@ use Rattle.c_api.proofs.Plans.{check-refuses}
 use Rattle.c_api.specs.Calls.{checked, check-code, search-call}
 use Rattle.demands.specs.Demand1.{Demand1}
 use Rattle.demands.proofs.Functions.{functions}
+use Rattle.makespan.specs.Results.{finish-result}
+use Rattle.c_api.specs.Finishes.{finish-call}
+use Rattle.makespan.proofs.Claim as Finish
+use Rattle.c_api.proofs.Finishes as FinishBytes
 use Rattle.packing.specs.declared.CheckAnswer.the-variants as Checking
 use Rattle.search.specs.declared.answer.Answer.the-variants as Searching
 
@@ -55,6 +59,12 @@ demand1 = record {
   search-refuses = refuses;
   search-answers = λ i c budget. search-answers (search-result i c budget .answer);
   handed-back = handed-back;
+  finish-refuses = Finish.finish-refuses;
+  finish-answers = λ i budget. search-answers (finish-result i budget .answer);
+  finish-empty = Finish.refused-empty;
+  finish-bytes-refuses = FinishBytes.finish-refuses;
+  finish-bytes-answers = λ sheet finish steps plan allowance. search-answers (finish-call sheet allowance finish steps plan .answer);
+  finish-untouched = FinishBytes.finish-untouched;
   clearance-refuses = λ i q u v a. answers i q u v a .refused;
   clearance-answers = λ i q u v a. answers i q u v a .value;
   record-refuses = record-refuses;

@@ -104,16 +104,15 @@ module _ (i : Instance) (v : valid i ≡ true) (φ : Full i) where
   sound : Sound (problem-of i)
   sound = valid-sound i v (φ .items-room)
 
-  value-checks : (κ : S.Checkpoint) → Feasible (problem-of i) (plan-at (problem-of i) κ)
-      → check-number (check-answer i (values i .plan-of κ)) ≡ 1
-  value-checks κ f =
+  pub value-checks : (q : Positions) → Feasible (problem-of i) q → check-number (check-answer i (packing-of (problem-of i) q)) ≡ 1
+  value-checks q f =
       let p = problem-of i in
-      let q = plan-at p κ in
       decides i (packing-of p q) .yes .1 (v, feasible-same p sound q _ (packing-back p (sound .limited) q) f)
 
   in-values : SearchDemand (problem-of i) (values i) (λ q. check-number (check-answer i q))
   in-values =
-      search-demand (problem-of i) sound (values i) _ (Values.values-serve i v (φ .items-room)) value-checks
+      search-demand (problem-of i) sound (values i) _ (Values.values-serve i v (φ .items-room))
+      (λ κ. value-checks (plan-at (problem-of i) κ))
       (λ q y. (positions-of q, decides i q .yes .0 y .1))
 
 -- a call that says placed is on a valid instance
@@ -139,7 +138,7 @@ module _ (sheet : List ℕ) (bytes : Bytes sheet) (r : Reads sheet) where
   in-bytes : SearchDemand (problem-of (r .instance)) (on-bytes sheet (r .instance)) (check-code sheet)
   in-bytes =
       search-demand (problem-of (r .instance)) (reads-sound sheet bytes r) (on-bytes sheet (r .instance)) (check-code sheet)
-      (OnBytes.bytes-serve sheet bytes r) (placed-checks sheet bytes r) yes-fits
+      (OnBytes.bytes-serve sheet bytes r) (λ κ. placed-checks sheet bytes r (plan-at (problem-of (r .instance)) κ)) yes-fits
 
 pub demand3 : Demand3
 demand3 = record {

@@ -3,6 +3,7 @@ use Rattle.demands.specs.Functions.{Functions}
 use Rattle.c_api.proofs.hallplan_check.Met as CheckBytes
 use Rattle.c_api.proofs.hallplan_pieces.Met as Pieces
 use Rattle.c_api.proofs.hallplan_search.Met as SearchBytes
+use Rattle.c_api.proofs.finish.hallplan_finish.Met as FinishBytes
 use Rattle.instance.proofs.Instance.is_valid.Met as IsValid
 use Rattle.instance.proofs.Instance.opening.Met as Opening
 use Rattle.instance.proofs.Instance.read.Met as Read
@@ -10,6 +11,7 @@ use Rattle.writer.proofs.write.Met as Write
 use Rattle.instance.proofs.Packing.origin.Met as Origin
 use Rattle.item_record.proofs.item_record.Met as Record
 use Rattle.item_record.proofs.item_record_refusal.Met as RecordRefusal
+use Rattle.makespan.proofs.earliest_finish.Met as Finish
 use Rattle.packing.proofs.check.Met as Check
 use Rattle.packing.proofs.clearance.Met as Clearance
 use Rattle.refusal.proofs.Refusal.number.Met as Number
@@ -32,11 +34,17 @@ functions M = record {
   packing-clearance = record { runs = Clearance.met; asks-nothing = λ κs a. tt; promises = λ κs a r s p. p .0 };
   search-search = record { runs = Search.met; asks-nothing = λ κs a. tt; promises = λ κs a r s p. p };
   search-answer-number = record { runs = AnswerNumber.met; asks-nothing = λ κs a. tt; promises = λ κs a r s p. p };
+  makespan-earliest-finish = record { runs = Finish.met; asks-nothing = λ κs a. tt; promises = λ κs a r s p. p };
   c-check = record { runs = CheckBytes.met; asks-nothing = λ κs a. tt; promises = λ κs a r s p. p };
   c-pieces = record { runs = Pieces.met; asks-nothing = λ κs a. tt; promises = λ κs a r s p. p };
   c-search = record {
     runs = SearchBytes.met;
     asks-nothing = λ κs a. tt;
     promises = λ κs a r s p. (p .0, p .1 .0, p .1 .1 .0, p .1 .1 .1 .0, p .1 .1 .1 .1 .0, p .1 .1 .1 .1 .1);
+  };
+  c-finish = record {
+    runs = FinishBytes.met;
+    asks-nothing = λ κs a. tt;
+    promises = λ κs a r s p. (p .0, p .1 .0, p .1 .1 .0, p .1 .1 .1 .0, p .1 .1 .1 .1);
   };
 }

@@ -1,5 +1,5 @@
 -- The mission's first demand, as one theorem: that every function answers, what is refused and with which number, and what a refusal
--- leaves. The table's conditions stand beside the definitions that test them: c_api Faults (check and search in bytes), search Results
+-- leaves. The table's conditions stand beside the definitions that test them: c_api Faults (check and search in bytes) and Finishes, search Results
 -- (`SearchFault`), sheet Faults (reading, with document 02's 11), writer and item_record Refusing, packing Clearance.
 use Rattle.prelude.specs.Names.{true, false, List, [], _↔_, _⊎_, inl, inr, _≡_, ℕ, _+_, _≤_, _<_, ℤ, length, getD}
 use Rattle.refusal.specs.Numbers.{number-of, place-of}
@@ -26,8 +26,10 @@ use Rattle.writer.specs.Refusing.{WriteFault}
 use Rattle.packing.specs.Check.{check-answer, check-number}
 use Rattle.packing.specs.Clearance.{clearance-between, clearance-answer, clearance-values, ClearanceFault}
 use Rattle.search.specs.Results.{answer-number, search-result, SearchFault}
+use Rattle.makespan.specs.Results.{finish-result}
 use Rattle.c_api.specs.Calls.{check-code, pieces-code, search-code, note-after, steps-after, plan-after}
 use Rattle.c_api.specs.Faults.{CheckBytesFault, SearchBytesFault}
+use Rattle.c_api.specs.Finishes.{finish-code, length-after, finish-steps-after, finish-plan-after, FinishBytesFault}
 use Rattle.demands.specs.Functions.{Functions}
 
 pub record Demand1 : Type 2 where
@@ -79,6 +81,22 @@ pub record Demand1 : Type 2 where
       → let n = answer-number (search-result i c budget .answer) in (n ≤ 2) ⊎ (100 ≤ n)
   pub handed-back : (i : Instance) (c : Checkpoint) (budget : ℕ) → let r = search-result i c budget in
       100 ≤ answer-number (r .answer) → (r .checkpoint ≡ c) × (r .steps ≡ 0) × (r .packing ≡ origin-packing)
+  -- The earliest finish (02, #103) in values: 9 and nothing else; otherwise 0, 1 or 2; a refusal comes with nothing
+  pub finish-refuses : (i : Instance) (budget n : ℕ)
+      → (answer-number (finish-result i budget .answer) ≡ 100 + n) ↔ ((valid i ≡ false) × (n ≡ 9))
+  pub finish-answers : (i : Instance) (budget : ℕ) → let n = answer-number (finish-result i budget .answer) in (n ≤ 2) ⊎ (100 ≤ n)
+  pub finish-empty : (i : Instance) (budget : ℕ) → let r = finish-result i budget in
+      100 ≤ answer-number (r .answer) → (r .length ≡ 0) × (r .steps ≡ 0) × (r .packing ≡ origin-packing)
+  -- and in bytes: the sheet's first fault, then 8; otherwise 0, 1 or 2; a refusal writes nothing
+  pub finish-bytes-refuses : (sheet finish steps plan : List ℕ) (allowance : ℕ) → Bytes sheet → (n : ℕ)
+      → (finish-code sheet allowance finish steps plan ≡ 100 + n) ↔ FinishBytesFault sheet finish steps plan n
+  pub finish-bytes-answers : (sheet finish steps plan : List ℕ) (allowance : ℕ)
+      → let code = finish-code sheet allowance finish steps plan in (code ≤ 2) ⊎ (100 ≤ code)
+  pub finish-untouched : (sheet finish steps plan : List ℕ) (allowance : ℕ)
+      → 100 ≤ finish-code sheet allowance finish steps plan
+      → (length-after sheet allowance finish steps plan ≡ finish)
+      × (finish-steps-after sheet allowance finish steps plan ≡ steps)
+      × (finish-plan-after sheet allowance finish steps plan ≡ plan)
   -- Clearance: 9, then 5, then 8, each with place 0; otherwise the number
   pub clearance-refuses : (i : Instance) (q : Packing) (u v a n place : ℕ)
       → (clearance-values (clearance-answer i q u v a) ≡ inr (n, place)) ↔ (ClearanceFault i u v a n × (place ≡ 0))

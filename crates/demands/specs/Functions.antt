@@ -12,7 +12,9 @@ use Rattle.instance.specs.Values.{opening-checkpoint, origin-packing}
 use Rattle.packing.specs.Check.{check-answer}
 use Rattle.packing.specs.Clearance.{clearance-answer}
 use Rattle.search.specs.Results.{answer-number, search-result}
+use Rattle.makespan.specs.Results.{finish-result}
 use Rattle.c_api.specs.Calls.{check-code, pieces-code, search-code, note-after, steps-after, plan-after}
+use Rattle.c_api.specs.Finishes.{finish-code, length-after, finish-steps-after, finish-plan-after}
 use Rattle.refusal.proofs.Refusal.number.Reads as Number
 use Rattle.refusal.proofs.Refusal.number.Statement as NumberRuns
 use Rattle.refusal.proofs.Refusal.place.Reads as Place
@@ -39,12 +41,16 @@ use Rattle.search.proofs.answer.Answer.number.Reads as AnswerNumber
 use Rattle.search.proofs.answer.Answer.number.Statement as AnswerNumberRuns
 use Rattle.search.proofs.search.Reads as Search
 use Rattle.search.proofs.search.Statement as SearchRuns
+use Rattle.makespan.proofs.earliest_finish.Reads as Finish
+use Rattle.makespan.proofs.earliest_finish.Statement as FinishRuns
 use Rattle.c_api.proofs.hallplan_check.Reads as CheckBytes
 use Rattle.c_api.proofs.hallplan_check.Statement as CheckBytesRuns
 use Rattle.c_api.proofs.hallplan_pieces.Reads as Pieces
 use Rattle.c_api.proofs.hallplan_pieces.Statement as PiecesRuns
 use Rattle.c_api.proofs.hallplan_search.Reads as SearchBytes
 use Rattle.c_api.proofs.hallplan_search.Statement as SearchBytesRuns
+use Rattle.c_api.proofs.finish.hallplan_finish.Reads as FinishBytes
+use Rattle.c_api.proofs.finish.hallplan_finish.Statement as FinishBytesRuns
 
 -- What a function promises, by its theorem and its contract. κs are lifetimes, a the arguments, r the result, s the parameters at exit.
 pub record Promise
@@ -102,6 +108,12 @@ pub record Functions (M : Type 1) : Type 2 where
       let budget = a .1 .1 .0 in
       (r ≡ search-result instance checkpoint budget) × Full instance)
   pub search-answer-number : Promise (AnswerNumberRuns.statement M) AnswerNumber.Asked AnswerNumber.Learnt (λ κs a r s. r ≡ answer-number (a .0))
+  -- `makespan::earliest_finish`
+  pub makespan-earliest-finish : Promise (FinishRuns.statement M) Finish.Asked Finish.Learnt
+      (λ κs a r s.
+      let instance = a .0 in
+      let budget = a .1 .0 in
+      (r ≡ finish-result instance budget) × Full instance)
   -- `hallplan_check`
   pub c-check : Promise (CheckBytesRuns.statement M) CheckBytes.Asked CheckBytes.Learnt
       (λ κs a r s.
@@ -125,3 +137,16 @@ pub record Functions (M : Type 1) : Type 2 where
       × (s .1 .1 .1 .1 .0 .now ≡ plan-after sheet note allowance steps plan)
       × Bytes sheet
       × Bytes note)
+  -- `hallplan_finish`
+  pub c-finish : Promise (FinishBytesRuns.statement M) FinishBytes.Asked FinishBytes.Learnt
+      (λ κs a r s.
+      let sheet = a .0 .now in
+      let allowance = a .1 .0 in
+      let finish = a .1 .1 .0 .now in
+      let steps = a .1 .1 .1 .0 .now in
+      let plan = a .1 .1 .1 .1 .0 .now in
+      (r ≡ finish-code sheet allowance finish steps plan)
+      × (s .1 .1 .0 .now ≡ length-after sheet allowance finish steps plan)
+      × (s .1 .1 .1 .0 .now ≡ finish-steps-after sheet allowance finish steps plan)
+      × (s .1 .1 .1 .1 .0 .now ≡ finish-plan-after sheet allowance finish steps plan)
+      × Bytes sheet)

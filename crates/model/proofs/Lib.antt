@@ -36,4 +36,6 @@ pub mod Wide
 pub mod Outside
 pub mod FirstBranches
 pub mod Theorems
+pub mod Earliest
+pub mod Shorter
 pub mod Examples

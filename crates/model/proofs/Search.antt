@@ -31,6 +31,9 @@ module _ (p : Problem) where
       let (i, c) : Bool × Bool = (inconsistent p (path-domains p path), packed p (path-domains p path)) in
       subst (λ (o : Outlook). Seen o i c) e (seen i c)
 
+  pub look-conflict : (path : List Branch) → look p path ≡ conflict → inconsistent p (path-domains p path) ≡ true
+  look-conflict path e = look-seen path e
+
   pub look-complete : (path : List Branch) → look p path ≡ complete
       → (inconsistent p (path-domains p path) ≡ false) × (packed p (path-domains p path) ≡ true)
   look-complete path e = look-seen path e
@@ -56,7 +59,7 @@ pub search-laws : (p : Problem) → Sound p
     → Laws (look p) (FeasiblePacking p) (λ path x. Admits p (path-domains p path) (x .0)) (λ path. weight p (path-domains p path))
 search-laws p σ = record {
   root-admits = λ x. root-admits p σ (x .0) (x .1);
-  conflict-admits-none = λ path l e x a. clash (look-seen p path e) (admitted-consistent p σ (x .0) (x .1) (path-domains p path) a);
+  conflict-admits-none = λ path l e x a. clash (look-conflict p path e) (admitted-consistent p σ (x .0) (x .1) (path-domains p path) a);
   fork-splits = λ path l e x a. let (i, c) = look-fork p path e in path-split p σ path (x .0) (x .1) (path-fork p σ path i c) a;
   weight-falls = λ path l e b. let (i, c) = look-fork p path e in path-weight p σ path (path-fork p σ path i c) b;
 }

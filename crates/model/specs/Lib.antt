@@ -22,6 +22,7 @@ pub mod Search
 pub mod Calls
 pub mod Lists
 pub mod Run
+pub mod Earliest
 pub mod FirstBranches
 pub mod Computing
 pub mod Trials

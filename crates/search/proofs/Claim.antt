@@ -135,7 +135,7 @@ module _ (i : Instance) (v : valid i ≡ true) (long : length (i .items) ≡ 10)
   p = problem-of i
 
   -- a call on the value of a checkpoint that follows is the model's
-  call-held : (κ : S.Checkpoint) → S.Follows (look p) κ → (budget : ℕ)
+  pub call-held : (κ : S.Checkpoint) → S.Follows (look p) κ → (budget : ℕ)
       → search-result i (value-of κ) budget ≡ result-of p (search p budget κ)
   call-held κ f budget =
       served-is i (value-of κ) budget v (held-follows p sound κ f)

@@ -5,6 +5,7 @@ ghost use lib.ListN.{drop};
 ghost use Rattle.model.specs.Below.{all-in};
 ghost use Rattle.test_lines.specs.Rest.{size-zero, item-zero, precedence-zero, rest-zero};
 use instance::Instance;
+use instance::Packing;
 use parts::Item;
 use parts::Precedence;
 use parts::Size;
@@ -50,6 +51,19 @@ pub fn bytes(s: &[u8], n: usize) {
         }
         io::print_hex(1, wide(s[i]), 2);
         i += 1;
+    }
+}
+
+// The ten positions.
+pub fn packing(packing: Packing) {
+    let positions = packing.positions;
+    let mut u: usize = 0;
+    while u < Instance::MAX_ITEMS {
+        let position = positions[u];
+        number(position.x as usize);
+        number(position.y as usize);
+        number(position.t as usize);
+        u += 1;
     }
 }
 

@@ -47,7 +47,8 @@ pub fn word_at(s: &[u8], at: usize) -> u16
     wide(byte_at(s, at)) + 256 * wide(byte_at(s, at + 1))
 }
 
-fn four_at(s: &[u8], at: usize) -> usize
+// Four bytes.
+pub fn four_at(s: &[u8], at: usize) -> usize
     requires { ⌜ at < 2000 ⌝ }
     ensures { λ r. ⌜ (r ≡ four-at (now (s .entry)) at) × (r < 4294967296) ⌝ }
 {

@@ -5,8 +5,10 @@ ghost use lib.ListN.{length};
 ghost use Rattle.writer.specs.Answers.{write-answer};
 use instance::Instance;
 use instance::ReadAnswer;
+use makespan::Finish;
 use packing::CheckAnswer;
 use packing::ClearanceAnswer;
+use search::answer::Answer;
 use writer::WriteAnswer;
 
 const MOST_ROOM: usize = 400;
@@ -144,6 +146,27 @@ fn report_run(s: &[u8]) {
     test_lines::word(&text[..m]);
 }
 
+fn print_finish(code: usize, finish: Finish) {
+    test_lines::word(b"finish");
+    test_lines::number(code);
+    test_lines::number(finish.length as usize);
+    test_lines::number(finish.steps as usize);
+    test_lines::packing(finish.packing);
+}
+
+fn report_finish(s: &[u8]) {
+    let instance = test_values::instance_in(s);
+    let budget = test_values::four_at(s, test_values::INSTANCE_BYTES) as u32;
+    let finish = makespan::earliest_finish(instance, budget);
+    let answer = finish.answer;
+    match answer {
+        Answer::BudgetSpent => print_finish(0, finish),
+        Answer::Packed => print_finish(1, finish),
+        Answer::Infeasible => print_finish(2, finish),
+        Answer::Refused(e) => test_lines::refused(e),
+    }
+}
+
 fn report(op: u8, s: &[u8]) {
     match op {
         1 => report_read(s),
@@ -154,6 +177,7 @@ fn report(op: u8, s: &[u8]) {
         6 => report_rewrite(s),
         7 => report_valid(s),
         8 => report_run(s),
+        9 => report_finish(s),
         _ => test_lines::word(b"no such case"),
     }
     test_lines::line_end();

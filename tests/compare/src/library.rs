@@ -89,6 +89,25 @@ pub fn search(sheet: &[u8], note: &[u8], allowance: u32, steps: &[u8], plan: &[u
     unless_changed(&[(&s, sheet)], searched)
 }
 
+/// What a call for the earliest finish returned and left in the buffers.
+#[derive(PartialEq, Eq, Debug, Clone)]
+pub struct Finished {
+    pub returned: u32,
+    pub length: Result<Vec<u8>, &'static str>,
+    pub steps: Result<Vec<u8>, &'static str>,
+    pub plan: Result<Vec<u8>, &'static str>,
+}
+
+pub fn finish(sheet: &[u8], allowance: u32, length: &[u8], steps: &[u8], plan: &[u8]) -> Result<Finished, &'static str> {
+    let s = Lent::new(sheet);
+    let (mut l, mut t, mut p) = (Lent::new(length), Lent::new(steps), Lent::new(plan));
+    let returned = unsafe {
+        linked::hallplan_finish(s.start(), s.len, allowance, l.start_mut(), l.len, t.start_mut(), t.len, p.start_mut(), p.len)
+    };
+    let finished = Finished { returned, length: l.content(), steps: t.content(), plan: p.content() };
+    unless_changed(&[(&s, sheet)], finished)
+}
+
 /// Number and place; 0 and 0 where the sheet reads.
 pub fn read(sheet: &[u8]) -> Result<(u32, usize), &'static str> {
     let s = Lent::new(sheet);

@@ -1,15 +1,16 @@
 //! Compares the proved planner with the independent implementation in `reference`, on instances from a seed.
 //!
 //!     compare [--seconds S] [--whole] [--seed N] [--case K] [--first] [--sheets FILE [--most-steps N]]
-//!     compare --show SHEET | --steps SHEET
+//!     compare --show SHEET | --steps SHEET | --finish SHEET [--allowance N]
 //!
 //! It stops after S seconds (60); with `--whole` it goes on until 20,000 instances of 1 to 6 items and 500 of 7 to 10 were compared.
 //! It prints what was compared. `--case` runs one instance alone; `--first` stops at the first difference. The exit status is 1 if
 //! there is any. `--show` prints what the program has to print for a sheet, by the independent implementation alone; `--steps` each of
-//! its steps too, with the relations left.
+//! its steps too, with the relations left; `--finish` what examples/finish.c has to print.
 
 #[macro_use]
 mod signatures;
+mod finishes;
 #[allow(dead_code)]
 mod layout;
 mod library;
@@ -40,11 +41,22 @@ struct Options {
     first: bool,
     sheets: Option<String>,
     most_steps: u32,
-    show: Option<(String, bool)>,
+    show: Option<(String, String)>,
+    allowance: u32,
 }
 
 fn options() -> Options {
-    let mut options = Options { seconds: 60.0, whole: false, seed: 1, case: None, first: false, sheets: None, most_steps: 1_000, show: None };
+    let mut options = Options {
+        seconds: 60.0,
+        whole: false,
+        seed: 1,
+        case: None,
+        first: false,
+        sheets: None,
+        most_steps: 1_000,
+        show: None,
+        allowance: 1_000_000,
+    };
     let mut words = std::env::args().skip(1);
     while let Some(word) = words.next() {
         let mut value = || words.next().unwrap_or_else(|| panic!("{word} needs a value"));
@@ -54,7 +66,8 @@ fn options() -> Options {
             "--seed" => options.seed = value().parse().expect("a number"),
             "--case" => options.case = Some(value().parse().expect("a number")),
             "--first" => options.first = true,
-            "--show" | "--steps" => options.show = Some((value(), word == "--steps")),
+            "--show" | "--steps" | "--finish" => options.show = Some((value(), word)),
+            "--allowance" => options.allowance = value().parse().expect("a number"),
             "--sheets" => options.sheets = Some(value()),
             "--most-steps" => options.most_steps = value().parse().expect("a number"),
             _ => panic!("no such option: {word}"),
@@ -92,9 +105,13 @@ fn all_cases(report: &mut Report, options: &Options, began: Instant) {
         let text = std::fs::read_to_string(file).expect("the file of sheets");
         table::from_file(report, &text, options.most_steps);
     }
-    report.context = "tiny halls".to_string();
     let mut random = Random::new(options.seed, u64::MAX);
+    // Searches to their end: an error that was found need not let them end.
     if !(options.first && report.differences > 0) {
+        finishes::by_hand(report);
+    }
+    if !(options.first && report.differences > 0) {
+        report.context = "tiny halls".to_string();
         tiny::all(report, &mut random);
         tiny::with_lags(report, &mut random);
     }
@@ -110,9 +127,12 @@ fn all_cases(report: &mut Report, options: &Options, began: Instant) {
 
 fn main() {
     let options = options();
-    if let Some((file, steps)) = &options.show {
+    if let Some((file, what)) = &options.show {
         let sheet = std::fs::read(file).expect("the sheet");
-        return show::run(&sheet, 1_000_000, *steps);
+        return match what.as_str() {
+            "--finish" => show::finish(&sheet, options.allowance),
+            _ => show::run(&sheet, options.allowance, what == "--steps"),
+        };
     }
     let began = Instant::now();
     let mut report = Report::new(if options.first { 1 } else { 5 });

@@ -1,5 +1,6 @@
 //! The comparisons. Each states what is expected by the independent implementation, and asks the library.
 
+use crate::finishes;
 use crate::library::{self, Searched};
 use crate::random::{self, Random};
 use crate::reference::bytes::{self, note_bytes, plan_bytes, NOTE_BYTES};
@@ -13,7 +14,7 @@ fn code(refusal: &Refusal) -> (u32, usize) {
     (refusal.number, refusal.place)
 }
 
-/// Reading, the number of pieces, and the refusals of check and search on the same bytes.
+/// Reading, the number of pieces, and the refusals of check, search and finish on the same bytes.
 pub fn reading(report: &mut Report, kind: &'static str, sheet: &[u8]) {
     let read = sheet::read(sheet);
     let expected = read.as_ref().map_or_else(code, |_| (0, 0));
@@ -28,6 +29,7 @@ pub fn reading(report: &mut Report, kind: &'static str, sheet: &[u8]) {
         let wrong = sheet.len() % 4;
         let (note, steps) = (&note[..NOTE_BYTES + (wrong & 1)], &steps[..4 + (wrong >> 1)]);
         search(report, "search calls on refused sheets", sheet, note, 3, steps, &plan);
+        finishes::call(report, "finish: on refused sheets", sheet, 3, &[9, 8, 7][..2 + (wrong & 1)], steps, &plan);
     }
 }
 
@@ -416,4 +418,7 @@ pub fn everything(report: &mut Report, random: &mut Random, instance: &Instance,
     checkpoints(report, random, &sheet, instance, &run);
     plans(report, random, &sheet, instance, &run);
     values::values(report, random, instance, &run);
+    if random.one_in(3) {
+        finishes::finishes(report, random, instance, most_steps as u64 / 2);
+    }
 }

@@ -1,5 +1,8 @@
-//! A sheet's run by the independent implementation, step by step, and what the program has to print.
+//! A sheet's run by the independent implementation, step by step, and what the program has to print; and its earliest finish.
 
+use crate::reference::bytes;
+use crate::reference::finish;
+use crate::reference::packing::Position;
 use crate::reference::search::{opening, Branch, Search, Status};
 use crate::reference::sheet;
 
@@ -53,9 +56,31 @@ pub fn run(bytes: &[u8], most_steps: u32, steps: bool) {
         Status::Infeasible => println!("none {taken}"),
         Status::Packed => {
             println!("placed {taken}");
-            for (item, [x, y, t]) in search.starts().iter().enumerate() {
-                println!("{item} {x} {y} {t}");
-            }
+            print_positions(&search.starts());
+        }
+    }
+}
+
+fn print_positions(positions: &[Position]) {
+    for (item, [x, y, t]) in positions.iter().enumerate() {
+        println!("{item} {x} {y} {t}");
+    }
+}
+
+/// The earliest finish, as examples/finish.c prints it.
+pub fn finish(sheet: &[u8], allowance: u32) {
+    let instance = match sheet::read(sheet) {
+        Ok(instance) => instance,
+        Err(refusal) => return println!("refused {}", refusal.number),
+    };
+    let answer = finish::finish(&instance, allowance);
+    match answer.status {
+        Status::Open => println!("spent {} {}", answer.length, answer.steps),
+        Status::Infeasible => println!("none {}", answer.steps),
+        Status::Packed => {
+            println!("placed {} {}", answer.length, answer.steps);
+            print_positions(&answer.positions);
+            println!("check {}", bytes::check(sheet, &bytes::plan_bytes(&answer.positions)));
         }
     }
 }

@@ -9,6 +9,10 @@ macro_rules! signatures {
                 sheet: *const u8, sheet_len: usize, note: *mut u8, note_len: usize, allowance: u32,
                 steps: *mut u8, steps_len: usize, plan: *mut u8, plan_len: usize
             ) -> u32;
+            hallplan_finish(
+                sheet: *const u8, sheet_len: usize, allowance: u32, length: *mut u8, length_len: usize,
+                steps: *mut u8, steps_len: usize, plan: *mut u8, plan_len: usize
+            ) -> u32;
             exports_read_number(sheet: *const u8, sheet_len: usize) -> u32;
             exports_read_place(sheet: *const u8, sheet_len: usize) -> usize;
             exports_rewrite(sheet: *const u8, sheet_len: usize, room: *mut u8, room_len: usize) -> usize;

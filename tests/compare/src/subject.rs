@@ -7,7 +7,7 @@ mod reference;
 #[macro_use]
 mod signatures;
 
-use reference::{bytes, sheet, value};
+use reference::{bytes, finish, sheet, value};
 use std::slice::{from_raw_parts, from_raw_parts_mut};
 
 unsafe fn lent<'a>(start: *const u8, len: usize) -> &'a [u8] {
@@ -44,6 +44,9 @@ macro_rules! body {
     (hallplan_pieces $s:ident $sl:ident) => { bytes::pieces(lent($s, $sl)) };
     (hallplan_search $s:ident $sl:ident $n:ident $nl:ident $allowance:ident $t:ident $tl:ident $p:ident $pl:ident) => {
         bytes::search(lent($s, $sl), lent_mut($n, $nl), $allowance, lent_mut($t, $tl), lent_mut($p, $pl))
+    };
+    (hallplan_finish $s:ident $sl:ident $allowance:ident $l:ident $ll:ident $t:ident $tl:ident $p:ident $pl:ident) => {
+        finish::on_bytes(lent($s, $sl), $allowance, lent_mut($l, $ll), lent_mut($t, $tl), lent_mut($p, $pl))
     };
     (exports_read_number $s:ident $sl:ident) => { number(sheet::read(lent($s, $sl))) };
     (exports_read_place $s:ident $sl:ident) => { place(sheet::read(lent($s, $sl))) };

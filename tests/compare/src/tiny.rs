@@ -1,8 +1,10 @@
-//! Tiny containers, where all positions are tried one after another: none exactly when none fits.
+//! Tiny containers, where all positions are tried one after another: none exactly when none fits, and the earliest finish is the first
+//! length in which some fit.
 
 use crate::library;
 use crate::random::Random;
 use crate::reference::bytes::{positions_of, NOTE_BYTES};
+use crate::reference::finish::with_shifts;
 use crate::reference::packing::{is_feasible, Position};
 use crate::reference::sheet::{self, Instance};
 use crate::report::{hexadecimal, Report};
@@ -46,6 +48,24 @@ fn one(report: &mut Report, instance: &Instance) {
             });
             report.same("tiny halls: placed plans that check", &Ok(1), &library::check(&sheet, &plan), || hexadecimal(&sheet));
         }
+    }
+    earliest(report, instance);
+}
+
+/// "A given length has a plan and no shorter one has any. None means that no length up to the sheet's shifts has one"
+fn earliest(report: &mut Report, instance: &Instance) {
+    let sheet = sheet::encode(instance);
+    let fits = |&length: &u32| some_position_fits(&with_shifts(instance, length), &mut Vec::new());
+    let first = (1..=instance.container[2]).find(fits);
+    let got = library::finish(&sheet, u32::MAX, &[7; 2], &[7; 4], &vec![7; 6 * instance.items.len()]);
+    let told = got.as_ref().map(|finished| (finished.returned, finished.length.clone())).map_err(|&fault| fault);
+    let expected = first.map_or((2, 0), |length| (1, length as u8));
+    report.same("tiny halls: earliest finishes", &Ok((expected.0, Ok(vec![expected.1, 0]))), &told, || hexadecimal(&sheet));
+    if let (Some(length), Ok(Ok(plan))) = (first, got.map(|finished| finished.plan)) {
+        let feasible = is_feasible(&with_shifts(instance, length), &positions_of(&plan));
+        report.same("tiny halls: earliest plans that fit", &true, &feasible, || {
+            format!("sheet {} plan {}", hexadecimal(&sheet), hexadecimal(&plan))
+        });
     }
 }
 

@@ -1,46 +1,42 @@
 -- `c_api::hand_over` meets its contract.
-use Rattle.prelude.specs.Names.{_≡_, refl, subst, length, needs}
-use Rattle.search.specs.declared.answer.Answer.{Answer}
-use Rattle.buffers.specs.Lengths.{note-length}
-use Rattle.c_api.specs.Calls.{PathFits}
+use Rattle.prelude.specs.Names.{_≡_, sym, _∙_, _<_, arith, needs}
+use Rattle.search.specs.Results.{answer-number}
+use Rattle.c_api.proofs.Outcomes.{not-refused, path-room, refused-keeps}
 use Rattle.c_api.proofs.hand_over.Tie as tie
 
--- where the function starts, from where the answer is looked at
-abbrev start : tie.After-packing → tie.Start
+abbrev start : tie.After-code → tie.Start
 start c = c .before .before .before .before .before
 
--- what `write_checkpoint` asks, by the answer that it is
-writable : (c : tie.After-packing) {a : Answer} → let s = start c .args in
-    s .result .answer ≡ a → (length (s .note .now) ≡ note-length) × PathFits a (s .result .checkpoint .length)
-writable c e = (start c .pre .1 .0, subst (λ (a : Answer). PathFits a (start c .args .result .checkpoint .length)) e (start c .pre .0))
+number-is : (c : tie.After-code) → c .code .result ≡ answer-number (start c .args .result .answer)
+number-is c = c .code .ensures .0 ∙ c .before .number .ensures
 
--- n: the note is written; s: the step bytes; p: the plan bytes
+-- past the test: no refusal
+answered : (c : tie.Else1) → answer-number (start (c .before) .args .result .answer) < 100
+answered c = omega (arith, number-is (c .before), c .if1 .left)
+
+-- a refusal leaves all
 returns : tie.Need-returns
 returns c =
-    let s = c .before .before in
-    let n = s .before .before .before .before in
-    rw (n .before .before .enum-told .given .1) (refl, (n .write-checkpoint .ensures, (s .write-steps .ensures, refl)))
+    let a = start (c .before) .args in
+    let (n, s, p) = refused-keeps (a .result .answer) (a .note .now) (a .steps .now) (a .plan .now) _ _ _ (omega (arith, number-is (c .before), c .if1 .taken)) in
+    (number-is (c .before), (sym n, (sym s, sym p)))
 
 returns-2 : tie.Need-returns-2
 returns-2 c =
-    let p = c .before .before in
-    let s = p .before .before .before .before in
-    let n = s .before .before .before .before in
-    rw (n .before .before .enum-told2 .given .1) (refl, (n .write-checkpoint2 .ensures, (s .write-steps2 .ensures, p .write-packing .ensures)))
-
-returns-3 : tie.Need-returns-3
-returns-3 c =
-    let s = c .before .before in
-    let n = s .before .before .before .before in
-    rw (n .before .before .enum-told3 .given .1) (refl, (n .write-checkpoint3 .ensures, (s .write-steps3 .ensures, refl)))
-
-returns-4 : tie.Need-returns-4
-returns-4 c = rw (c .before .before .answer .given .1) (c .refusal-code .ensures, (refl, (refl, refl)))
+    let put = c .before .before .before .before in
+    let noted = put .before .before .before .before .before in
+    let coded = noted .before .before .before .before in
+    let a = start (coded .before) .args in
+    let e = put .put-answer .ensures in (
+      e .0,
+      (
+        noted .write-checkpoint .ensures ∙ not-refused (a .result .answer) _ _ (answered coded),
+        (e .1 .0 ∙ not-refused (a .result .answer) _ _ (answered coded), e .1 .1),
+      ),
+    )
 
 pub hand-over-spec : {M : Type 1} → Rattle.c_api.proofs.hand_over.Statement.statement M
-hand-over-spec = tie.close (tie.spec (λ c. search needs) (λ c κs. writable (c .before .before .before) (c .before .enum-told .given .1))
-    (λ c κs. search needs) (λ c. search needs) (λ c κs. writable (c .before .before .before) (c .before .enum-told2 .given .1))
-    (λ c κs. search needs) (λ c κs. search needs) (λ c. search needs)
-    (λ c κs. writable (c .before .before .before) (c .before .enum-told3 .given .1)) (λ c κs. search needs) (λ c. search needs)
-    (λ c κs. search needs) (λ c. search needs) (λ c. search needs) returns (λ c. search needs) (λ c. search needs) (λ c. search needs) returns-2
-    (λ c. search needs) (λ c. search needs) returns-3 returns-4)
+hand-over-spec = tie.close (tie.spec (λ c κs. search needs) (λ c κs. search needs) returns
+    (λ c κs. let coded = c .before .before .before in let s = start (coded .before) in
+    (s .pre .1 .0, path-room (s .args .result .answer) (s .args .result .checkpoint .length) (s .pre .0) (answered coded)))
+    (λ c κs. search needs) (λ c. search needs) (λ c. search needs) (λ c. search needs) returns-2)

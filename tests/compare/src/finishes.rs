@@ -1,0 +1,252 @@
+//! The earliest finish: what request #103 says of each allowance, from the steps of the lengths; rows worked out by hand; lengths of
+//! buffers; refused sheets.
+
+use crate::library::{self, Finished};
+use crate::random::Random;
+use crate::reference::bytes::plan_bytes;
+use crate::reference::finish::{self, with_shifts, LENGTH_BYTES};
+use crate::reference::packing::TIME;
+use crate::reference::search::{opening, Search, Status};
+use crate::reference::sheet::{self, Instance};
+use crate::report::{hexadecimal, Report};
+
+/// Container, items, precedences, lags; the steps of each length, and the starts where the last one is placed.
+type Row = ([u32; 3], &'static [[u32; 3]], &'static [(usize, usize)], &'static [u32], &'static [u64], Option<&'static [[u32; 3]]>);
+
+const UNIT: [u32; 3] = [1, 1, 1];
+const ORDERED: &[[u32; 3]] = &[[2, 1, 1], UNIT];
+const ORDERED_PLAN: Option<&[[u32; 3]]> = Some(&[[0, 0, 1], [0, 0, 0]]);
+const CIRCLE: &[(usize, usize)] = &[(0, 1), (1, 2), (2, 0)];
+
+/// Rows worked out by hand. In a hall 1 deep nothing but overlap is possible on y, and the same on x and t where two items do not fit one
+/// after the other. A length below an item's, or below a chain of orders, is contradictory at the opening: one step says none.
+///
+/// Three units in a hall 2 wide: one shift takes 3 steps (document 01). In two shifts the first turns take overlap from 0, 1 on x and put 0
+/// before 1; that leaves 0, 2 overlap and "0 before 2", of which the third turn takes overlap. Then 2 has no room before 1 or after it on x,
+/// they overlap there, and the fourth turn puts 1 before 2 on t. The fifth step says placed.
+///
+/// Three units in a hall 1 wide go one after another. Two shifts: 0 before 1 leaves no room for 2, nor does 1 before 0; 3 steps. Three
+/// shifts: one turn for each pair, and the fourth step says placed.
+///
+/// Three units and the order 0, 1 with lag 1: in 3 shifts 2 stands in the lag, after one step. In 4 the search would put it last: the plan
+/// is the one of 3.
+const ROWS: &[Row] = &[
+    // "An empty sheet gives 1 once a step is allowed"
+    ([1, 1, 1], &[], &[], &[], &[1], Some(&[])),
+    ([1, 1, 65535], &[], &[], &[], &[1], Some(&[])),
+    ([1, 1, 65535], &[UNIT], &[], &[], &[1], Some(&[[0, 0, 0]])),
+    ([3, 3, 9], &[[2, 2, 4]], &[], &[], &[1; 4], Some(&[[0, 0, 0]])),
+    ([3, 3, 3], &[[2, 2, 4]], &[], &[], &[1; 3], None),
+    ([1, 1, 300], &[[1, 1, 258]], &[], &[], &[1; 258], Some(&[[0, 0, 0]])),
+    // Wider or deeper than the hall, and a circle: no length is enough.
+    ([1, 1, 3], &[[2, 1, 1]], &[], &[], &[1; 3], None),
+    ([1, 1, 3], &[[1, 2, 1]], &[], &[], &[1; 3], None),
+    ([3, 1, 4], &[UNIT; 3], CIRCLE, &[0; 3], &[1; 4], None),
+    ([1, 1, 65535], &[[2, 1, 1]], &[], &[], &[1; 65535], None),
+    ([2, 1, 1], ORDERED, &[(1, 0)], &[0], &[1], None),
+    ([2, 1, 2], ORDERED, &[(1, 0)], &[0], &[1, 1], ORDERED_PLAN),
+    ([2, 1, 9], ORDERED, &[(1, 0)], &[0], &[1, 1], ORDERED_PLAN),
+    ([2, 1, 5], ORDERED, &[], &[], &[1, 2], Some(&[[0, 0, 0], [0, 0, 1]])),
+    ([2, 2, 5], &[UNIT; 2], &[], &[], &[3], Some(&[[0, 0, 0], [1, 0, 0]])),
+    ([2, 1, 1], &[UNIT; 3], &[], &[], &[3], None),
+    ([2, 1, 4], &[UNIT; 3], &[], &[], &[3, 5], Some(&[[0, 0, 0], [1, 0, 0], [1, 0, 1]])),
+    ([1, 1, 2], &[UNIT; 3], &[], &[], &[1, 3], None),
+    ([1, 1, 9], &[UNIT; 3], &[], &[], &[1, 3, 4], Some(&[[0, 0, 0], [0, 0, 1], [0, 0, 2]])),
+    ([1, 1, 4], &[UNIT; 3], &[(0, 1)], &[1], &[1; 3], Some(&[[0, 0, 0], [0, 0, 2], [0, 0, 1]])),
+    ([1, 1, 20], &[UNIT; 3], &[(0, 1), (0, 2), (1, 2)], &[1, 5, 0], &[1; 7], Some(&[[0, 0, 0], [0, 0, 2], [0, 0, 6]])),
+    ([1, 1, 300], &[UNIT; 2], &[(0, 1)], &[255], &[1; 257], Some(&[[0, 0, 0], [0, 0, 256]])),
+    ([1, 1, 256], &[UNIT; 2], &[(0, 1)], &[255], &[1; 256], None),
+];
+
+/// The searches of lengths 1, 2 and so on, as far as they were taken.
+struct Lengths {
+    /// The steps up to the end of each length, 0 for length 0.
+    sums: Vec<u64>,
+    /// All steps taken: the last sum, where the lengths were decided.
+    known: u64,
+    /// How they ended, with the plan bytes where one is packed.
+    end: Option<(Status, Vec<u8>)>,
+}
+
+impl Lengths {
+    fn new(instance: &Instance, most_steps: u64) -> Lengths {
+        let mut lengths = Lengths { sums: vec![0], known: 0, end: None };
+        for length in 1..=instance.container[TIME] {
+            let mut search = Search::resume(&with_shifts(instance, length), &opening()).expect("the opening follows every instance");
+            while search.checkpoint.status == Status::Open {
+                if lengths.known == most_steps {
+                    return lengths;
+                }
+                search.step();
+                lengths.known += 1;
+            }
+            lengths.sums.push(lengths.known);
+            if search.checkpoint.status == Status::Packed {
+                lengths.end = Some((Status::Packed, plan_bytes(&search.starts())));
+                return lengths;
+            }
+        }
+        lengths.end = Some((Status::Infeasible, Vec::new()));
+        lengths
+    }
+
+    /// By the steps of each length.
+    fn of_row(&(_, _, _, _, steps, starts): &Row) -> Lengths {
+        let mut sums = vec![0];
+        for &more in steps {
+            sums.push(sums[sums.len() - 1] + more);
+        }
+        let end = starts.map_or((Status::Infeasible, Vec::new()), |starts| (Status::Packed, plan_bytes(starts)));
+        Lengths { known: sums[sums.len() - 1], sums, end: Some(end) }
+    }
+
+    /// "spent comes exactly when the allowance is below the steps another answer needs, and takes all of it"
+    fn expected(&self, allowance: u64, plan: &[u8]) -> (&'static str, Finished) {
+        let last = self.sums.len() - 1;
+        let answer = |returned: u32, length: usize, steps: u64, plan: &[u8]| Finished {
+            returned,
+            length: Ok((length as u16).to_le_bytes().to_vec()),
+            steps: Ok((steps as u32).to_le_bytes().to_vec()),
+            plan: Ok(plan.to_vec()),
+        };
+        match &self.end {
+            Some((Status::Packed, packed)) if allowance >= self.known => ("finish: placed", answer(1, last, self.known, packed)),
+            Some(_) if allowance >= self.known => ("finish: none", answer(2, 0, self.known, plan)),
+            _ => {
+                let shown = self.sums.iter().rposition(|&sum| sum <= allowance).expect("length 0 takes no steps");
+                ("finish: spent", answer(0, shown, allowance, plan))
+            }
+        }
+    }
+
+    /// 0, 1, 2, about the sums of some lengths, about the last, and the greatest; none beyond what is known.
+    fn allowances(&self, random: &mut Random) -> Vec<u64> {
+        let mut about = vec![1, self.known];
+        for _ in 0..3 {
+            about.push(random.pick(&self.sums));
+        }
+        let mut all: Vec<u64> = about.iter().flat_map(|&sum| [sum.saturating_sub(1), sum, sum + 1]).collect();
+        all.push(random.below(self.known as usize + 1) as u64);
+        all.push(u32::MAX as u64);
+        all.sort();
+        all.dedup();
+        all.retain(|&allowance| self.end.is_some() || allowance <= self.known);
+        all
+    }
+}
+
+/// Each allowance up to one more than is needed, where they are few; else those about the ends.
+fn allowances_by_hand(lengths: &Lengths) -> Vec<u64> {
+    let total = lengths.known;
+    let mut all: Vec<u64> = match total {
+        0..=300 => (0..total + 2).collect(),
+        _ => vec![total - 1],
+    };
+    all.push(u32::MAX as u64);
+    all
+}
+
+pub fn by_hand(report: &mut Report) {
+    for one in ROWS {
+        let &(container, items, precedences, lags, _, _) = one;
+        let instance =
+            Instance { container, items: items.to_vec(), precedences: precedences.to_vec(), lags: lags.to_vec(), yard_number: 0 };
+        let (sheet, lengths) = (sheet::encode(&instance), Lengths::of_row(one));
+        for allowance in allowances_by_hand(&lengths) {
+            let (length, steps, plan) = ([9; 2], [9; 4], vec![9; 6 * items.len()]);
+            let (_, expected) = lengths.expected(allowance, &plan);
+            for got in [own(&sheet, allowance as u32, &length, &steps, &plan), library::finish(&sheet, allowance as u32, &length, &steps, &plan)] {
+                report.same("finish: by hand", &Ok(expected.clone()), &got, || input(&sheet, allowance as u32, &length, &steps, &plan));
+            }
+        }
+    }
+}
+
+fn input(sheet: &[u8], allowance: u32, length: &[u8], steps: &[u8], plan: &[u8]) -> String {
+    let [length, steps, plan] = [length, steps, plan].map(hexadecimal);
+    format!("sheet {} allowance {allowance} length {length} steps {steps} plan {plan}", hexadecimal(sheet))
+}
+
+fn bytes(random: &mut Random, len: usize) -> Vec<u8> {
+    (0..len).map(|_| random.byte()).collect()
+}
+
+/// What the independent implementation returns and leaves: the lengths one after another.
+fn own(sheet: &[u8], allowance: u32, length: &[u8], steps: &[u8], plan: &[u8]) -> Result<Finished, &'static str> {
+    let (mut l, mut s, mut p) = (length.to_vec(), steps.to_vec(), plan.to_vec());
+    let returned = finish::on_bytes(sheet, allowance, &mut l, &mut s, &mut p);
+    Ok(Finished { returned, length: Ok(l), steps: Ok(s), plan: Ok(p) })
+}
+
+/// One call against the independent implementation's.
+pub fn call(report: &mut Report, kind: &'static str, sheet: &[u8], allowance: u32, length: &[u8], steps: &[u8], plan: &[u8]) {
+    let expected = own(sheet, allowance, length, steps, plan);
+    let got = library::finish(sheet, allowance, length, steps, plan);
+    report.same(kind, &expected, &got, || input(sheet, allowance, length, steps, plan));
+}
+
+/// A call that is refused for the length of a buffer.
+fn refused_call(report: &mut Report, random: &mut Random, sheet: &[u8], items: usize) {
+    let spoilt = random.between(1, 7);
+    let mut lengths = [LENGTH_BYTES, 4, 6 * items];
+    if spoilt & 1 != 0 {
+        lengths[0] = random.pick(&[0, 1, 3, 4, 273]);
+    }
+    if spoilt & 2 != 0 {
+        lengths[1] = random.pick(&[0, 2, 3, 5, 8]);
+    }
+    if spoilt & 4 != 0 {
+        lengths[2] = random.pick(&[6 * items + 1, 6 * items + 6, 60, (6 * items).saturating_sub(1), 0]);
+    }
+    let [length, steps, plan] = lengths.map(|len| bytes(random, len));
+    let allowance = random.pick(&[0, 1, 7]);
+    if lengths != [LENGTH_BYTES, 4, 6 * items] {
+        call(report, "finish: refused for a length", sheet, allowance, &length, &steps, &plan);
+    }
+}
+
+/// The instance with other shifts, mostly more; now and then an item is too wide, so that no length is enough.
+fn with_other_shifts(random: &mut Random, instance: &Instance) -> Instance {
+    let shifts = instance.container[TIME];
+    let other = match random.below(7) {
+        0 => shifts,
+        1 => shifts + 1,
+        2 => shifts.max(2) - 1,
+        3 => random.between(1, 4) as u32,
+        4 => 65535,
+        _ => shifts + random.between(2, 9) as u32,
+    };
+    let mut instance = with_shifts(instance, other.min(65535));
+    let widest = instance.items.iter().map(|size| size[0]).max().unwrap_or(0);
+    if widest > 1 && random.one_in(12) {
+        instance.container[0] = widest - 1;
+    }
+    instance
+}
+
+/// The earliest finish of an instance with other shifts, under many allowances, its lengths searched for at most so many steps.
+pub fn finishes(report: &mut Report, random: &mut Random, instance: &Instance, most_steps: u64) {
+    let instance = with_other_shifts(random, instance);
+    let (sheet, items) = (sheet::encode(&instance), instance.items.len());
+    // With few items now and then more of them, for lengths above 255.
+    let most_steps = if items <= 3 && random.one_in(4) { 1_000 } else { most_steps };
+    let lengths = Lengths::new(&instance, most_steps);
+    report.add("finish: lengths decided", lengths.sums.len() as u64 - 1);
+    report.count(if lengths.end.is_some() { "finish: sheets taken to their answer" } else { "finish: sheets not taken to their answer" });
+    for allowance in lengths.allowances(random) {
+        let [length, steps, plan] = [LENGTH_BYTES, 4, 6 * items].map(|len| bytes(random, len));
+        let (kind, expected) = lengths.expected(allowance, &plan);
+        let got = library::finish(&sheet, allowance as u32, &length, &steps, &plan);
+        report.same(kind, &Ok(expected), &got, || input(&sheet, allowance as u32, &length, &steps, &plan));
+    }
+    refused_call(report, random, &sheet, items);
+    // The claim above and the lengths one after another, both by the independent implementation; and the plan fits.
+    let allowance = random.below(lengths.known as usize + 1) as u32;
+    call(report, "finish: by the lengths in turn", &sheet, allowance, &[7; 2], &[7; 4], &vec![7; 6 * items]);
+    if let Some((Status::Packed, packed)) = &lengths.end {
+        let shortened = sheet::encode(&with_shifts(&instance, lengths.sums.len() as u32 - 1));
+        for sheet in [&sheet, &shortened] {
+            report.same("finish: plans that check", &Ok(1), &library::check(sheet, packed), || hexadecimal(sheet));
+        }
+    }
+}
