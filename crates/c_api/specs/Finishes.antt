@@ -33,9 +33,22 @@ finish-steps-left r steps = rewritten (r .answer) steps (step-bytes (r .steps))
 abbrev pub finish-plan-left : ℕ → Finish → List ℕ → List ℕ
 finish-plan-left n r plan = when-packed (r .answer) plan (packing-bytes n (r .packing))
 
--- the call with these bytes lent, on a sheet that reads as i
-unfoldable pub instance-finished : Instance → ℕ → List ℕ → List ℕ → List ℕ → Finish
-instance-finished i allowance finish steps plan = finished-if (finish-fits i (length finish) (length steps) (length plan)) i allowance
+-- the call with these bytes lent, on a sheet that reads as i: its result, its number, and what it leaves in the buffers
+module _ (i : Instance) (allowance : ℕ) (finish steps plan : List ℕ) where
+  unfoldable pub instance-finished : Finish
+  instance-finished = finished-if (finish-fits i (length finish) (length steps) (length plan)) i allowance
+
+  abbrev pub instance-finish-code : ℕ
+  instance-finish-code = answer-number (instance-finished .answer)
+
+  abbrev pub instance-length : List ℕ
+  instance-length = length-left instance-finished finish
+
+  abbrev pub instance-finish-steps : List ℕ
+  instance-finish-steps = finish-steps-left instance-finished steps
+
+  abbrev pub instance-finish-plan : List ℕ
+  instance-finish-plan = finish-plan-left (i .«item_count») instance-finished plan
 
 -- the sheet's refusals come first
 abbrev pub finished : Read Instance → ℕ → List ℕ → List ℕ → List ℕ → Finish

@@ -3,8 +3,7 @@ ghost use mathlib.Core.Path.{_≡_};
 ghost use mathlib.Core.Bool.{true};
 ghost use Rattle.formats.specs.Reading.{Bytes};
 ghost use Rattle.instance.specs.Valid.{valid};
-ghost use Rattle.search.specs.Results.{answer-number};
-ghost use Rattle.c_api.specs.Finishes.{finish-fits, instance-finished, length-left, finish-steps-left, finish-plan-left};
+ghost use Rattle.c_api.specs.Finishes.{finish-fits, instance-finish-code, instance-length, instance-finish-steps, instance-finish-plan};
 ghost use Rattle.c_api.specs.Finishes.{finish-code, length-after, finish-steps-after, finish-plan-after};
 use crate::outputs_fit;
 use crate::put_answer;
@@ -58,10 +57,10 @@ fn finish_instance(
     plan: &mut [u8],
 ) -> u32
     requires { ⌜ valid instance ≡ true ⌝ }
-    ensures { λ r. ⌜ r ≡ answer-number (instance-finished instance allowance (now (shifts .entry)) (now (steps .entry)) (now (plan .entry)) .answer) ⌝ }
-    ensures { λ _. ⌜ now (shifts .exit) ≡ length-left (instance-finished instance allowance (now (shifts .entry)) (now (steps .entry)) (now (plan .entry))) (now (shifts .entry)) ⌝ }
-    ensures { λ _. ⌜ now (steps .exit) ≡ finish-steps-left (instance-finished instance allowance (now (shifts .entry)) (now (steps .entry)) (now (plan .entry))) (now (steps .entry)) ⌝ }
-    ensures { λ _. ⌜ now (plan .exit) ≡ finish-plan-left (instance .«item_count») (instance-finished instance allowance (now (shifts .entry)) (now (steps .entry)) (now (plan .entry))) (now (plan .entry)) ⌝ }
+    ensures { λ r. ⌜ r ≡ instance-finish-code instance allowance (now (shifts .entry)) (now (steps .entry)) (now (plan .entry)) ⌝ }
+    ensures { λ _. ⌜ now (shifts .exit) ≡ instance-length instance allowance (now (shifts .entry)) (now (steps .entry)) (now (plan .entry)) ⌝ }
+    ensures { λ _. ⌜ now (steps .exit) ≡ instance-finish-steps instance allowance (now (shifts .entry)) (now (steps .entry)) (now (plan .entry)) ⌝ }
+    ensures { λ _. ⌜ now (plan .exit) ≡ instance-finish-plan instance allowance (now (shifts .entry)) (now (steps .entry)) (now (plan .entry)) ⌝ }
 {
     if !finish_fits(instance, shifts.len(), steps.len(), plan.len()) {
         return refusal_code(Refusal::BadArgument);

@@ -2,7 +2,7 @@
 use Rattle.prelude.specs.Names.{true, List, _≡_, refl, ap, _∙_, ℕ, arith}
 use Rattle.model.proofs.Earliest.{fits-longer, earliest-right}
 use Rattle.model.specs.Admits.{Sound}
-use Rattle.model.specs.Earliest.{earliest-finish, Earliest}
+use Rattle.model.specs.Earliest.{earliest-finish}
 use Rattle.model.specs.Problem.{Problem, Positions, Feasible}
 use Rattle.formats.specs.Reading.{Bytes}
 use Rattle.sheet.specs.Places.{word-at}
@@ -18,7 +18,7 @@ use Rattle.makespan.specs.Results.{finish-of, finish-result}
 use Rattle.makespan.specs.declared.Finish.{Finish}
 use Rattle.buffers.proofs.Bytes.{word-back, steps-back}
 use Rattle.buffers.specs.Bytes.{word-bytes, packing-bytes, step-bytes, steps-in}
-use Rattle.c_api.proofs.Finishes.{Finished, finished-is}
+use Rattle.c_api.proofs.Finishes.{finished-is}
 use Rattle.c_api.proofs.Plans.{reads-valid, reads-sound, placed-checks}
 use Rattle.c_api.specs.Calls.{check-code, rewritten, when-packed}
 use Rattle.c_api.specs.Finishes.{length-left, finish-steps-left, finish-plan-left, finish-call}
@@ -58,7 +58,8 @@ in-values : (i : Instance) → valid i ≡ true → Full i → (budget : ℕ) �
 unfolding finish-of
 in-values i v φ budget =
     let is = valid-is i budget v in
-    finish-demand (problem-of i) (valid-sound i v (φ .items-room)) budget (packing-with (problem-of i)) (λ q. check-number (check-answer i q)) (value-checks i v φ)
+    finish-demand (problem-of i) (valid-sound i v (φ .items-room)) budget (packing-with (problem-of i)) (λ q. check-number (check-answer i q))
+    (value-checks i v φ)
     (ap (λ (f : Finish). answer-number (f .answer)) is) (ap (λ (f : Finish). f .length) is) (ap (λ (f : Finish). f .steps) is)
     (ap (λ (f : Finish). f .packing) is)
 
@@ -72,7 +73,8 @@ module _ (a : C.Answer Positions) (old new : List ℕ) where
       go C.no-packing = refl
       go (C.packing q) = refl
 
-module _ (sheet : List ℕ) (bytes : Bytes sheet) (r : Reads sheet) (finish steps plan : List ℕ) (l : FinishLengths (r .instance) finish steps plan) (allowance : ℕ) where
+module _ (sheet : List ℕ) (bytes : Bytes sheet) (r : Reads sheet) (finish steps plan : List ℕ) (l : FinishLengths (r .instance) finish steps plan)
+    (allowance : ℕ) where
   abbrev p : Problem
   p = problem-of (r .instance)
 
@@ -90,8 +92,10 @@ module _ (sheet : List ℕ) (bytes : Bytes sheet) (r : Reads sheet) (finish step
       finish-demand p (reads-sound sheet bytes r) allowance (λ a. when-packed (answer-of a) plan (packing-bytes (r .instance .«item_count») (packing-with p a)))
       (check-code sheet) (placed-checks sheet bytes r)
       (ap (λ (x : Finish). answer-number (x .answer)) call-is)
-      (ap (λ (x : Finish). word-at (length-left x finish) 0) call-is ∙ (ap (λ s. word-at s 0) (rewritten-is (f .answer) finish (word-bytes (f .length))) ∙ word-back (f .length)))
-      (ap (λ (x : Finish). steps-in (finish-steps-left x steps)) call-is ∙ (ap steps-in (rewritten-is (f .answer) steps (step-bytes (f .steps))) ∙ steps-back (f .steps)))
+      (ap (λ (x : Finish). word-at (length-left x finish) 0) call-is
+      ∙ (ap (λ s. word-at s 0) (rewritten-is (f .answer) finish (word-bytes (f .length))) ∙ word-back (f .length)))
+      (ap (λ (x : Finish). steps-in (finish-steps-left x steps)) call-is
+      ∙ (ap steps-in (rewritten-is (f .answer) steps (step-bytes (f .steps))) ∙ steps-back (f .steps)))
       (rw (r .reads) (ap (λ (x : Finish). finish-plan-left (r .instance .«item_count») x plan) call-is))
 
 pub finish-request : FinishRequest

@@ -1,15 +1,15 @@
 -- What a finish comes to in values: it is refused with 9 and for nothing else, and otherwise it is the model's.
-use Rattle.prelude.specs.Names.{Bool, true, false, _↔_, _≡_, refl, ap, _∙_, sym, ℕ, _+_, _≤_, _<_, arith}
+use Rattle.prelude.specs.Names.{Bool, true, false, _↔_, _≡_, refl, ap, ℕ, _+_, _≤_, _<_, arith}
 use Rattle.model.proofs.Below.{clash}
 use Rattle.model.specs.Earliest.{earliest-finish}
-use Rattle.model.specs.Problem.{Problem, Positions}
+use Rattle.model.specs.Problem.{Positions}
 use Rattle.refusal.specs.declared.Refusal.the-variants.{InvalidInstance}
 use Rattle.instance.specs.Meaning.{problem-of}
 use Rattle.instance.specs.Valid.{valid}
 use Rattle.instance.specs.Values.{origin-packing}
 use Rattle.instance.specs.declared.Instance.{Instance}
 use Rattle.search.specs.Results.{answer-number, answer-of}
-use Rattle.makespan.specs.Results.{finish-of, finish-refused, finish-if, finish-result}
+use Rattle.makespan.specs.Results.{finish-of, finish-refused, finish-result}
 use Rattle.makespan.specs.declared.Finish.{Finish}
 use Rattle.model.specs.Calls as C
 use Rattle.model.specs.Earliest as M

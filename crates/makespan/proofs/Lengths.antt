@@ -1,5 +1,6 @@
 -- The search of an instance with fewer shifts, as a value and in the model.
-use Rattle.prelude.specs.Names.{Bool, true, false, _&&_, [], cond, _≡_, refl, sym, ap, _∙_, subst, ℕ, zero, suc, _+_, _-_, _≤_, _<_, zero-add, min, le-leb, le-ltb, arith, length, leb, ltb}
+use Rattle.prelude.specs.Names.{Bool, true, false, [], cond, _≡_, refl, sym, ap, _∙_, subst, ℕ, zero, suc, _+_, _-_, _≤_, _<_, zero-add, le-leb, le-ltb}
+use Rattle.prelude.specs.Names.{arith, leb, ltb}
 use mathlib.Core.Path.{fun-ext}
 use Rattle.model.proofs.Below.{Implies, implies-refl, and-mono}
 use Rattle.model.proofs.Earliest.{shortened-sound, from-spent, from-none, from-packed}
@@ -109,7 +110,9 @@ module _ (i : Instance) (v : valid i ≡ true) (full : Full i) (n budget : ℕ) 
 
   -- no more steps than the budget has
   pub steps-most : result .steps ≤ budget
-  steps-most = omega (arith, steps-are, taken-is (machine (shortened p (suc n))) budget (step-count (shortened p (suc n))) opening (counted (shortened p (suc n)) sound))
+  steps-most =
+      let q = shortened p (suc n) in
+      omega (arith, steps-are, taken-is (machine q) budget (step-count q) opening (counted q sound))
 
   module _ (more : ℕ) where
     pub next-none : result .answer ≡ Infeasible

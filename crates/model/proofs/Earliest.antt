@@ -1,17 +1,17 @@
 -- The earliest finish is right: one induction over the lengths, by the runs of the shortened problems.
-use Rattle.prelude.specs.Names.{_↔_, _≡_, refl, sym, ap, _∙_, subst, ℕ, zero, suc, _+_, _-_, _≤_, _<_, min, decLt, eq-or-lt-of-le, inl, inr, ⊎-elim}
+use Rattle.prelude.specs.Names.{_≡_, refl, sym, ap, _∙_, subst, ℕ, zero, suc, _+_, _-_, _≤_, _<_, min, decLt, eq-or-lt-of-le, ⊎-elim}
 use Rattle.prelude.specs.Names.{le-refl, le-trans, le-of-suc-le-suc, zero-add, arith}
 use Rattle.model.specs.Problem.{Problem, Positions, Feasible, EndsBefore, EndsAhead, time}
 use Rattle.model.specs.Admits.{Sound}
-use Rattle.model.specs.Machine.{Status, running, failed, succeeded, steps, taken}
-use Rattle.model.specs.Search.{opening, status, infeasible, packed-at}
-use Rattle.model.specs.Calls.{Answer, budget-spent, no-packing, packing, answer-by, answer-at}
+use Rattle.model.specs.Machine.{Status, running, failed, succeeded, steps}
+use Rattle.model.specs.Search.{opening, status}
+use Rattle.model.specs.Calls.{Answer, budget-spent, no-packing, packing, answer-by}
 use Rattle.model.specs.Run.{machine, plan-at, search, run-end, step-count}
 use Rattle.model.specs.Earliest.{shortened, Finish, steps-before, finish-from, earliest-finish, steps-up-to, last-tried-from, finish-count}
-use Rattle.model.specs.Earliest.{NoneBelow, NoneUpTo, Shown, First, Earliest}
+use Rattle.model.specs.Earliest.{NoneBelow, NoneUpTo, Shown, Earliest}
 use Rattle.model.proofs.Below.{below-three}
 use Rattle.model.proofs.Machine.{running-is, taken-is}
-use Rattle.model.proofs.Theorems.{RunEnds, ends-infeasible, ends-packed, run-ends, run-after, counted}
+use Rattle.model.proofs.Theorems.{ends-infeasible, ends-packed, run-ends, run-after, counted}
 
 pub shortened-sound : (p : Problem) (l : ℕ) → Sound p → Sound (shortened p l)
 shortened-sound p l σ = record { limited = σ .limited; positive = σ .positive; named = σ .named }
@@ -85,7 +85,8 @@ module _ (p : Problem) where
 
   module _ (σ : Sound p) where
     none-next : (n : ℕ) → NoneUpTo p n → ((q : Positions) → Feasible (shortened p (suc n)) q → ⊥) → NoneUpTo p (suc n)
-    none-next n none f l a b q fits = ⊎-elim (λ e. f q (subst (λ l. Feasible (shortened p l) q) e fits)) (λ h. none l a h q fits) (eq-or-lt-of-le (le-of-suc-le-suc b))
+    none-next n none f l a b q fits =
+        ⊎-elim (λ e. f q (subst (λ l. Feasible (shortened p l) q) e fits)) (λ h. none l a h q fits) (eq-or-lt-of-le (le-of-suc-le-suc b))
 
     last-tried-next : (more shown : ℕ) (s : Status) → status (run-end (shortened p (suc shown))) ≡ s
         → last-tried-from p (suc more) shown ≡ elim s [ running ↦ suc shown | failed ↦ last-tried-from p more (suc shown) | succeeded ↦ suc shown ]
@@ -124,7 +125,8 @@ module _ (p : Problem) where
           elim (comes more (suc shown) (budget - c) (none-next shown so-far f)) [
             | spends n z l e ↦ spends n (record { impossible = z .impossible; reached = omega (arith, z .reached); greatest = omega (arith, z .greatest) })
                 (omega arith) (later ∙ (ap (steps-before c) e ∙ ap (λ m. record { answer = budget-spent; length = n; steps = m }) (omega arith)))
-            | places n m x y z q g i j e ↦ places n (c + m) (omega arith) (omega arith) z q (omega arith) (omega arith) (last ∙ j) (later ∙ ap (steps-before c) e)
+            | places n m x y z q g i j e ↦
+                places n (c + m) (omega arith) (omega arith) z q (omega arith) (omega arith) (last ∙ j) (later ∙ ap (steps-before c) e)
             | none n m x z g i j e ↦ none n (c + m) (omega arith) z (omega arith) (omega arith) (last ∙ j) (later ∙ ap (steps-before c) e)
           ]
       | found h a t s f ↦

@@ -1,4 +1,5 @@
--- Document 01's "Plausible errors", each refuted by a small example, halls with lags and pairs by number (document 02, #101, #102); by computation.
+-- Document 01's "Plausible errors", each refuted by a small example, halls with lags, pairs by number and earliest finishes (document 02, #101 to #103); by
+-- computation.
 use Rattle.prelude.specs.Names.{Bool, true, false, cond, _&&_, List, [], _∷_, List·Memᴰ·not-nil, _≡_, refl, ℕ, zero, suc, _+_, _*_, arith, leb, ltb}
 use Rattle.prelude.specs.Names.{getD, map, leb-true}
 use Rattle.model.specs.Below.{all-below}
@@ -10,6 +11,7 @@ use Rattle.model.specs.Propagate.{propagate}
 use Rattle.model.specs.Search.{infeasible}
 use Rattle.model.specs.Calls.{budget-spent, no-packing, packing}
 use Rattle.model.specs.Run.{run-end}
+use Rattle.model.specs.Earliest.{Finish, earliest-finish}
 use Rattle.model.specs.Trials.{Triple, trial, problem, xyt, unit, with-budget, trial-right}
 use Rattle.model.specs.Admits.{Sound}
 use Rattle.model.proofs.Feasible.{all-all}
@@ -152,3 +154,30 @@ sequence-pairs = refl
 pub sequence-numbers : map (λ (c : Pair). pair-number (c .u) (c .v)) sequence ≡ 0 ∷ 1 ∷ 2 ∷ 3 ∷ 44 ∷ []
 unfolding pair-number
 sequence-numbers = refl
+
+-- The earliest finish. Three items of 1×1×1 in a hall of 1×1×4; order 0, 1 with lag 1. The lengths 1 and 2 are impossible after a step each, and 3 is placed
+-- after one more; spent comes with the lengths shown, and an empty sheet has length 1 once a step is allowed
+abbrev between-shifts : Problem
+between-shifts = problem (trial (xyt 1 1 4) (unit ∷ unit ∷ unit ∷ []) (order 0 1 1 ∷ []) [])
+
+abbrev empty-hall : Problem
+empty-hall = problem (trial (xyt 1 1 4) [] [] [])
+
+-- answer (0 spent, 1 placed, 2 none), length, steps
+abbrev told : Finish → Triple
+told f = elim (f .answer) [ budget-spent ↦ 0 | no-packing ↦ 2 | packing q ↦ 1 ] ∷ f .length ∷ f .steps ∷ []
+
+pub finishes :
+    map (λ budget. told (earliest-finish between-shifts budget)) (0 ∷ 1 ∷ 2 ∷ 3 ∷ 9 ∷ [])
+    ≡ (0 ∷ 0 ∷ 0 ∷ []) ∷ (0 ∷ 1 ∷ 1 ∷ []) ∷ (0 ∷ 2 ∷ 2 ∷ []) ∷ (1 ∷ 3 ∷ 3 ∷ []) ∷ (1 ∷ 3 ∷ 3 ∷ []) ∷ []
+unfolding trial-right earliest-finish
+finishes = refl
+
+pub finishes-empty : map (λ budget. told (earliest-finish empty-hall budget)) (0 ∷ 1 ∷ []) ≡ (0 ∷ 0 ∷ 0 ∷ []) ∷ (1 ∷ 1 ∷ 1 ∷ []) ∷ []
+unfolding trial-right earliest-finish
+finishes-empty = refl
+
+-- no length of a hall that is too narrow has a packing
+pub finishes-none : told (earliest-finish (problem (trial (xyt 1 1 2) (xyt 2 1 1 ∷ []) [] [])) 2) ≡ (2 ∷ 0 ∷ 2 ∷ [])
+unfolding trial-right earliest-finish
+finishes-none = refl

@@ -1,20 +1,18 @@
 -- Lengths whose opening domains are inconsistent: so are those of every shorter one, and each takes its one step.
-use Rattle.prelude.specs.Names.{Bool, true, false, cond, not, _&&_, List, [], _∷_, _≡_, refl, sym, ap, _∙_, subst, ℕ, zero, suc, _+_, _-_, _≤_, _<_}
-use Rattle.prelude.specs.Names.{le-refl, le-trans, zero-add, suc-add, add-zero, sub-zero, arith, eqb, ltb, ltb-true, lt-ltb}
-use Rattle.model.specs.Below.{most-below}
+use Rattle.prelude.specs.Names.{Bool, true, false, cond, [], _≡_, refl, sym, ap, _∙_, ℕ, zero, suc, _+_, _-_, _≤_, _<_, le-refl, le-trans, zero-add, suc-add}
+use Rattle.prelude.specs.Names.{add-zero, sub-zero, arith, ltb, ltb-true}
 use Rattle.model.specs.Problem.{Problem, gap, time}
-use Rattle.model.specs.Domains.{Domains, fixed-before}
-use Rattle.model.specs.Rules.{listed, joined, longest, ending, starting, greatest-ending, greatest-starting, rule5}
+use Rattle.model.specs.Domains.{Domains}
+use Rattle.model.specs.Rules.{joined, longest, ending, starting, greatest-ending, greatest-starting, rule5}
 use Rattle.model.specs.Propagate.{propagate}
-use Rattle.model.specs.Branching.{empty, inconsistent, opening-domains, path-domains}
+use Rattle.model.specs.Branching.{inconsistent, opening-domains, path-domains}
 use Rattle.model.specs.Order.{WellFormed, _⊑_, AtRest}
-use Rattle.model.specs.Admits.{Sound}
 use Rattle.model.specs.Machine.{steps, taken}
 use Rattle.model.specs.Search.{conflict, opening, infeasible, act}
 use Rattle.model.specs.Calls.{budget-spent, no-packing, answer-at}
 use Rattle.model.specs.Run.{look, machine, plan-at, search}
 use Rattle.model.specs.Earliest.{shortened, Finish, steps-before, finish-from}
-use Rattle.model.proofs.Below.{Implies, stays, clash}
+use Rattle.model.proofs.Below.{stays, clash}
 use Rattle.model.proofs.Pass.{at-rest-rests}
 use Rattle.model.proofs.Propagate.{propagate-well-formed, propagate-at-rest, propagate-less, propagate-greatest, inconsistent-mono}
 use Rattle.model.proofs.Admits.{opening-well-formed}

@@ -1,5 +1,5 @@
 -- `c_api::hand_over` meets its contract.
-use Rattle.prelude.specs.Names.{_≡_, sym, _∙_, _<_, arith, needs}
+use Rattle.prelude.specs.Names.{_≡_, sym, _∙_, _≤_, _<_, arith, needs}
 use Rattle.search.specs.Results.{answer-number}
 use Rattle.c_api.proofs.Outcomes.{not-refused, path-room, refused-keeps}
 use Rattle.c_api.proofs.hand_over.Tie as tie
@@ -18,7 +18,8 @@ answered c = omega (arith, number-is (c .before), c .if1 .left)
 returns : tie.Need-returns
 returns c =
     let a = start (c .before) .args in
-    let (n, s, p) = refused-keeps (a .result .answer) (a .note .now) (a .steps .now) (a .plan .now) _ _ _ (omega (arith, number-is (c .before), c .if1 .taken)) in
+    let refused : 100 ≤ answer-number (a .result .answer) = omega (arith, number-is (c .before), c .if1 .taken) in
+    let (n, s, p) = refused-keeps (a .result .answer) (a .note .now) (a .steps .now) (a .plan .now) _ _ _ refused in
     (number-is (c .before), (sym n, (sym s, sym p)))
 
 returns-2 : tie.Need-returns-2

@@ -1,7 +1,7 @@
 -- `c_api::put_answer` meets its contract.
 use Rattle.prelude.specs.Names.{_≡_, sym, _∙_, needs}
 use Rattle.search.specs.Results.{answer-number}
-use Rattle.buffers.specs.Bytes.{packing-bytes, step-bytes}
+use Rattle.buffers.specs.Bytes.{packing-bytes}
 use Rattle.c_api.proofs.Outcomes.{plan-placed, plan-kept}
 use Rattle.c_api.proofs.put_answer.Tie as tie
 

@@ -1,6 +1,6 @@
 -- `makespan::conflicts` meets its contract, by bisection. The invariant: the lengths up to `low` have inconsistent opening domains; `shortened` is the
 -- instance but for its shifts. `high - low` falls.
-use Rattle.prelude.specs.Names.{true, [], _≡_, refl, sym, ap, _∙_, subst, ℕ, _-_, _/_, _≤_, arith, needs}
+use Rattle.prelude.specs.Names.{true, [], _≡_, refl, sym, ap, _∙_, subst, ℕ, _-_, _/_, _≤_, arith}
 use Rattle.model.proofs.Shorter.{conflict-shorter}
 use Rattle.model.specs.Earliest.{shortened}
 use Rattle.model.specs.Run.{look}

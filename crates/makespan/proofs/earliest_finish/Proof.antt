@@ -1,5 +1,5 @@
 -- `makespan::earliest_finish` meets its contract.
-use Rattle.prelude.specs.Names.{true, _≡_, sym, _∙_, ℕ, _≤_, arith, needs, not-true, not-false}
+use Rattle.prelude.specs.Names.{true, _≡_, sym, _∙_, ℕ, arith, needs, not-true, not-false}
 use Rattle.model.specs.Earliest.{earliest-finish}
 use Rattle.instance.proofs.Arrays.{length-mapped}
 use Rattle.instance.specs.Meaning.{problem-of}
@@ -7,7 +7,7 @@ use Rattle.instance.specs.Reads.{Full}
 use Rattle.instance.specs.Valid.{valid}
 use Rattle.instance.specs.declared.Instance.{Instance}
 use Rattle.makespan.specs.declared.Finish.{Finish}
-use Rattle.makespan.specs.Results.{ConflictsUpTo, finish-of, finish-result}
+use Rattle.makespan.specs.Results.{finish-of, finish-result}
 use Rattle.makespan.proofs.Lengths.{within-known}
 use Rattle.makespan.proofs.earliest_finish.Tie as tie
 
@@ -36,9 +36,10 @@ spent-here c =
     let known = c .before .before in
     let s = known .before .before .before in
     let i = s .args .instance in
-    let budget = s .args .budget in (
+    let budget = s .args .budget in
+    let (most, conflicts) = known .conflicts .ensures in (
       valid-finish i budget (is-valid (known .before)) (c .spent .ensures
-          ∙ within-known (problem-of i) (known .conflicts .result) budget (known .conflicts .ensures .0) (known .conflicts .ensures .1) (c .before .if2 .taken)),
+          ∙ within-known (problem-of i) (known .conflicts .result) budget most conflicts (c .before .if2 .taken)),
       full s,
     )
 

@@ -27,10 +27,11 @@ Inv-loop known budget shortened₀ most length₀ left₀ shortened length left 
 abbrev μ-loop : tie.MeasureT-loop
 μ-loop known budget shortened₀ most length₀ left₀ shortened length left = most - length
 
-started : (c : tie.Start Inv-loop μ-loop) → let a = c .args in
-    Inv-loop (a .known) (a .budget) (a .instance) (a .instance .container .shifts) (a .known) (a .budget - a .known) (a .instance) (a .known) (a .budget - a .known)
+started : (c : tie.Start Inv-loop μ-loop) → let a = c .args in let left = a .budget - a .known in
+    Inv-loop (a .known) (a .budget) (a .instance) (a .instance .container .shifts) (a .known) left (a .instance) (a .known) left
 unfolding problem-of
-started c = let a = c .args in
+started c =
+    let a = c .args in
     (refl, c .pre .1, omega arith, past-known (problem-of (a .instance)) (a .known) (a .budget) (c .pre .1) (c .pre .3) (c .pre .2))
 
 -- One length searched, by the answer
@@ -79,17 +80,23 @@ module _ (c : tie.After-search Inv-loop μ-loop) where
   rest-is = let next : i .container .shifts - n ≡ suc more = omega (arith, c .before .before .before .loop-test .taken) in rw next refl
 
   comes : {f : Finish} → finish-of p (finish-from p (suc more) n left) ≡ f → asked ≡ steps-added taken f
-  comes e = ap (finish-of p) (looped .loop .inv .3 ∙ ap (steps-before taken) rest-is) ∙ (before-added p taken (finish-from p (suc more) n left) ∙ ap (steps-added taken) e)
+  comes e =
+      ap (finish-of p) (looped .loop .inv .3 ∙ ap (steps-before taken) rest-is)
+      ∙ (before-added p taken (finish-from p (suc more) n left) ∙ ap (steps-added taken) e)
 
   packed-here : c .search .result .answer ≡ Packed → let r = c .search .result in packed-finish (n + 1) (taken + r .steps) (r .packing) ≡ asked
   unfolding packed-finish
-  packed-here e = let next : suc n ≡ n + 1 = omega arith in sym (comes (next-packed i (looped .before .pre .0) full n left more (answer-is e))
+  packed-here e =
+      let next : suc n ≡ n + 1 = omega arith in
+      sym (comes (next-packed i (looped .before .pre .0) full n left more (answer-is e))
       ∙ (ap (λ (r : SearchResult). packed-finish (suc n) (taken + r .steps) (r .packing)) (sym result-is)
       ∙ ap (λ k. let r = c .search .result in packed-finish k (taken + r .steps) (r .packing)) next))
 
   spent-here : c .search .result .answer ≡ BudgetSpent → spent-finish n (looped .before .args .budget) ≡ asked
   unfolding spent-finish
-  spent-here e = let all : taken + left ≡ looped .before .args .budget = omega (arith, looped .loop .inv .2) in sym (comes (next-spent i (looped .before .pre .0) full n left more (answer-is e)) ∙ ap (spent-finish n) all)
+  spent-here e =
+      let all : taken + left ≡ looped .before .args .budget = omega (arith, looped .loop .inv .2) in
+      sym (comes (next-spent i (looped .before .pre .0) full n left more (answer-is e)) ∙ ap (spent-finish n) all)
 
   none-here : c .search .result .answer ≡ Infeasible → let m = c .search .result .steps in let budget = looped .before .args .budget in
       earliest-finish p budget ≡ steps-before (budget - (left - m)) (finish-from p (i .container .shifts - (n + 1)) (n + 1) (left - m))
