@@ -26,7 +26,7 @@ use Rattle.search.specs.declared.answer.SearchResult.{SearchResult}
 use Rattle.search.proofs.Claim.{opening-value, call-held}
 use Rattle.opening.proofs.Sound.{valid-sound}
 use Rattle.makespan.specs.declared.Finish.{Finish}
-use Rattle.makespan.specs.Results.{finish-of, spent-finish, packed-finish, ConflictIf, ConflictsUpTo}
+use Rattle.makespan.specs.Results.{finish-of, spent-finish, packed-finish, ConflictIf, LastConflict}
 use Rattle.model.specs.Calls as C
 use Rattle.model.specs.Earliest as M
 use Rattle.model.specs.Run as R
@@ -166,18 +166,18 @@ unfolding finish-of
 before-added p m f = refl
 
 -- The lengths known impossible, each in one step, under a budget that lasts for them and under one that does not
-module _ (p : Problem) (known budget : ℕ) (most : known ≤ p .capacity time) (c : ConflictsUpTo p known) where
+module _ (p : Problem) (known budget : ℕ) (c : LastConflict p known) where
   all : earliest-finish p budget ≡ finish-from p (known + (p .capacity time - known)) 0 budget
   unfolding earliest-finish
-  all = let sum : known + (p .capacity time - known) ≡ p .capacity time = omega arith in rw sum refl
+  all = let sum : known + (p .capacity time - known) ≡ p .capacity time = omega (arith, c .most) in rw sum refl
 
   pub past-known : known ≤ budget → earliest-finish p budget
       ≡ steps-before (budget - (budget - known)) (finish-from p (p .capacity time - known) known (budget - known))
   past-known h =
       let back : budget - (budget - known) ≡ known = omega arith in
-      rw back (rw (zero-add known) at (all ∙ skip p known (p .capacity time - known) 0 budget (λ l a b. c l a (omega arith)) h))
+      rw back (rw (zero-add known) at (all ∙ skip p known (p .capacity time - known) 0 budget (λ l a b. c .up-to l a (omega arith)) h))
 
   pub within-known : budget < known → spent-finish budget budget ≡ finish-of p (earliest-finish p budget)
   unfolding finish-of spent-finish
   within-known h =
-      sym (ap (finish-of p) (rw (zero-add budget) at (all ∙ skip-short p known (p .capacity time - known) 0 budget (λ l a b. c l a (omega arith)) h)))
+      sym (ap (finish-of p) (rw (zero-add budget) at (all ∙ skip-short p known (p .capacity time - known) 0 budget (λ l a b. c .up-to l a (omega arith)) h)))

@@ -1,6 +1,6 @@
 -- The earliest finish as a value (document 02, #103).
-use Rattle.prelude.specs.Names.{Bool, true, false, [], _≡_, ℕ, _≤_}
-use Rattle.model.specs.Problem.{Problem}
+use Rattle.prelude.specs.Names.{Bool, true, false, [], _⊎_, _≡_, ℕ, suc, _≤_}
+use Rattle.model.specs.Problem.{Problem, time}
 use Rattle.model.specs.Search.{conflict}
 use Rattle.model.specs.Run.{look}
 use Rattle.model.specs.Earliest.{shortened, earliest-finish}
@@ -47,6 +47,8 @@ abbrev pub ConflictIf : Problem → Bool → Type 0
 ConflictIf p true = look p [] ≡ conflict
 ConflictIf p false = look p [] ≡ conflict → ⊥
 
--- so they are at every length from 1 to n
-abbrev pub ConflictsUpTo : Problem → ℕ → Type 0
-ConflictsUpTo p n = (l : ℕ) → 1 ≤ l → l ≤ n → look (shortened p l) [] ≡ conflict
+-- n is the greatest length at which they are, 0 if there is none: so they are at every length from 1 to n
+pub record LastConflict (p : Problem) (n : ℕ) : Type 0 where
+  pub most : n ≤ p .capacity time
+  pub up-to : (l : ℕ) → 1 ≤ l → l ≤ n → look (shortened p l) [] ≡ conflict
+  pub greatest : (n ≡ p .capacity time) ⊎ (look (shortened p (suc n)) [] ≡ conflict → ⊥)

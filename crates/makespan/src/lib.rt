@@ -6,7 +6,7 @@ ghost use Rattle.model.specs.Earliest.{earliest-finish};
 ghost use Rattle.instance.specs.Meaning.{problem-of};
 ghost use Rattle.instance.specs.Reads.{Full};
 ghost use Rattle.instance.specs.Valid.{valid};
-ghost use Rattle.makespan.specs.Results.{finish-of, finish-result, ConflictIf, ConflictsUpTo};
+ghost use Rattle.makespan.specs.Results.{finish-of, finish-result, ConflictIf, LastConflict};
 use instance::Instance;
 use instance::Packing;
 use refusal::Refusal;
@@ -57,7 +57,7 @@ fn in_conflict(instance: Instance) -> bool
 // shows each of these impossible: so they need not be tried.
 fn conflicts(instance: Instance) -> u16
     requires { ⌜ valid instance ≡ true ⌝ }
-    ensures { λ r. ⌜ (r ≤ instance .container .shifts) × ConflictsUpTo (problem-of instance) r ⌝ }
+    ensures { λ r. ⌜ LastConflict (problem-of instance) r ⌝ }
 {
     let mut shortened = instance;
     let mut low: u16 = 0;
@@ -76,7 +76,7 @@ fn conflicts(instance: Instance) -> u16
 
 // The lengths past those known impossible, one after the other, each searched from the opening under what is left of the budget.
 fn try_lengths(instance: Instance, known: u16, budget: u32) -> Finish
-    requires { ⌜ (valid instance ≡ true) × (known ≤ instance .container .shifts) × (known ≤ budget) × ConflictsUpTo (problem-of instance) known ⌝ }
+    requires { ⌜ (valid instance ≡ true) × (known ≤ budget) × LastConflict (problem-of instance) known ⌝ }
     ensures { λ r. ⌜ r ≡ finish-of (problem-of instance) (earliest-finish (problem-of instance) budget) ⌝ }
 {
     let mut shortened = instance;

@@ -36,16 +36,15 @@ spent-here c =
     let known = c .before .before in
     let s = known .before .before .before in
     let i = s .args .instance in
-    let budget = s .args .budget in
-    let (most, conflicts) = known .conflicts .ensures in (
+    let budget = s .args .budget in (
       valid-finish i budget (is-valid (known .before)) (c .spent .ensures
-          ∙ within-known (problem-of i) (known .conflicts .result) budget most conflicts (c .before .if2 .taken)),
+          ∙ within-known (problem-of i) (known .conflicts .result) budget (known .conflicts .ensures) (c .before .if2 .taken)),
       full s,
     )
 
 pub earliest-finish-spec : {M : Type 1} → Rattle.makespan.proofs.earliest_finish.Statement.statement M
 earliest-finish-spec = tie.close (tie.spec (λ c κs. search needs) (λ c κs. search needs) refused-here (λ c κs. is-valid c)
     (λ c. search needs) (λ c. search needs) (λ c κs. search needs) spent-here
-    (λ c κs. let known = c .before in (is-valid (known .before), known .conflicts .ensures .0, omega arith, known .conflicts .ensures .1))
+    (λ c κs. let known = c .before in (is-valid (known .before), omega arith, known .conflicts .ensures))
     (λ c. let s = c .before .before .before .before .before in
     (valid-finish (s .args .instance) (s .args .budget) (is-valid (c .before .before .before)) (c .try-lengths .ensures), full s)))

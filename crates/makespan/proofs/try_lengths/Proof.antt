@@ -32,7 +32,7 @@ started : (c : tie.Start Inv-loop μ-loop) → let a = c .args in let left = a .
 unfolding problem-of
 started c =
     let a = c .args in
-    (refl, c .pre .1, omega arith, past-known (problem-of (a .instance)) (a .known) (a .budget) (c .pre .1) (c .pre .3) (c .pre .2))
+    (refl, c .pre .2 .most, omega arith, past-known (problem-of (a .instance)) (a .known) (a .budget) (c .pre .2) (c .pre .1))
 
 -- One length searched, by the answer
 module _ (c : tie.After-search Inv-loop μ-loop) where
@@ -119,7 +119,7 @@ none-left p most length budget left h = let zero : most - length ≡ 0 = omega a
 
 pub try-lengths-spec : {M : Type 1} → Rattle.makespan.proofs.try_lengths.Statement.statement M
 try-lengths-spec = tie.close (tie.spec Inv-loop μ-loop
-    (λ c. c .pre .2) started
+    (λ c. c .pre .1) started
     (λ c. omega arith) (λ c κs. search needs) (λ c κs. search needs)
     (λ c. search needs) (λ c. omega (arith, c .before .before .before .before .before .before .before .loop .inv .2))
     (λ c. omega (arith, steps-fit (c .before .before .before .before), c .before .before .before .before .before .before .before .before .loop .inv .2))
