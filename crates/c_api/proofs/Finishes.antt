@@ -10,7 +10,7 @@ use Rattle.instance.specs.declared.Instance.{Instance}
 use Rattle.search.specs.Results.{answer-number}
 use Rattle.makespan.proofs.Claim.{small}
 use Rattle.makespan.specs.Results.{finish-refused, finish-result}
-use Rattle.makespan.specs.declared.Finish.{Finish}
+use Rattle.makespan.specs.declared.finish.Finish.{Finish}
 use Rattle.c_api.proofs.Outcomes.{refused-keeps}
 use Rattle.c_api.proofs.Plans.{fault-or-reads, reads-valid}
 use Rattle.c_api.proofs.Tables.{refuses-by-table}

@@ -10,7 +10,7 @@ use Rattle.instance.specs.Sheets.{decode}
 use Rattle.instance.specs.declared.Instance.{Instance}
 use Rattle.search.specs.Results.{answer-number}
 use Rattle.makespan.specs.Results.{finish-refused, finish-result}
-use Rattle.makespan.specs.declared.Finish.{Finish}
+use Rattle.makespan.specs.declared.finish.Finish.{Finish}
 use Rattle.buffers.specs.Bytes.{packing-bytes, step-bytes, word-bytes}
 use Rattle.buffers.specs.Lengths.{finish-length, steps-length, position-length}
 use Rattle.c_api.specs.Calls.{outputs-fit, rewritten, when-packed, items-in}

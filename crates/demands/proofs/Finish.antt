@@ -12,10 +12,11 @@ use Rattle.instance.specs.Valid.{valid}
 use Rattle.instance.specs.declared.Instance.{Instance}
 use Rattle.packing.specs.Check.{check-answer, check-number}
 use Rattle.opening.proofs.Sound.{valid-sound}
+use Rattle.search.proofs.Claim.{one-is-packed}
 use Rattle.search.specs.Results.{answer-number, answer-of, packing-with}
 use Rattle.makespan.proofs.Claim.{valid-is}
 use Rattle.makespan.specs.Results.{finish-of, finish-result}
-use Rattle.makespan.specs.declared.Finish.{Finish}
+use Rattle.makespan.specs.declared.finish.Finish.{Finish}
 use Rattle.buffers.proofs.Bytes.{word-back, steps-back}
 use Rattle.buffers.specs.Bytes.{word-bytes, packing-bytes, step-bytes, steps-in}
 use Rattle.c_api.proofs.Finishes.{finished-is}
@@ -27,11 +28,6 @@ use Rattle.demands.specs.Finish.{FinishDemand, FinishRequest}
 use Rattle.demands.proofs.Demand3.{value-checks}
 use Rattle.model.specs.Calls as C
 use Rattle.model.specs.Earliest as M
-
-one-is-packed : (a : C.Answer Positions) → answer-number (answer-of a) ≡ 1 → (q : Positions) × (a ≡ C.packing q)
-one-is-packed C.budget-spent e = absurd (omega arith)
-one-is-packed C.no-packing e = absurd (omega arith)
-one-is-packed (C.packing q) e = (q, refl)
 
 -- whoever returns the model's finish meets it, where the check says yes to the plan of what fits
 module _ {P : Type 0} (p : Problem) (σ : Sound p) (budget : ℕ) (plan-for : C.Answer Positions → P) (check : P → ℕ)

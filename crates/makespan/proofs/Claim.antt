@@ -2,23 +2,15 @@
 use Rattle.prelude.specs.Names.{Bool, true, false, _↔_, _≡_, refl, ap, ℕ, _+_, _≤_, _<_, arith}
 use Rattle.model.proofs.Below.{clash}
 use Rattle.model.specs.Earliest.{earliest-finish}
-use Rattle.model.specs.Problem.{Positions}
 use Rattle.refusal.specs.declared.Refusal.the-variants.{InvalidInstance}
 use Rattle.instance.specs.Meaning.{problem-of}
 use Rattle.instance.specs.Valid.{valid}
 use Rattle.instance.specs.Values.{origin-packing}
 use Rattle.instance.specs.declared.Instance.{Instance}
-use Rattle.search.specs.Results.{answer-number, answer-of}
+use Rattle.search.proofs.Claim.{answer-small}
+use Rattle.search.specs.Results.{answer-number}
 use Rattle.makespan.specs.Results.{finish-of, finish-refused, finish-result}
-use Rattle.makespan.specs.declared.Finish.{Finish}
-use Rattle.model.specs.Calls as C
-use Rattle.model.specs.Earliest as M
-
--- an answer of the model is no refusal
-pub answered-small : (a : C.Answer Positions) → answer-number (answer-of a) < 100
-answered-small C.budget-spent = omega arith
-answered-small C.no-packing = omega arith
-answered-small (C.packing q) = omega arith
+use Rattle.makespan.specs.declared.finish.Finish.{Finish}
 
 module _ (i : Instance) (budget : ℕ) where
   pub valid-is : valid i ≡ true → finish-result i budget ≡ finish-of (problem-of i) (earliest-finish (problem-of i) budget)
@@ -35,7 +27,7 @@ module _ (i : Instance) (budget : ℕ) where
 
   pub small : valid i ≡ true → answer-number (finish-result i budget .answer) < 100
   unfolding finish-of
-  small v = omega (arith, ap number (valid-is v), answered-small (earliest-finish (problem-of i) budget .answer))
+  small v = omega (arith, ap number (valid-is v), answer-small (earliest-finish (problem-of i) budget .answer))
 
   pub finish-refuses : (n : ℕ) → (answer-number (finish-result i budget .answer) ≡ 100 + n) ↔ ((valid i ≡ false) × (n ≡ 9))
   unfolding finish-refused

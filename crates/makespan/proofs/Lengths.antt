@@ -19,13 +19,13 @@ use Rattle.instance.specs.Reads.{Full}
 use Rattle.instance.specs.Valid.{valid}
 use Rattle.instance.specs.Values.{opening-checkpoint}
 use Rattle.instance.specs.declared.Instance.{Instance}
-use Rattle.search.specs.Results.{answer-of, packing-of, packing-with, result-of, search-result}
+use Rattle.search.specs.Results.{answer-number, answer-of, packing-of, packing-with, result-of, search-result}
 use Rattle.search.specs.declared.answer.Answer.{Answer}
 use Rattle.search.specs.declared.answer.Answer.the-variants.{Packed, Infeasible, BudgetSpent, Refused}
 use Rattle.search.specs.declared.answer.SearchResult.{SearchResult}
-use Rattle.search.proofs.Claim.{opening-value, call-held}
+use Rattle.search.proofs.Claim.{opening-value, answer-small, call-held, zero-is-spent, one-is-packed, two-is-none}
 use Rattle.opening.proofs.Sound.{valid-sound}
-use Rattle.makespan.specs.declared.Finish.{Finish}
+use Rattle.makespan.specs.declared.finish.Finish.{Finish}
 use Rattle.makespan.specs.Results.{finish-of, spent-finish, packed-finish, ConflictIf, LastConflict}
 use Rattle.model.specs.Calls as C
 use Rattle.model.specs.Earliest as M
@@ -59,27 +59,6 @@ module _ (i : Instance) (l : ℕ) where
   unfolding valid positive
   shortened-valid h = let one : Implies (leb 1 (i .container .shifts)) (leb 1 l) = λ _. le-leb 1 l h in search (and-mono, implies-refl, one) depth 9
 
--- the model's answer, by the value's
-packed-is : (a : C.Answer Positions) → answer-of a ≡ Packed → (q : Positions) × (a ≡ C.packing q)
-packed-is C.budget-spent e = let z : _≡_ {A = ℕ} 0 1 = cc in absurd (omega arith)
-packed-is C.no-packing e = let z : _≡_ {A = ℕ} 0 1 = cc in absurd (omega arith)
-packed-is (C.packing q) e = (q, refl)
-
-infeasible-is : (a : C.Answer Positions) → answer-of a ≡ Infeasible → a ≡ C.no-packing
-infeasible-is C.budget-spent e = let z : _≡_ {A = ℕ} 0 1 = cc in absurd (omega arith)
-infeasible-is C.no-packing e = refl
-infeasible-is (C.packing q) e = let z : _≡_ {A = ℕ} 0 1 = cc in absurd (omega arith)
-
-spent-is : (a : C.Answer Positions) → answer-of a ≡ BudgetSpent → a ≡ C.budget-spent
-spent-is C.budget-spent e = refl
-spent-is C.no-packing e = let z : _≡_ {A = ℕ} 0 1 = cc in absurd (omega arith)
-spent-is (C.packing q) e = let z : _≡_ {A = ℕ} 0 1 = cc in absurd (omega arith)
-
-never-refused : (a : C.Answer Positions) (e : Refusal) → answer-of a ≡ Refused e → ⊥
-never-refused C.budget-spent r e = let z : _≡_ {A = ℕ} 0 1 = cc in omega arith
-never-refused C.no-packing r e = let z : _≡_ {A = ℕ} 0 1 = cc in omega arith
-never-refused (C.packing q) r e = let z : _≡_ {A = ℕ} 0 1 = cc in omega arith
-
 -- The search of the length n + 1 from the opening, and what it makes of the lengths from there on
 module _ (i : Instance) (v : valid i ≡ true) (full : Full i) (n budget : ℕ) where
   abbrev p : Problem
@@ -100,9 +79,10 @@ module _ (i : Instance) (v : valid i ≡ true) (full : Full i) (n budget : ℕ) 
       ∙ (call-held (with-shifts i (suc n)) (shortened-valid i (suc n) (omega arith) v) (full .items-room) opening tt budget
       ∙ ap (λ q. result-of q (R.search q budget opening)) (shortened-problem i (suc n)))
 
-  answer-is : result .answer ≡ answer-of (tried .answer)
+  -- its answer has the number of the model's
+  number-is : {a : Answer} → result .answer ≡ a → answer-number (answer-of (tried .answer)) ≡ answer-number a
   unfolding result-of
-  answer-is = ap (λ (r : SearchResult). r .answer) searched
+  number-is e = ap (λ (r : SearchResult). answer-number (r .answer)) (sym searched) ∙ ap answer-number e
 
   steps-are : tried .steps ≡ result .steps
   unfolding result-of
@@ -117,13 +97,13 @@ module _ (i : Instance) (v : valid i ≡ true) (full : Full i) (n budget : ℕ) 
   module _ (more : ℕ) where
     pub next-none : result .answer ≡ Infeasible
         → finish-from p (suc more) n budget ≡ steps-before (result .steps) (finish-from p more (suc n) (budget - result .steps))
-    next-none e = from-none p more n budget (result .steps) steps-are (infeasible-is (tried .answer) (sym answer-is ∙ e))
+    next-none e = from-none p more n budget (result .steps) steps-are (two-is-none (tried .answer) (number-is e))
 
     pub next-packed : result .answer ≡ Packed
         → finish-of p (finish-from p (suc more) n budget) ≡ packed-finish (suc n) (result .steps) (result .packing)
     unfolding finish-of packed-finish result-of packing-of
     next-packed e =
-        let (q, is) = packed-is (tried .answer) (sym answer-is ∙ e) in
+        let (q, is) = one-is-packed (tried .answer) (number-is e) in
         rw (from-packed p more n budget (result .steps) steps-are q is)
         (ap (λ x. record { answer = Packed; length = suc n; steps = result .steps; packing = x })
         (sym (ap (λ (r : SearchResult). r .packing) searched ∙ ap (packing-with (shortened p (suc n))) is)))
@@ -131,11 +111,11 @@ module _ (i : Instance) (v : valid i ≡ true) (full : Full i) (n budget : ℕ) 
     pub next-spent : result .answer ≡ BudgetSpent → finish-of p (finish-from p (suc more) n budget) ≡ spent-finish n budget
     unfolding finish-of spent-finish
     next-spent e =
-        let is = spent-is (tried .answer) (sym answer-is ∙ e) in
+        let is = zero-is-spent (tried .answer) (number-is e) in
         rw (from-spent p more n budget budget (spent-exactly (shortened p (suc n)) budget opening is) is) refl
 
   pub next-refused : (e : Refusal) → result .answer ≡ Refused e → ⊥
-  next-refused r e = never-refused (tried .answer) r (sym answer-is ∙ e)
+  next-refused r e = omega (arith, number-is e, answer-small (tried .answer))
 
 -- The first step from the opening says none exactly where the opening domains are inconsistent
 abbrev pub says-none : Answer → Bool

@@ -13,7 +13,7 @@ use Rattle.instance.specs.declared.Instance.{Instance}
 use Rattle.instance.specs.declared.Packing.{Packing}
 use Rattle.search.specs.Results.{answer-of, packing-with}
 use Rattle.search.specs.declared.answer.Answer.the-variants.{Packed, Infeasible, BudgetSpent, Refused}
-use Rattle.makespan.specs.declared.Finish.{Finish}
+use Rattle.makespan.specs.declared.finish.Finish.{Finish}
 use Rattle.model.specs.Earliest as M
 
 -- "The answer is the first length with a placement, with its plan; or none; or spent, with the greatest length already shown impossible".

@@ -7,21 +7,13 @@ ghost use Rattle.instance.specs.Meaning.{problem-of};
 ghost use Rattle.instance.specs.Reads.{Full};
 ghost use Rattle.instance.specs.Valid.{valid};
 ghost use Rattle.makespan.specs.Results.{finish-of, finish-result, ConflictIf, LastConflict};
+use crate::finish::Finish;
 use instance::Instance;
-use instance::Packing;
 use refusal::Refusal;
 use search::answer::Answer;
 
+pub mod finish;
 mod results;
-
-// "The answer is the first length with a placement, with its plan; or none; or spent, with the greatest length already shown impossible", or a
-// refusal. The length is 0 where the answer is none; all positions are 0 unless it is placed.
-pub struct Finish {
-    pub answer: Answer,
-    pub length: u16,
-    pub steps: u32,
-    pub packing: Packing,
-}
 
 // The earliest finish under a budget of steps for all lengths together.
 pub fn earliest_finish(instance: Instance, budget: u32) -> Finish

@@ -1,7 +1,7 @@
 // The makers of a finish.
 ghost use mathlib.Core.Path.{_≡_};
 ghost use Rattle.makespan.specs.Results as R;
-use crate::Finish;
+use crate::finish::Finish;
 use instance::Packing;
 use refusal::Refusal;
 use search::answer::Answer;

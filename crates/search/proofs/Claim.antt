@@ -57,14 +57,15 @@ module _ (p : Problem) (σ : Sound p) (κ : S.Checkpoint) (f : S.Follows (look p
     follows = subst (S.Follows (look p)) (sym (checkpoint-back κ short)) f;
   }
 
--- an answer of the search is no refusal
+-- an answer of the model is no refusal
+pub answer-small : (a : C.Answer Positions) → answer-number (answer-of a) < 100
+answer-small C.budget-spent = omega arith
+answer-small C.no-packing = omega arith
+answer-small (C.packing q) = omega arith
+
 pub answered-small : (p : Problem) (r : C.Result S.Checkpoint Positions) → answer-number (result-of p r .answer) < 100
 unfolding result-of
-answered-small p r = elim (r .answer) as (λ a. answer-number (answer-of a) < 100) [
-  | C.budget-spent ↦ omega arith
-  | C.no-packing ↦ omega arith
-  | C.packing q ↦ omega arith
-]
+answered-small p r = answer-small (r .answer)
 
 -- One call by the table: it is refused with 9, or with 10, or it is the search's
 pub data CallIs (i : Instance) (c : Checkpoint) (budget : ℕ) (r : SearchResult) : Type 0 where
@@ -175,11 +176,21 @@ module _ (i : Instance) (v : valid i ≡ true) (long : length (i .items) ≡ 10)
       fits (S.packed-at path) f e =
           feasible-same p sound (plan p path) _ (packing-back p (sound .limited) (plan p path)) (T.packed-feasible p sound path f)
 
--- 0 is the number of "spent" alone
+-- 0 is the number of "spent" alone, 1 of "placed", 2 of "none"
 pub zero-is-spent : (a : C.Answer Positions) → answer-number (answer-of a) ≡ 0 → a ≡ C.budget-spent
 zero-is-spent C.budget-spent e = refl
 zero-is-spent C.no-packing e = absurd (omega arith)
 zero-is-spent (C.packing q) e = absurd (omega arith)
+
+pub one-is-packed : (a : C.Answer Positions) → answer-number (answer-of a) ≡ 1 → (q : Positions) × (a ≡ C.packing q)
+one-is-packed C.budget-spent e = absurd (omega arith)
+one-is-packed C.no-packing e = absurd (omega arith)
+one-is-packed (C.packing q) e = (q, refl)
+
+pub two-is-none : (a : C.Answer Positions) → answer-number (answer-of a) ≡ 2 → a ≡ C.no-packing
+two-is-none C.budget-spent e = absurd (omega arith)
+two-is-none C.no-packing e = refl
+two-is-none (C.packing q) e = absurd (omega arith)
 
 -- "spent has taken exactly the allowance", whatever checkpoint was handed in
 pub spent-exactly : (i : Instance) (c : Checkpoint) (budget : ℕ) → answer-number (search-result i c budget .answer) ≡ 0

@@ -5,7 +5,7 @@ ghost use lib.ListN.{length};
 ghost use Rattle.writer.specs.Answers.{write-answer};
 use instance::Instance;
 use instance::ReadAnswer;
-use makespan::Finish;
+use makespan::finish::Finish;
 use packing::CheckAnswer;
 use packing::ClearanceAnswer;
 use search::answer::Answer;

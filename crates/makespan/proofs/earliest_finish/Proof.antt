@@ -6,7 +6,7 @@ use Rattle.instance.specs.Meaning.{problem-of}
 use Rattle.instance.specs.Reads.{Full}
 use Rattle.instance.specs.Valid.{valid}
 use Rattle.instance.specs.declared.Instance.{Instance}
-use Rattle.makespan.specs.declared.Finish.{Finish}
+use Rattle.makespan.specs.declared.finish.Finish.{Finish}
 use Rattle.makespan.specs.Results.{finish-of, finish-result}
 use Rattle.makespan.proofs.Lengths.{within-known}
 use Rattle.makespan.proofs.earliest_finish.Tie as tie

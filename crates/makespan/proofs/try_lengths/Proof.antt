@@ -13,7 +13,7 @@ use Rattle.search.specs.Results.{search-result}
 use Rattle.search.specs.declared.answer.Answer.{Answer}
 use Rattle.search.specs.declared.answer.Answer.the-variants.{Packed, Infeasible, BudgetSpent, Refused}
 use Rattle.search.specs.declared.answer.SearchResult.{SearchResult}
-use Rattle.makespan.specs.declared.Finish.{Finish}
+use Rattle.makespan.specs.declared.finish.Finish.{Finish}
 use Rattle.makespan.specs.Results.{finish-of, spent-finish, packed-finish, no-finish}
 use Rattle.makespan.proofs.Lengths.{with-shifts, steps-most, next-none, next-packed, next-spent, next-refused, steps-added, before-added, past-known}
 use Rattle.makespan.proofs.try_lengths.Tie as tie

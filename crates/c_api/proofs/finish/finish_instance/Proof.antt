@@ -6,7 +6,7 @@ use Rattle.buffers.proofs.Bytes.{fills}
 use Rattle.buffers.specs.Bytes.{word-bytes}
 use Rattle.makespan.proofs.Claim.{small}
 use Rattle.makespan.specs.Results.{finish-refused}
-use Rattle.makespan.specs.declared.Finish.{Finish}
+use Rattle.makespan.specs.declared.finish.Finish.{Finish}
 use Rattle.c_api.specs.Finishes.{finish-fits, instance-finished, FinishLengths}
 use Rattle.c_api.proofs.Finishes.{finish-fits-exactly, wrong-finish, as-finished}
 use Rattle.c_api.proofs.Outcomes.{not-refused}
