@@ -27,8 +27,9 @@ extern "C" {
 #define HALLPLAN_LENGTH_BYTES 2
 #define HALLPLAN_PIECE_BYTES 6
 
-/* No sheet has more pieces or bytes, and no plan more bytes. */
+/* No sheet has more pieces, a greater measure or more bytes, and no plan more bytes. */
 #define HALLPLAN_MAX_PIECES 10
+#define HALLPLAN_MAX_MEASURE 4095
 #define HALLPLAN_MAX_SHEET_BYTES 351
 #define HALLPLAN_MAX_PLAN_BYTES (HALLPLAN_MAX_PIECES * HALLPLAN_PIECE_BYTES)
 
@@ -44,8 +45,8 @@ extern "C" {
 #define HALLPLAN_PLACED 1
 #define HALLPLAN_NONE 2
 
-/* A refusal is returned as HALLPLAN_REFUSED plus its number in document 01's table, or document 02's 11. It writes nothing. The
- * sheet's own refusals, 1 to 7 and 11, come first; where a sheet has several faults, it is the first one's. */
+/* A refusal is returned as HALLPLAN_REFUSED plus its number in document 01's table, or document 02's 11 or 12. It writes nothing. The
+ * sheet's own refusals, 1 to 7, 11 and 12, come first; where a sheet has several faults, it is the first one's. */
 #define HALLPLAN_REFUSED 100
 #define HALLPLAN_SHEET_ENDS_EARLY 1     /* it ends before a byte that is due */
 #define HALLPLAN_SHEET_UNKNOWN_BIT 2    /* a map byte has a bit without a meaning */
@@ -57,6 +58,7 @@ extern "C" {
 #define HALLPLAN_BAD_LENGTH 8           /* plan_len is not 6 for each piece, note_len not 273, steps_len not 4, or length_len not 2 */
 #define HALLPLAN_BAD_NOTE 10            /* the note is not one that this sheet's search can have */
 #define HALLPLAN_SHEET_NO_LAG 11        /* a field of lags in which no lag is above 0 */
+#define HALLPLAN_SHEET_TOO_LARGE 12     /* a measure above HALLPLAN_MAX_MEASURE is written */
 
 /* How many pieces the sheet has, 0 to HALLPLAN_MAX_PIECES; or a refusal. */
 uint32_t hallplan_pieces(const uint8_t *sheet, size_t sheet_len);

@@ -1,6 +1,6 @@
-/* Check, pieces, search and finish as a C client calls them: every row of document 01's "Small halls" and sheets with lags, alone and as
- * lists of calls with refused calls among them; earliest finishes under each allowance; wrong lengths; damaged notes. The buffers are
- * compared whole, with a guard byte on each side. */
+/* Check, pieces, search and finish as a C client calls them: every row of document 01's "Small halls", sheets with lags and measures about
+ * 4,095, alone and as lists of calls with refused calls among them; earliest finishes under each allowance; wrong lengths; damaged notes.
+ * The buffers are compared whole, with a guard byte on each side. */
 #include "hallplan.h"
 
 #include <stdio.h>
@@ -9,7 +9,8 @@
 #define GUARD 0xA5
 #define MOST_PIECES 5
 #define MOST_STEPS 3
-#define MOST_LENGTHS 300
+#define MOST_LENGTHS 4095
+#define ALL_ALLOWANCES 300
 
 /* The buffers lent to be written. */
 struct lent {
@@ -36,6 +37,11 @@ struct row {
 #define LAGS_1_5_0(shifts) "\x5C" shifts "\x00\x03\x00\x00\x00\x03\x00\x01\x00\x02\x01\x02\x01\x05\x00"
 #define LAG_1(shifts) "\x5C" shifts "\x00\x03\x00\x00\x00\x01\x00\x01\x01"
 #define LONGEST_SHEET 351
+/* 4,095 is FF 0F, 4,096 is 00 10. */
+#define MOST "\xFF\x0F"
+#define MOST_3 MOST MOST MOST
+/* A hall of 1x1x4095 with pieces of 255 and 3840 + more shifts, order 0,1. */
+#define FILLED(more) "\x1C" MOST "\x02\x04\xFF\x00\x04" more "\x0F\x01\x00\x01"
 
 static const struct row rows[] = {
     {"byte 00 alone", BYTES("\x00"), 0, HALLPLAN_PLACED, 1, {"", ""}, {0}},
@@ -64,6 +70,22 @@ static const struct row rows[] = {
     {"an empty lag field and a byte", BYTES("\x40\x00"), 0, REFUSED(11)},
     {"a lag field of zeros", BYTES("\x58\x02\x00\x00\x01\x00\x01\x00"), 0, REFUSED(11)},
     {"a lag field of zeros and a byte", BYTES("\x58\x02\x00\x00\x01\x00\x01\x00\x01"), 0, REFUSED(11)},
+    /* a piece as large as the hall, and a hall of one module less; two that fill the shifts, and two that take one more */
+    {"4095x4095x4095; the same", BYTES("\x0F" MOST_3 "\x01\x07" MOST_3), 1, HALLPLAN_PLACED, 1, {"", ""}, {0, 0, 0}},
+    {"4094x4095x4095; 4095x4095x4095", BYTES("\x0F\xFE\x0F" MOST MOST "\x01\x07" MOST_3), 1, HALLPLAN_NONE, 1, {"", ""}, {0}},
+    {"1x1x4095; 1x1x255, 1x1x3840; order 0,1", BYTES(FILLED("\x00")), 2, HALLPLAN_PLACED, 1, {"", ""}, {0, 0, 0, 0, 0, 255}},
+    {"1x1x4095; 1x1x255, 1x1x3841; order 0,1", BYTES(FILLED("\x01")), 2, HALLPLAN_NONE, 1, {"", ""}, {0}},
+    {"a hall 4096 wide", BYTES("\x01\x00\x10"), 0, REFUSED(12)},
+    {"a hall 4096 deep", BYTES("\x02\x00\x10"), 0, REFUSED(12)},
+    {"4096 shifts", BYTES("\x04\x00\x10"), 0, REFUSED(12)},
+    {"a piece 4096 wide", BYTES("\x08\x01\x01\x00\x10"), 0, REFUSED(12)},
+    {"a piece 65535 deep", BYTES("\x08\x01\x02\xFF\xFF"), 0, REFUSED(12)},
+    {"a piece of 4096 shifts, the second", BYTES("\x08\x02\x04" MOST "\x04\x00\x10"), 0, REFUSED(12)},
+    {"4096 before a byte that is missing", BYTES("\x03\x00\x10"), 0, REFUSED(12)},
+    {"4096, cut", BYTES("\x03\x02\x00\x00"), 0, REFUSED(1)},
+    {"4096 after a written 1", BYTES("\x03\x01\x00\x00\x10"), 0, REFUSED(3)},
+    {"4096 before a written 1", BYTES("\x03\x00\x10\x01\x00"), 0, REFUSED(12)},
+    {"4096 before a bad count", BYTES("\x09\x00\x10\x00"), 0, REFUSED(12)},
 };
 
 static int failed;
@@ -226,18 +248,41 @@ static void checks_with_lags(void)
     }
 }
 
-/* The longest sheet: its pieces, and 1 wherever it is cut; a byte more; lags of 0, whole, cut, and with a byte after them. */
+/* A start is no measure: a piece of 4,095 shifts at 65,535 or 61,441 is outside, though its end is small in 16 bits. */
+static void checks_far(void)
+{
+    static const uint8_t sheet[] = "\x0F" MOST_3 "\x01\x04" MOST;
+    static const uint32_t starts[][2] = {{0, HALLPLAN_YES}, {1, HALLPLAN_NO}, {4095, HALLPLAN_NO}, {61441, HALLPLAN_NO}, {65535, HALLPLAN_NO}};
+    for (size_t k = 0; k < sizeof starts / sizeof starts[0]; k++) {
+        uint8_t plan[HALLPLAN_PIECE_BYTES] = {0xFE, 0x0F, 0xFE, 0x0F, (uint8_t)(starts[k][0] % 256), (uint8_t)(starts[k][0] / 256)};
+        EXPECT("far", hallplan_check(sheet, sizeof sheet - 1, plan, sizeof plan), starts[k][1]);
+    }
+}
+
+/* The measure at this place of the longest sheet made 4,096: 12 as soon as its two bytes are there. Then 4,095 again. */
+static void one_too_large(uint8_t *sheet, size_t place)
+{
+    memcpy(sheet + place, "\x00\x10", 2);
+    EXPECT("4096", hallplan_pieces(sheet, LONGEST_SHEET), HALLPLAN_REFUSED + 12);
+    EXPECT("4096, cut after it", hallplan_pieces(sheet, place + 2), HALLPLAN_REFUSED + 12);
+    EXPECT("4096, cut in it", hallplan_pieces(sheet, place + 1), HALLPLAN_REFUSED + 1);
+    memcpy(sheet + place, MOST, 2);
+    EXPECT("4095", hallplan_pieces(sheet, LONGEST_SHEET), 10);
+}
+
+/* The longest sheet: its pieces, and 1 wherever it is cut; a byte more; each measure above 4,095; lags of 0, whole, cut, and with a byte
+ * after them. */
 static void longest_sheet(void)
 {
     uint8_t sheet[LONGEST_SHEET + 1];
     size_t at = 0;
     sheet[at++] = 0x7F;
-    memset(sheet + at, 0xFF, 6);
+    memcpy(sheet + at, MOST_3, 6);
     at += 6;
     sheet[at++] = 10;
     for (int piece = 0; piece < 10; piece++) {
         sheet[at++] = 7;
-        memset(sheet + at, 0xFF, 6);
+        memcpy(sheet + at, MOST_3, 6);
         at += 6;
     }
     sheet[at++] = 90;
@@ -254,11 +299,17 @@ static void longest_sheet(void)
     memset(sheet + at, 0xFF, 90);
     sheet[at + 90] = 0;
     EXPECT("HALLPLAN_MAX_SHEET_BYTES", HALLPLAN_MAX_SHEET_BYTES, LONGEST_SHEET);
+    EXPECT("HALLPLAN_MAX_MEASURE", HALLPLAN_MAX_MEASURE, 4095);
     EXPECT("the longest sheet", (uint32_t)at + 90, LONGEST_SHEET);
     EXPECT("the longest sheet", hallplan_pieces(sheet, LONGEST_SHEET), 10);
     EXPECT("a byte more", hallplan_pieces(sheet, LONGEST_SHEET + 1), HALLPLAN_REFUSED + 7);
     for (size_t len = 0; len < LONGEST_SHEET; len++) {
         EXPECT("the longest sheet, cut", hallplan_pieces(sheet, len), HALLPLAN_REFUSED + 1);
+    }
+    for (size_t start = 1; start <= 72; start += start == 1 ? 8 : 7) {
+        for (size_t axis = 0; axis < 3; axis++) {
+            one_too_large(sheet, start + 2 * axis);
+        }
     }
     memset(sheet + at, 0, 90);
     for (size_t len = at; len <= LONGEST_SHEET + 1; len++) {
@@ -269,9 +320,10 @@ static void longest_sheet(void)
 }
 
 /* Pieces: the number of pieces in each row of the table, or the row's refusal; sheets for 5 and 6, which no row has; 10 pieces, the
- * most, and 11; 1 wherever the printed example and the sheets with lags are cut. */
+ * most, and 11; yard numbers above 4,095; 1 wherever the printed example and the sheets with lags are cut. */
 static void pieces(void)
 {
+    EXPECT("HALLPLAN_SHEET_TOO_LARGE", HALLPLAN_SHEET_TOO_LARGE, 12);
     static const struct {
         const char *name, *sheet;
         size_t len;
@@ -282,6 +334,8 @@ static void pieces(void)
         {"an order twice", BYTES("\x18\x02\x00\x00\x02\x00\x01\x00\x01"), HALLPLAN_REFUSED + 6},
         {"an order below the one before", BYTES("\x18\x02\x00\x00\x02\x01\x00\x00\x01"), HALLPLAN_REFUSED + 6},
         {"ten pieces", BYTES("\x08\x0A\x00\x00\x00\x00\x00\x00\x00\x00\x00\x00"), 10},
+        {"the yard number 4096", BYTES("\x20\x00\x10"), 0},
+        {"the yard number 65535", BYTES("\x28\x01\x01" MOST "\xFF\xFF"), 1},
         {"eleven pieces", BYTES("\x08\x0B\x00\x00\x00\x00\x00\x00\x00\x00\x00\x00\x00"), HALLPLAN_REFUSED + 4},
     };
     for (size_t r = 0; r < sizeof rows / sizeof rows[0]; r++) {
@@ -337,7 +391,7 @@ struct finish_row {
 static const struct finish_row finish_rows[] = {
     {"byte 00 alone", BYTES("\x00"), 0, 1, HALLPLAN_PLACED, {0}, {0}},
     {"no pieces, 9 shifts", BYTES("\x04\x09\x00"), 0, 1, HALLPLAN_PLACED, {0}, {0}},
-    {"no pieces, 65535 shifts", BYTES("\x04\xFF\xFF"), 0, 1, HALLPLAN_PLACED, {0}, {0}},
+    {"no pieces, 4095 shifts", BYTES("\x04" MOST), 0, 1, HALLPLAN_PLACED, {0}, {0}},
     {"1x1x1; 1x1x1", BYTES("\x08\x01\x00"), 1, 1, HALLPLAN_PLACED, {0}, {0}},
     {"3x3x9; 2x2x4", BYTES("\x0F\x03\x00\x03\x00\x09\x00\x01\x07\x02\x00\x02\x00\x04\x00"), 1, 4, HALLPLAN_PLACED, {0}, {0}},
     {"3x3x3; 2x2x4", BYTES("\x0F\x03\x00\x03\x00\x03\x00\x01\x07\x02\x00\x02\x00\x04\x00"), 1, 3, HALLPLAN_NONE, {0}, {0}},
@@ -361,6 +415,10 @@ static const struct finish_row finish_rows[] = {
     /* in 3 shifts 2 stands in the lag; the plan is not the one of 4, where it would stand last */
     {"1x1x4; lag 1", BYTES(LAG_1("\x04")), 3, 3, HALLPLAN_PLACED, {0}, {0, 0, 0, 0, 0, 2, 0, 0, 1}},
     {"1x1x2; lag 1", BYTES(LAG_1("\x02")), 3, 2, HALLPLAN_NONE, {0}, {0}},
+    {"1x1x4095; 1x1x4095", BYTES("\x0C" MOST "\x01\x04" MOST), 1, 4095, HALLPLAN_PLACED, {0}, {0}},
+    {"1x1x4095; 2x1x1", BYTES("\x0C" MOST "\x01\x01\x02\x00"), 1, 4095, HALLPLAN_NONE, {0}, {0}},
+    {"1x1x4095; 1x1x255, 1x1x3840; order 0,1", BYTES(FILLED("\x00")), 2, 4095, HALLPLAN_PLACED, {0}, {0, 0, 0, 0, 0, 255}},
+    {"1x1x4095; 1x1x255, 1x1x3841; order 0,1", BYTES(FILLED("\x01")), 2, 4095, HALLPLAN_NONE, {0}, {0}},
 };
 
 static struct finish_lent nothing_finished(void)
@@ -432,12 +490,14 @@ static void finish_lengths(const char *name, const char *sheet, size_t len, size
     }
 }
 
-/* Every allowance up to more than is needed, and the greatest; then refused calls, on the sheets that search refuses too. */
+/* Every allowance up to more than is needed, the last ones where they are many, and the greatest; then refused calls, on the sheets that
+ * search refuses too. */
 static void finishes(void)
 {
     for (size_t r = 0; r < sizeof finish_rows / sizeof finish_rows[0]; r++) {
         const struct finish_row *row = &finish_rows[r];
-        for (uint32_t allowance = 0; allowance < row->lengths + 10; allowance++) {
+        uint32_t first = row->lengths > ALL_ALLOWANCES ? (uint32_t)row->lengths - 10 : 0;
+        for (uint32_t allowance = first; allowance < row->lengths + 10; allowance++) {
             finish_under(row, allowance);
         }
         finish_under(row, 1000000);
@@ -458,6 +518,7 @@ int main(void)
     small_hall_in_parts();
     checks();
     checks_with_lags();
+    checks_far();
     pieces();
     longest_sheet();
     notes();

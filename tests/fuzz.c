@@ -13,9 +13,11 @@
 #define GUARD_BYTES 32
 #define GUARD 0xA5
 #define MOST_ALLOWANCE 200
-#define NUMBERS 12
+#define NUMBERS 13
 #define LONGEST_SHEET 351
 #define NO_LAG (HALLPLAN_REFUSED + 11)
+#define TOO_LARGE (HALLPLAN_REFUSED + 12)
+#define GREATEST_MEASURE 4095
 
 struct bytes {
     size_t len;
@@ -58,16 +60,32 @@ static void put(struct bytes *b, unsigned byte)
     b->at[b->len++] = (uint8_t)byte;
 }
 
-/* The fields whose bit stands: measures from 2 on, mostly below 2 + bound. */
-static void put_size(struct bytes *b, unsigned map, unsigned bound)
+/* A measure from 2 on, mostly below 2 + bound; now and then any, about the greatest, or above it. */
+static unsigned some_measure(unsigned bound)
 {
+    switch (below(160)) {
+    case 0:
+    case 1:
+    case 2: return 2 + below(GREATEST_MEASURE - 1);
+    case 3: return GREATEST_MEASURE - 1 + below(4);
+    case 4: return below(4) ? 2 + below(bound) : GREATEST_MEASURE + 1 + below(65535 - GREATEST_MEASURE);
+    default: return 2 + below(bound);
+    }
+}
+
+/* The fields whose bit stands: whether a measure is above the greatest. */
+static int put_size(struct bytes *b, unsigned map, unsigned bound)
+{
+    int above = 0;
     for (unsigned axis = 0; axis < 3; axis++) {
         if (map >> axis & 1) {
-            unsigned measure = 2 + below(below(40) ? bound : 65534);
+            unsigned measure = some_measure(bound);
+            above |= measure > GREATEST_MEASURE;
             put(b, measure % 256);
             put(b, measure / 256);
         }
     }
+    return above;
 }
 
 /* Orders of so many pieces, each with one chance in `one_in`: how many. */
@@ -96,8 +114,8 @@ static void put_lags(struct bytes *b, unsigned orders)
     }
 }
 
-/* A sheet that mostly reads, now and then one of the longest: the number of its pieces. */
-static unsigned make_sheet(struct bytes *sheet)
+/* A sheet that mostly reads, now and then one of the longest: the number of its pieces, and whether a measure is above the greatest. */
+static unsigned make_sheet(struct bytes *sheet, int *above)
 {
     static const unsigned maps[] = {0x0F, 0x1F, 0x2F, 0x3F, 0x5F, 0x7F};
     int full = below(64) == 0;
@@ -105,14 +123,14 @@ static unsigned make_sheet(struct bytes *sheet)
     unsigned bound = 1 + below(6), orders = 0;
     sheet->len = 0;
     put(sheet, map);
-    put_size(sheet, map, 3 * bound);
+    *above = put_size(sheet, map, 3 * bound);
     if (pieces) {
         put(sheet, pieces);
     }
     for (unsigned u = 0; u < pieces; u++) {
         unsigned bits = full ? 7 : below(8);
         put(sheet, bits);
-        put_size(sheet, bits, bound);
+        *above |= put_size(sheet, bits, bound);
     }
     if (map >> 4 & 1 && pieces > 0) {
         orders = put_orders(sheet, pieces, full ? 1 : 1 + below(3 * pieces));
@@ -214,6 +232,12 @@ static int same(const struct bytes *a, const struct bytes *b)
     return a->len == b->len && memcmp(a->at, b->at, a->len) == 0;
 }
 
+/* A refusal of the sheet that document 02 adds. */
+static int is_new(uint32_t answer)
+{
+    return answer == NO_LAG || answer == TOO_LARGE;
+}
+
 static uint32_t check_on(const struct bytes *sheet, const struct bytes *plan, size_t guards)
 {
     struct block s = lend(sheet, guards), p = lend(plan, guards);
@@ -227,7 +251,7 @@ static uint32_t check(const struct bytes *sheet, const struct bytes *plan)
 {
     uint32_t answer = check_on(sheet, plan, 0);
     must(answer == check_on(sheet, plan, GUARD_BYTES), "check answers twice");
-    must(answer <= HALLPLAN_YES || (answer > HALLPLAN_REFUSED && answer <= HALLPLAN_REFUSED + 8) || answer == NO_LAG, "an answer of check");
+    must(answer <= HALLPLAN_YES || (answer > HALLPLAN_REFUSED && answer <= HALLPLAN_REFUSED + 8) || is_new(answer), "an answer of check");
     checks[answer < 2 ? answer : 2 + answer - HALLPLAN_REFUSED]++;
     return answer;
 }
@@ -247,7 +271,7 @@ static void count_pieces(const struct bytes *sheet, const struct bytes *plan, ui
     uint32_t answer = pieces_on(sheet, 0);
     must(answer == pieces_on(sheet, GUARD_BYTES), "pieces answers twice");
     if (answer > HALLPLAN_REFUSED) {
-        must((answer <= HALLPLAN_REFUSED + 7 || answer == NO_LAG) && checked == answer, "a refusal of pieces");
+        must((answer <= HALLPLAN_REFUSED + 7 || is_new(answer)) && checked == answer, "a refusal of pieces");
     } else {
         must(answer <= 10, "an answer of pieces");
         must((checked == HALLPLAN_REFUSED + 8) == (plan->len != HALLPLAN_PIECE_BYTES * (size_t)answer), "the number of pieces");
@@ -300,7 +324,7 @@ static uint32_t search(const struct bytes *sheet, struct lent *lent, uint32_t al
     must(answer == search_on(sheet, &again, allowance, GUARD_BYTES), "search answers twice");
     must(same(&lent->note, &again.note) && same(&lent->steps, &again.steps) && same(&lent->plan, &again.plan), "search leaves twice");
     if (answer > HALLPLAN_REFUSED) {
-        int numbered = answer <= HALLPLAN_REFUSED + 8 || answer == HALLPLAN_REFUSED + 10 || answer == NO_LAG;
+        int numbered = answer <= HALLPLAN_REFUSED + 8 || answer == HALLPLAN_REFUSED + 10 || is_new(answer);
         must(numbered, "a refusal of search");
         must(same(&lent->note, &before.note) && same(&lent->steps, &before.steps) && same(&lent->plan, &before.plan), "a refusal wrote");
     } else {
@@ -385,7 +409,7 @@ static void finish(const struct bytes *sheet, struct finish_lent *lent, uint32_t
     must(answer == finish_on(sheet, &again, allowance, GUARD_BYTES), "finish answers twice");
     must(same(&lent->length, &again.length) && same(&lent->steps, &again.steps) && same(&lent->plan, &again.plan), "finish leaves twice");
     if (answer > HALLPLAN_REFUSED) {
-        must(answer <= HALLPLAN_REFUSED + 8 || answer == NO_LAG, "a refusal of finish");
+        must(answer <= HALLPLAN_REFUSED + 8 || is_new(answer), "a refusal of finish");
         must(same(&lent->length, &before.length) && same(&lent->steps, &before.steps) && same(&lent->plan, &before.plan), "a refusal of finish wrote");
     } else {
         finished(sheet, &before, lent, allowance, answer);
@@ -409,14 +433,20 @@ static void one_case(void)
 {
     static struct bytes sheet;
     static struct lent lent;
-    unsigned pieces = make_sheet(&sheet);
-    switch (below(4)) {
-    case 0: damage(&sheet); break;
-    case 1: if (below(4) == 0) make_random(&sheet, LONGEST_SHEET + 1); break;
+    int above, whole = 1;
+    unsigned pieces = make_sheet(&sheet, &above);
+    switch (below(16)) {
+    case 0:
+    case 1:
+    case 2:
+    case 3: damage(&sheet); whole = 0; break;
+    case 4: make_random(&sheet, LONGEST_SHEET + 1); whole = 0; break;
     default: break;
     }
     make_plan(&lent.plan, pieces);
-    count_pieces(&sheet, &lent.plan, check(&sheet, &lent.plan));
+    uint32_t checked = check(&sheet, &lent.plan);
+    must(!whole || (checked == TOO_LARGE) == above, "12 exactly where a measure is above 4,095");
+    count_pieces(&sheet, &lent.plan, checked);
     make_note(&lent.note);
     make_random(&lent.steps, 8);
     lent.steps.len = below(20) ? HALLPLAN_STEP_BYTES : lent.steps.len;

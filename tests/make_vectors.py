@@ -3,9 +3,11 @@ earliest finishes.
 
     python3 tests/make_vectors.py            writes both files
     python3 tests/make_vectors.py --check    says whether they are what it would write
+    python3 tests/make_vectors.py --before STDIN STDOUT    says which cases of an older pair of files are among those that it would write, in
+                                             their sequence and with their lines; each other one has to have a measure above 4,095
 
-The expected lines come from tests/reference.py. The cases under "by hand" were worked out from document 01 and requests #101 and #103:
-their lines stand here, and the reference has to agree with them.
+The expected lines come from tests/reference.py. The cases under "by hand" were worked out from document 01 and requests #101, #103 and
+#104: their lines stand here, and the reference has to agree with them.
 
 A case is an op byte, the payload's length in 2 bytes, and the payload; numbers have the low byte first.
 
@@ -229,7 +231,7 @@ def add_finish(value, allowance, expected=None):
 ALL_PAIRS = [(u, v) for u in range(10) for v in range(10) if u != v]
 EXAMPLE = bytes.fromhex("1D 02 00 02 00 02 01 02 00 00 01 01 00")
 LONGEST = bytes.fromhex(
-    "3F FFFF FFFF FFFF 0A" + " 07 FFFF FFFF FFFF" * 10 + " 5A"
+    "3F FF0F FF0F FF0F 0A" + " 07 FF0F FF0F FF0F" * 10 + " 5A"
     " 0001 0002 0003 0004 0005 0006 0007 0008 0009 0100 0102 0103 0104 0105 0106 0107 0108 0109"
     " 0200 0201 0203 0204 0205 0206 0207 0208 0209 0300 0301 0302 0304 0305 0306 0307 0308 0309"
     " 0400 0401 0402 0403 0405 0406 0407 0408 0409 0500 0501 0502 0503 0504 0506 0507 0508 0509"
@@ -237,7 +239,7 @@ LONGEST = bytes.fromhex(
     " 0800 0801 0802 0803 0804 0805 0806 0807 0809 0900 0901 0902 0903 0904 0905 0906 0907 0908"
     " FFFF"
 )
-FULL = instance([65535] * 3, [[65535] * 3] * 10, ALL_PAIRS, 65535)
+FULL = instance([4095] * 3, [[4095] * 3] * 10, ALL_PAIRS, 65535)
 
 READ_BY_HAND = [
     ("", "refused 1 0"),
@@ -260,12 +262,12 @@ READ_BY_HAND = [
     ("01 02 00", "read 2 1 1 items 0 precedences 0 yard 0 rest zero"),
     ("01 00 01", "read 256 1 1 items 0 precedences 0 yard 0 rest zero"),
     ("01 01 01", "read 257 1 1 items 0 precedences 0 yard 0 rest zero"),
-    ("01 FF FF", "read 65535 1 1 items 0 precedences 0 yard 0 rest zero"),
+    ("01 FF 0F", "read 4095 1 1 items 0 precedences 0 yard 0 rest zero"),
     ("02 00 00", "refused 3 1"),
     ("02 01 00", "refused 3 1"),
     ("02 03 00", "read 1 3 1 items 0 precedences 0 yard 0 rest zero"),
     ("04 01 00", "refused 3 1"),
-    ("04 34 12", "read 1 1 4660 items 0 precedences 0 yard 0 rest zero"),
+    ("04 34 02", "read 1 1 564 items 0 precedences 0 yard 0 rest zero"),
     ("03 02 00", "refused 1 3"),
     ("03 02 00 05", "refused 1 4"),
     ("03 02 00 01 00", "refused 3 3"),
@@ -306,7 +308,7 @@ READ_BY_HAND = [
     ("08 01 07 02 00 03 00 01 00", "refused 3 7"),
     ("08 02 01 02 00 04 01 00", "refused 3 6"),
     ("08 01 07 02 00 03 00 04 00", "read 1 1 1 items 1 2 3 4 precedences 0 yard 0 rest zero"),
-    ("08 01 05 02 01 FF FF", "read 1 1 1 items 1 258 1 65535 precedences 0 yard 0 rest zero"),
+    ("08 01 05 02 01 FF 0F", "read 1 1 1 items 1 258 1 4095 precedences 0 yard 0 rest zero"),
     # precedences
     ("10", "refused 1 1"),
     ("10 00", "refused 4 1"),
@@ -376,7 +378,7 @@ def hand_read():
         add_read(bytes.fromhex(sheet), line)
     assert len(LONGEST) == 261
     pairs = "".join(" %d %d" % pair for pair in ALL_PAIRS)
-    full = "read 65535 65535 65535 items 10" + " 65535" * 30 + " precedences 90" + pairs + " yard 65535 rest zero"
+    full = "read 4095 4095 4095 items 10" + " 4095" * 30 + " precedences 90" + pairs + " yard 65535 rest zero"
     add_read(LONGEST, full)
     add_read(LONGEST + b"\0", "refused 7 261")
     add_read(LONGEST[:-1], "refused 1 260")
@@ -410,8 +412,8 @@ def hand_write():
     add_write(empty, 5, "written 1 00" + filled(4, "ff"), fill=255)
     add_write(instance([2, 1, 1]), 3, "written 3 010200" + filled(0))
     add_write(instance([1, 258, 1]), 3, "written 3 020201" + filled(0))
-    add_write(instance([1, 1, 65535]), 3, "written 3 04ffff" + filled(0))
-    add_write(instance([1, 1, 65535]), 2, "refused 8 0 " + filled(2))
+    add_write(instance([1, 1, 4095]), 3, "written 3 04ff0f" + filled(0))
+    add_write(instance([1, 1, 4095]), 2, "refused 8 0 " + filled(2))
     add_write(instance([1, 1, 1], yard=1), 3, "written 3 200100" + filled(0))
     add_write(instance([1, 1, 1], yard=256), 4, "written 3 200001" + filled(1))
     add_write(instance([1, 1, 1], [[1, 1, 1]]), 3, "written 3 080100" + filled(0))
@@ -530,7 +532,7 @@ def hand_record():
     add_record(bytes.fromhex("0803 05 0200 0300 00 02 0400"), 2, "record 0 0 020400")
     add_record(bytes.fromhex("0803 05 0200 0300 00 02 0400"), 3, "record 5 0")
     for k in range(10):
-        add_record(LONGEST, k, "record 0 0 07ffffffffffff")
+        add_record(LONGEST, k, "record 0 0 07ff0fff0fff0f")
     for k in (10, 11, 256, 266, largest):
         add_record(LONGEST, k, "record 5 0")
     # the whole sheet is read first
@@ -607,8 +609,8 @@ def hand_check():
     ignored = instance([3, 1, 9], [[1, 1, 1]] * 2)
     ignored["precedences"] = [[0, 1, 0] for _ in range(90)]
     add_check(ignored, packing([0, 0, 0], [1, 0, 0]), "feasible")
-    # sums above 65,535
-    most = [65535] * 3
+    # sums above 4,095 and above 65,535
+    most = [4095] * 3
     add_check(instance(most, [most]), packing([0, 0, 0]), "feasible")
     for axis in range(3):
         start = [0, 0, 0]
@@ -618,11 +620,11 @@ def hand_check():
         add_check(instance(most, [most]), packing(start), "not feasible")
         small = [1, 1, 1]
         add_check(instance(most, [small]), packing(start), "not feasible")
-        start[axis] = 65534
+        start[axis] = 4094
         add_check(instance(most, [small]), packing(start), "feasible")
-    two([65535, 1, 65535], [1, 1, 65535], [1, 1, 1], [(0, 1)], ([0, 0, 1], [1, 0, 65535]), "not feasible")
-    two([65535, 1, 65535], [1, 1, 65534], [1, 1, 1], [(0, 1)], ([0, 0, 0], [1, 0, 65534]), "feasible")
-    two([65535, 1, 65535], [1, 1, 65534], [1, 1, 1], [(0, 1)], ([0, 0, 0], [1, 0, 65533]), "not feasible")
+    two([4095, 1, 4095], [1, 1, 4095], [1, 1, 1], [(0, 1)], ([0, 0, 1], [1, 0, 4095]), "not feasible")
+    two([4095, 1, 4095], [1, 1, 4094], [1, 1, 1], [(0, 1)], ([0, 0, 0], [1, 0, 4094]), "feasible")
+    two([4095, 1, 4095], [1, 1, 4094], [1, 1, 1], [(0, 1)], ([0, 0, 0], [1, 0, 4093]), "not feasible")
     # ten in a line, one of them off by one
     ten = instance([10, 1, 1], [[1, 1, 1]] * 10)
     add_check(ten, packing(*[[i, 0, 0] for i in range(10)]), "feasible")
@@ -659,23 +661,23 @@ def hand_clearance():
     two([7, 1, 1], [2, 1, 1], ([0, 0, 0], [3, 0, 0]), 0, "clearance -4")
     two([7, 1, 1], [7, 1, 1], ([2, 0, 0], [2, 0, 0]), 0, "clearance -7")
     # extremes, both ways
-    most = [65535] * 3
-    two(most, most, ([0, 0, 0], [0, 0, 0]), 0, "clearance -65535")
-    two(most, most, (most, most), 1, "clearance -65535")
-    two([1, 1, 1], [1, 1, 1], ([0, 0, 0], most), 2, "clearance 65534")
+    most, far = [4095] * 3, [65535] * 3
+    two(most, most, ([0, 0, 0], [0, 0, 0]), 0, "clearance -4095")
+    two(most, most, (far, far), 1, "clearance -4095")
+    two([1, 1, 1], [1, 1, 1], ([0, 0, 0], far), 2, "clearance 65534")
     two(most, [1, 1, 1], ([0, 0, 0], most), 0, "clearance 0")
-    two([1, 1, 1], most, ([0, 0, 0], most), 1, "clearance 65534")
-    two(most, [1, 1, 1], (most, [0, 0, 0]), 2, "clearance 65534")
+    two([1, 1, 1], most, ([0, 0, 0], far), 1, "clearance 65534")
+    two(most, [1, 1, 1], (far, [0, 0, 0]), 2, "clearance 65534")
     two(most, most, ([0, 0, 0], most), 0, "clearance 0")
-    two(most, most, ([0, 0, 0], [65534] * 3), 0, "clearance -1")
-    two(most, [1, 1, 1], (most, most), 0, "clearance -1")
+    two(most, most, ([0, 0, 0], [4094] * 3), 0, "clearance -1")
+    two(most, [1, 1, 1], (far, far), 0, "clearance -1")
     # an item with itself
     three = instance([1, 1, 1], [[2, 3, 4], [1, 1, 1], most], [(0, 1), (1, 0)], 7)
-    starts = packing([5, 6, 7], [0, 0, 0], most, most)
+    starts = packing([5, 6, 7], [0, 0, 0], far, far)
     for axis, line in enumerate(("-2", "-3", "-4")):
         add_clearance(three, starts, 0, 0, axis, "clearance " + line)
         add_clearance(three, starts, 1, 1, axis, "clearance -1")
-        add_clearance(three, starts, 2, 2, axis, "clearance -65535")
+        add_clearance(three, starts, 2, 2, axis, "clearance -4095")
     # an item that is not there, then an axis that is not there
     largest = 2 ** 64 - 1
     for u, v in ((3, 0), (0, 3), (3, 3), (9, 0), (0, 10), (256, 0), (0, 65536), (2 ** 32, 0), (largest, 0), (0, largest)):
@@ -685,14 +687,14 @@ def hand_clearance():
         add_clearance(three, starts, 0, 1, axis, "refused 8 0")
         add_clearance(three, starts, 2, 2, axis, "refused 8 0")
     add_clearance(instance([1, 1, 1]), starts, 0, 0, 0, "refused 5 0")
-    add_clearance(FULL, packing(), 9, 8, 2, "clearance -65535")
+    add_clearance(FULL, packing(), 9, 8, 2, "clearance -4095")
     add_clearance(FULL, packing(), 10, 8, 2, "refused 5 0")
 
 
 # By hand: lags (request #101)
 
 LONGEST_WITH_LAGS = b"\x7f" + LONGEST[1:] + bytes(range(1, 91))
-FULL_WITH_LAGS = instance([65535] * 3, [[65535] * 3] * 10, [pair + (lag,) for lag, pair in enumerate(ALL_PAIRS, 1)], 65535)
+FULL_WITH_LAGS = instance([4095] * 3, [[4095] * 3] * 10, [pair + (lag,) for lag, pair in enumerate(ALL_PAIRS, 1)], 65535)
 
 LAGS_BY_HAND = [
     # an empty field: 11 where it would start, before the bytes that follow
@@ -765,7 +767,7 @@ def hand_lags_read():
     sheet = LONGEST_WITH_LAGS
     assert len(sheet) == 351
     pairs = "".join(" %d %d lag %d" % (u, v, lag) for lag, (u, v) in enumerate(ALL_PAIRS, 1))
-    add_read(sheet, "read 65535 65535 65535 items 10" + " 65535" * 30 + " precedences 90" + pairs + " yard 65535 rest zero")
+    add_read(sheet, "read 4095 4095 4095 items 10" + " 4095" * 30 + " precedences 90" + pairs + " yard 65535 rest zero")
     add_rewrite(sheet, "rewritten 351 " + sheet.hex())
     add_read(sheet + b"\0", "refused 7 351")
     add_read(sheet + bytes(1000), "refused 7 351")
@@ -776,12 +778,12 @@ def hand_lags_read():
     add_read(sheet[:261] + bytes(91), "refused 11 261")
     add_read(sheet[:261] + bytes(90) + b"\1", "refused 11 261")
     pairs = "".join(" %d %d" % pair for pair in ALL_PAIRS)
-    full = "read 65535 65535 65535 items 10" + " 65535" * 30 + " precedences 90" + pairs
+    full = "read 4095 4095 4095 items 10" + " 4095" * 30 + " precedences 90" + pairs
     add_read(sheet[:261] + bytes(89) + b"\1", full + " lag 1 yard 65535 rest zero")
     add_read(sheet[:259] + b"\0\0" + sheet[261:], "refused 3 259")
     add_read(LONGEST + sheet[261:], "refused 7 261")
     for k in (0, 9):
-        add_record(sheet, k, "record 0 0 07ffffffffffff")
+        add_record(sheet, k, "record 0 0 07ff0fff0fff0f")
     add_record(sheet, 10, "record 5 0")
     add_record(sheet[:261] + bytes(90), 0, "record 11 261")
     add_record(sheet[:350], 0, "record 1 350")
@@ -854,10 +856,10 @@ def hand_lags_check():
     two(300, 255, (0, 257), "feasible")
     two(260, 255, (0, 257), "feasible")
     two(259, 255, (0, 257), "not feasible")
-    two(65535, 255, (65275, 65532), "feasible")
-    two(65535, 255, (65276, 65532), "not feasible")
-    two(65535, 255, (65533, 65532), "not feasible")
-    two(65535, 255, (65533, 65535), "not feasible")
+    two(4095, 255, (3835, 4092), "feasible")
+    two(4095, 255, (3836, 4092), "not feasible")
+    two(4095, 255, (4093, 4092), "not feasible")
+    two(4095, 255, (4093, 4095), "not feasible")
     # on x and y nothing changes: touching is allowed
     beside = instance([4, 1, 9], [[2, 1, 2], [2, 1, 2]], [(0, 1, 3)])
     add_check(beside, packing([0, 0, 0], [2, 0, 5]), "feasible")
@@ -925,8 +927,8 @@ def hand_lags_run():
     row([1, 1, 129], units[:2], [(0, 1, 128)], "none 1")
     row([1, 1, 257], units[:2], [(0, 1, 255)], "placed 1", [0, 0, 0], [0, 0, 256])
     row([1, 1, 256], units[:2], [(0, 1, 255)], "none 1")
-    row([1, 1, 65535], [[1, 1, 65024], [1, 1, 256]], [(0, 1, 255)], "placed 1", [0, 0, 0], [0, 0, 65279])
-    row([1, 1, 65535], [[1, 1, 65025], [1, 1, 256]], [(0, 1, 255)], "none 1")
+    row([1, 1, 4095], [[1, 1, 3584], [1, 1, 256]], [(0, 1, 255)], "placed 1", [0, 0, 0], [0, 0, 3839])
+    row([1, 1, 4095], [[1, 1, 3585], [1, 1, 256]], [(0, 1, 255)], "none 1")
     row([3, 1, 99], units, [(0, 1, 1), (1, 2, 0), (2, 0, 0)], "none 1")
 
 
@@ -950,11 +952,11 @@ def hand_finish():
             add_finish(value, allowance, line)
 
     # no pieces: 1 once a step is allowed, however many shifts there are
-    for shifts in (1, 2, 65535):
+    for shifts in (1, 2, 4095):
         spent(instance([1, 1, shifts]), [(0, 0)])
         decided(instance([1, 1, shifts]), 1, 1, 1)
     # one piece: each length below its own takes the step that says none
-    for shifts in (1, 2, 9, 65535):
+    for shifts in (1, 2, 9, 4095):
         spent(instance([1, 1, shifts], units[:1]), [(0, 0)])
         decided(instance([1, 1, shifts], units[:1]), 1, 1, 1, [0, 0, 0])
     spent(instance([3, 3, 9], [[2, 2, 4]]), [(0, 0), (1, 1), (2, 2), (3, 3)])
@@ -968,8 +970,8 @@ def hand_finish():
         spent(instance([1, 1, 3], [piece]), [(0, 0), (1, 1), (2, 2)])
         decided(instance([1, 1, 3], [piece]), 2, 0, 3)
     # all lengths there are: the last step of the last one says none
-    spent(instance([1, 1, 65535], [[2, 1, 1]]), [(4, 4)])
-    add_finish(instance([1, 1, 65535], [[2, 1, 1]]), 65535, "finish 2 0 65535" + " 0" * 30)
+    spent(instance([1, 1, 4095], [[2, 1, 1]]), [(4, 4)])
+    add_finish(instance([1, 1, 4095], [[2, 1, 1]]), 4095, "finish 2 0 4095" + " 0" * 30)
     # the printed example, with its shifts and more: none 1 and placed 1
     for shifts in (2, 3, 9):
         spent(instance([2, 1, shifts], example, [(1, 0)]), [(0, 0), (1, 1)])
@@ -1021,6 +1023,281 @@ def hand_finish():
         add_finish(value, [0, 1, 2, 1000, GREATEST][number % 5], "refused 9 0")
 
 
+# By hand: the greatest measure (request #104)
+
+NO_ITEMS = " items 0 precedences 0 yard 0 rest zero"
+ONE_ITEM = "read 1 1 1 items 1"
+NO_ORDERS = " precedences 0 yard 0 rest zero"
+
+LIMIT_BY_HAND = [
+    # the low byte comes first
+    ("01 00 0F", "read 3840 1 1" + NO_ITEMS),
+    ("01 10 00", "read 16 1 1" + NO_ITEMS),
+    ("01 10 0F", "read 3856 1 1" + NO_ITEMS),
+    ("01 0F 10", "refused 12 1"),
+    ("01 0F FF", "refused 12 1"),
+    ("01 01 10", "refused 12 1"),
+    ("01 FF 10", "refused 12 1"),
+    ("01 00 80", "refused 12 1"),
+    # a byte is missing: 1, whatever the other one is
+    ("01 FF", "refused 1 2"),
+    ("01 10", "refused 1 2"),
+    ("04 FF", "refused 1 2"),
+    ("07 02 00 FF 0F 10", "refused 1 6"),
+    ("08 01 01 FF", "refused 1 4"),
+    ("08 01 07 FF 0F FF 0F 10", "refused 1 8"),
+    # ... and a field that is whole, before a byte that is missing
+    ("03 00 10", "refused 12 1"),
+    ("03 00 10 FF", "refused 12 1"),
+    ("07 FF 0F 00 10 02", "refused 12 3"),
+    ("0F 02 00 02 00 00 10", "refused 12 5"),
+    ("08 02 01 00 10", "refused 12 3"),
+    ("03 FF 0F 00", "refused 1 4"),
+    # 3 in an earlier field, and in a later one
+    ("03 00 00 00 10", "refused 3 1"),
+    ("03 01 00 FF FF", "refused 3 1"),
+    ("03 00 10 01 00", "refused 12 1"),
+    ("05 FF FF 00 00", "refused 12 1"),
+    ("07 FF 0F 01 00 00 10", "refused 3 3"),
+    ("07 FF 0F 00 10 01 00", "refused 12 3"),
+    ("08 01 03 01 00 00 10", "refused 3 3"),
+    ("08 01 03 00 10 00 00", "refused 12 3"),
+    ("09 00 10 01 01 01 00", "refused 12 1"),
+    ("09 01 00 01 01 00 10", "refused 3 1"),
+    ("08 02 01 01 00 01 00 10", "refused 3 3"),
+    ("08 02 01 00 10 01 01 00", "refused 12 3"),
+    # 2
+    ("81 00 10", "refused 2 0"),
+    ("09 00 10 01 08", "refused 12 1"),
+    ("09 FF 0F 01 08", "refused 2 4"),
+    ("08 01 09 00 10", "refused 2 2"),
+    ("08 02 01 00 10 08", "refused 12 3"),
+    ("08 02 01 FF 0F 08", "refused 2 5"),
+    # 4
+    ("09 00 10 00", "refused 12 1"),
+    ("09 00 10 0B", "refused 12 1"),
+    ("09 FF 0F 00", "refused 4 3"),
+    ("0C FF FF FF", "refused 12 1"),
+    ("18 01 01 00 10 00", "refused 12 3"),
+    ("18 01 01 FF 0F 00", "refused 4 5"),
+    # 5 and 6
+    ("18 02 00 02 00 10 01 01 01", "refused 12 4"),
+    ("18 02 00 02 FF 0F 01 01 01", "refused 5 7"),
+    ("18 02 00 04 00 10 02 00 01 00 01", "refused 12 4"),
+    ("18 02 00 04 FF 0F 02 00 01 00 01", "refused 6 9"),
+    # 7 and 11
+    ("01 00 10 00", "refused 12 1"),
+    ("01 FF 0F 00", "refused 7 3"),
+    ("08 01 01 00 10 07", "refused 12 3"),
+    ("41 00 10", "refused 12 1"),
+    ("41 FF 0F", "refused 11 3"),
+    ("48 01 04 00 10", "refused 12 3"),
+    # two such fields: the first
+    ("03 00 10 FF FF", "refused 12 1"),
+    ("09 00 10 01 01 00 10", "refused 12 1"),
+    ("09 FF 0F 01 01 00 10", "refused 12 5"),
+    ("08 02 01 00 10 01 00 10", "refused 12 3"),
+    ("08 02 01 FF 0F 01 00 10", "refused 12 6"),
+    ("08 03 00 00 07 FF 0F FF 0F 00 10", "refused 12 9"),
+    # a yard number is no measure, nor is a lag
+    ("20 FF 0F", "read 1 1 1 items 0 precedences 0 yard 4095 rest zero"),
+    ("20 00 10", "read 1 1 1 items 0 precedences 0 yard 4096 rest zero"),
+    ("20 88 13", "read 1 1 1 items 0 precedences 0 yard 5000 rest zero"),
+    ("21 FF 0F FF FF", "read 4095 1 1 items 0 precedences 0 yard 65535 rest zero"),
+    ("21 FF 0F 00 00", "refused 3 3"),
+    ("21 00 10 00 00", "refused 12 1"),
+    ("28 01 04 FF 0F 00 10", "read 1 1 1 items 1 1 1 4095 precedences 0 yard 4096 rest zero"),
+    ("58 02 04 FF 0F 00 01 00 01 FF", "read 1 1 1 items 2 1 1 4095 1 1 1 precedences 1 0 1 lag 255 yard 0 rest zero"),
+]
+
+
+def at_each_place(measure):
+    """Sheets with that measure at each of the six places, alone and with the other two written; the place, and the line where it is read."""
+    field, two = little(measure, 2), b"\2\0"
+    for axis in range(3):
+        alone, others = [1, 1, 1], [2, 2, 2]
+        alone[axis] = others[axis] = measure
+        fields = b"".join(field if other == axis else two for other in range(3))
+        alone, others = " %d %d %d" % tuple(alone), " %d %d %d" % tuple(others)
+        yield bytes([2 ** axis]) + field, 1, "read" + alone + NO_ITEMS
+        yield b"\x07" + fields, 1 + 2 * axis, "read" + others + NO_ITEMS
+        yield bytes([8, 1, 2 ** axis]) + field, 3, ONE_ITEM + alone + NO_ORDERS
+        yield b"\x08\x01\x07" + fields, 3 + 2 * axis, ONE_ITEM + others + NO_ORDERS
+
+
+def hand_limit_read():
+    for sheet, line in LIMIT_BY_HAND:
+        add_read(bytes.fromhex(sheet), line)
+    for measure in (4094, 4095):
+        for sheet, _, line in at_each_place(measure):
+            add_read(sheet, line)
+            add_rewrite(sheet, "rewritten %d %s" % (len(sheet), sheet.hex()))
+    for measure in (4096, 4097, 8191, 32768, 65535):
+        for sheet, place, _ in at_each_place(measure):
+            add_read(sheet, "refused 12 %d" % place)
+            add_rewrite(sheet, "refused 12 %d" % place)
+    # one field of the longest sheet: those of the hall from 1, those of item k from 9 + 7 k
+    for start in [1] + [9 + 7 * k for k in range(10)]:
+        for place in (start, start + 2, start + 4):
+            add_read(LONGEST[:place] + b"\x00\x10" + LONGEST[place + 2 :], "refused 12 %d" % place)
+    add_read(LONGEST_WITH_LAGS[:76] + b"\xff\xff" + LONGEST_WITH_LAGS[78:], "refused 12 76")
+    add_read(b"\x07" + b"\xff" * 9999, "refused 12 1")
+    # records: the whole sheet is read first
+    largest = 2 ** 64 - 1
+    add_record(bytes.fromhex("0801 07 FF0F FF0F FF0F"), 0, "record 0 0 07ff0fff0fff0f")
+    for k in (0, 1, 2, largest):
+        add_record(bytes.fromhex("0802 01 FF0F 04 0010"), k, "record 12 6")
+        add_record(bytes.fromhex("0902 00 02 00 01 0010"), k, "record 12 6")
+        add_record(bytes.fromhex("09 0010 01 00"), k, "record 12 1")
+    add_record(bytes.fromhex("2801 04 FF0F 0010"), 0, "record 0 0 04ff0f")
+    # the program
+    for sheet, line in (("01 00 10", "refused 12 1\n"), ("08 01 02 FF FF", "refused 12 3\n"), ("27 FF 0F FF 0F FF 0F FF FF", "placed 1\n")):
+        add_run(bytes.fromhex(sheet), line)
+
+
+def limit_values():
+    """Values that number 9 names for a measure above 4,095, one fault each."""
+    values = []
+    for axis in range(3):
+        for measure, items in ((4096, (0, 9)), ([65535, 32768, 4097][axis], (4,))):
+            full = [4095] * 3
+            full[axis] = measure
+            values.append(changed(FULL, "container", None, full))
+            for item in items:
+                values.append(changed(FULL, "items", item, full))
+        small = [2, 3, 4]
+        small[axis] = 4096
+        values.append(instance(small))
+        values.append(instance([4095] * 3, [small]))
+    return values
+
+
+def hand_limit_values():
+    # 9 comes before 5 and 8, whatever the allowance
+    for number, value in enumerate(limit_values()):
+        room, u, axis = (262, 0, 0) if number % 2 == 0 else (0, 65535, 3)
+        add_valid(value, "not valid")
+        add_write(value, room, "refused 9 0 " + filled(room))
+        add_check(value, packing(), "refused 9 0")
+        add_clearance(value, packing(), u, 0, axis, "refused 9 0")
+        add_finish(value, [0, 1, 1000, GREATEST][number % 4], "refused 9 0")
+    # past the count it is no part of the value; one more item, and it is
+    past = instance([4095] * 3, [[4095, 1, 1], [1, 4095, 1], [1, 1, 4095]], [(0, 1)], 65535)
+    past["items"][3:] = [[4096, 65535, 32768] for _ in range(7)]
+    sheet = "3fff0fff0fff0f0301ff0f02ff0f04ff0f010001ffff"
+    starts = packing([0, 1, 0], [0, 0, 1], [1, 0, 0], *[[65535] * 3] * 7)
+    add_valid(past, "valid")
+    add_write(past, 22, "written 22 " + sheet + filled(0))
+    add_write(past, 21, "refused 8 0 " + filled(21))
+    add_check(past, starts, "feasible")
+    add_clearance(past, starts, 0, 1, 2, "clearance 0")
+    add_clearance(past, starts, 0, 3, 2, "refused 5 0")
+    add_clearance(past, starts, 1, 2, 3, "refused 8 0")
+    add_finish(past, 0, "finish 0 0 0" + " 0" * 30)
+    one_more = changed(past, "item_count", None, 4)
+    add_valid(one_more, "not valid")
+    add_write(one_more, 300, "refused 9 0 " + filled(300))
+    add_check(one_more, starts, "refused 9 0")
+    add_clearance(one_more, starts, 0, 1, 2, "refused 9 0")
+    add_finish(one_more, GREATEST, "refused 9 0")
+    none = changed(instance([4095] * 3), "items", None, [[65535] * 3 for _ in range(10)])
+    add_valid(none, "valid")
+    add_write(none, 7, "written 7 07ff0fff0fff0f" + filled(0))
+    add_check(none, packing([65535] * 3), "feasible")
+    add_finish(none, 1, "finish 1 1 1" + " 0" * 30)
+    # a yard number and lags are no measures
+    other = instance([4095] * 3, [[4095] * 3] * 2, [(0, 1, 255)], 4096)
+    add_valid(other, "valid")
+    add_write(other, 28, "written 28 7fff0fff0fff0f0207ff0fff0fff0f07ff0fff0fff0f0100010010ff" + filled(0))
+
+
+def hand_limit_check():
+    # starts go up to 65,535: ends above 65,535, and one that is 4,094 or 0 in 16 bits
+    most, far = [4095] * 3, [65535] * 3
+    add_check(instance(most), packing(far), "feasible")
+    for axis in range(3):
+        for start in (1, 4095, 61440, 61441, 65534, 65535):
+            position = [0, 0, 0]
+            position[axis] = start
+            add_check(instance(most, [most]), packing(position), "not feasible")
+    thin = instance(most, [[1, 1, 4095], [1, 1, 1]], [(0, 1)])
+    add_check(thin, packing([0, 0, 61441], [1, 0, 65535]), "not feasible")
+    add_check(thin, packing([0, 0, 61441], [1, 0, 0]), "not feasible")
+    lag = instance(most, [[1, 1, 2], [1, 1, 3]], [(0, 1, 255)])
+    add_check(lag, packing([0, 0, 65533], [1, 0, 0]), "not feasible")
+    add_check(lag, packing([0, 0, 65279], [1, 0, 0]), "not feasible")
+    two = instance([9, 9, 9], [most, most])
+    for first, second, line in (
+        ([0, 0, 0], far, "61440"),
+        (far, [0, 0, 0], "61440"),
+        ([0, 0, 0], [4096] * 3, "1"),
+        ([61441] * 3, far, "-1"),
+        ([61440] * 3, far, "0"),
+        ([61439] * 3, far, "1"),
+    ):
+        for axis in range(3):
+            add_clearance(two, packing(first, second), 0, 1, axis, "clearance " + line)
+
+
+def hand_limit_run():
+    def row(container, items, precedences, first, *starts):
+        text = first + "\n" + "".join("%d %d %d %d\n" % (piece, *start) for piece, start in enumerate(starts))
+        add_run(reference.encode(instance(container, items, precedences)), text)
+
+    chain = [(piece, piece + 1) for piece in range(9)]
+    with_most = [pair + (255,) for pair in chain]
+    most = [[4095] * 3]
+    # as large as the hall, and one more
+    row([4095] * 3, most, [], "placed 1", [0, 0, 0])
+    for axis in range(3):
+        container = [4095] * 3
+        container[axis] = 4094
+        row(container, most, [], "none 1")
+    # ten of them, 40,950 in all: without orders, one after another, and with 9 lags of 255 between
+    row([4095] * 3, most * 10, [], "none 1")
+    row([4095] * 3, most * 10, chain, "none 1")
+    row([4095] * 3, most * 10, with_most, "none 1")
+    # chains of 4,095 and of one more; on x nothing is known of two pieces, and the first turn puts 0 first
+    row([1, 1, 4095], [[1, 1, 2047], [1, 1, 2048]], [(0, 1)], "placed 1", [0, 0, 0], [0, 0, 2047])
+    row([1, 1, 4095], [[1, 1, 2048], [1, 1, 2048]], [(0, 1)], "none 1")
+    row([4095, 1, 1], [[2047, 1, 1], [2048, 1, 1]], [], "placed 2", [0, 0, 0], [2047, 0, 0])
+    row([1, 4095, 1], [[1, 2047, 1], [1, 2048, 1]], [], "placed 2", [0, 0, 0], [0, 2047, 0])
+    row([4095, 1, 1], [[2048, 1, 1], [2048, 1, 1]], [], "none 1")
+    # ten of 180 and 9 lags of 255: 1,800 + 2,295 = 4,095
+    tens = [[1, 1, 180]] * 10
+    row([1, 1, 4095], tens, with_most, "placed 1", *[[0, 0, 435 * piece] for piece in range(10)])
+    row([1, 1, 4095], tens[:9] + [[1, 1, 181]], with_most, "none 1")
+    row([1, 1, 4094], tens, with_most, "none 1")
+
+
+def hand_limit_finish():
+    def row(value, answer, length, steps, *starts):
+        """The answer, with exactly the steps that it takes."""
+        line = "finish %d %d %d" % (answer, length, steps)
+        add_finish(value, steps, line + "".join(" %d %d %d" % tuple(start) for start in packing(*starts)))
+
+    def spent(value, allowance, length):
+        add_finish(value, allowance, "finish 0 %d %d" % (length, allowance) + " 0" * 30)
+
+    # each length below takes the step that says none
+    longest = instance([1, 1, 4095], [[1, 1, 4095]])
+    row(longest, 1, 4095, 4095)
+    spent(longest, 4094, 4094)
+    row(instance([1, 1, 4094], [[1, 1, 4095]]), 2, 0, 4094)
+    row(instance([4095, 4095, 4095], [[1, 1, 4000]]), 1, 4000, 4000)
+    # a chain, and a chain with a lag: 2,047 + 2,048 and 1,920 + 255 + 1,920; one more, and no length is enough
+    row(instance([1, 1, 4095], [[1, 1, 2047], [1, 1, 2048]], [(0, 1)]), 1, 4095, 4095, [0, 0, 0], [0, 0, 2047])
+    row(instance([1, 1, 4095], [[1, 1, 2048], [1, 1, 2048]], [(0, 1)]), 2, 0, 4095)
+    lag = instance([1, 1, 4095], [[1, 1, 1920], [1, 1, 1920]], [(0, 1, 255)])
+    row(lag, 1, 4095, 4095, [0, 0, 0], [0, 0, 2175])
+    spent(lag, 4094, 4094)
+    row(instance([1, 1, 4095], [[1, 1, 1921], [1, 1, 1920]], [(0, 1, 255)]), 2, 0, 4095)
+    # three of 1,365 without orders: below 2,730 two have no room, a step; below 4,095 three have none, 3 steps; then 4
+    thirds = instance([1, 1, 4095], [[1, 1, 1365]] * 3)
+    row(thirds, 1, 4095, 2729 + 3 * 1365 + 4, [0, 0, 0], [0, 0, 1365], [0, 0, 2730])
+    spent(thirds, 2729 + 3 * 1365 + 3, 4094)
+
+
 # Made: from a fixed seed
 
 
@@ -1041,8 +1318,33 @@ class Numbers:
         return entries[self.below(len(entries))]
 
 
-def some_measure(numbers):
+def some_number(numbers):
+    """A measure as it was before request #104, or a start: 1 to 65,535."""
     return numbers.one_of([1, 1, 2, 3, 255, 256, 257, 65535, numbers.between(1, 65535), numbers.between(1, 300)])
+
+
+def counted_sizes(value):
+    """The container's measures and those of the items up to the count."""
+    return [value["container"]] + value["items"][: min(value["item_count"], 10)]
+
+
+def lowered_value(value):
+    """The value with its measures above 4,095 divided by 16, which leaves 256 to 4,095; with none above, the value as it is."""
+    value = copied(value)
+    for size in counted_sizes(value):
+        size[:] = [measure // 16 if measure > reference.MAX_MEASURE else measure for measure in size]
+    return value
+
+
+def lowered(sheet):
+    """The sheet with the same done to the measures that reading meets; all other bytes as they are, and with them the other faults."""
+    answer = reference.read(sheet)
+    while is_refused(answer) and answer[0] == 12:
+        place = answer[1]
+        measure = int.from_bytes(sheet[place : place + 2], "little")
+        sheet = sheet[:place] + little(measure // 16, 2) + sheet[place + 2 :]
+        answer = reference.read(sheet)
+    return sheet
 
 
 def some_precedences(numbers, n):
@@ -1054,8 +1356,8 @@ def some_precedences(numbers, n):
 def some_instance(numbers):
     n = numbers.below(11)
     return instance(
-        [some_measure(numbers) for _ in range(3)],
-        [[some_measure(numbers) for _ in range(3)] for _ in range(n)],
+        [some_number(numbers) for _ in range(3)],
+        [[some_number(numbers) for _ in range(3)] for _ in range(n)],
         some_precedences(numbers, n),
         numbers.one_of([0, 0, 1, 255, 256, 65535, numbers.below(65536)]),
     )
@@ -1087,26 +1389,26 @@ def made_reads(numbers):
             add_read(sheet[:length])
     for _ in range(80):
         sheet = some_sheet(numbers)
-        add_read(sheet)
-        add_rewrite(sheet)
+        add_read(lowered(sheet))
+        add_rewrite(lowered(sheet))
         for _ in range(3):
-            add_read(damaged(numbers, sheet))
+            add_read(lowered(damaged(numbers, sheet)))
     for _ in range(60):
-        add_read(bytes(numbers.one_of([0, 1, 2, 3, 8, 16, 24, 32, 63, 255]) for _ in range(numbers.below(12))))
+        add_read(lowered(bytes(numbers.one_of([0, 1, 2, 3, 8, 16, 24, 32, 63, 255]) for _ in range(numbers.below(12)))))
     add_rewrite(LONGEST)
     add_rewrite(EXAMPLE)
     add_rewrite(b"\0")
     add_rewrite(b"")
     for _ in range(20):
-        add_rewrite(damaged(numbers, some_sheet(numbers)))
+        add_rewrite(lowered(damaged(numbers, some_sheet(numbers))))
 
 
 def made_records(numbers):
     for _ in range(60):
         sheet = some_sheet(numbers)
-        add_record(sheet, numbers.below(4))
-        add_record(sheet, numbers.below(12))
-        add_record(damaged(numbers, sheet), numbers.below(10))
+        add_record(lowered(sheet), numbers.below(4))
+        add_record(lowered(sheet), numbers.below(12))
+        add_record(lowered(damaged(numbers, sheet)), numbers.below(10))
 
 
 def made_writes(numbers):
@@ -1118,8 +1420,8 @@ def made_writes(numbers):
         for i in range(value["precedence_count"], 90):
             value["precedences"][i] = [numbers.below(256), numbers.below(12), 0]
         room = numbers.one_of([length - 1, length, length, length + 1, length + 2, numbers.below(300)])
-        add_write(value, room, fill=numbers.below(256))
-        add_valid(value, "valid")
+        add_write(lowered_value(value), room, fill=numbers.below(256))
+        add_valid(lowered_value(value), "valid")
         fault = copied(value)
         way = numbers.below(4)
         if way == 0:
@@ -1130,8 +1432,8 @@ def made_writes(numbers):
             fault["precedences"][numbers.below(90)][numbers.below(2)] = numbers.below(11)
         else:
             fault["item_count"] = numbers.below(13)
-        add_valid(fault)
-        add_write(fault, 265, fill=numbers.below(256))
+        add_valid(lowered_value(fault))
+        add_write(lowered_value(fault), 265, fill=numbers.below(256))
 
 
 def packed(numbers, value, tries):
@@ -1173,8 +1475,8 @@ def made_checks(numbers):
 
 def made_clearances(numbers):
     for _ in range(50):
-        value = some_instance(numbers)
-        positions = packing(*[[some_measure(numbers) - 1 for _ in range(3)] for _ in range(10)])
+        value = lowered_value(some_instance(numbers))
+        positions = packing(*[[some_number(numbers) - 1 for _ in range(3)] for _ in range(10)])
         u, v = numbers.below(11), numbers.below(11)
         add_clearance(value, positions, u, v, numbers.below(4))
         if value["item_count"] > 0:
@@ -1198,13 +1500,13 @@ def made_lag_reads(numbers):
             sheet = reference.encode(with_lags(numbers, value))
             field = len(sheet) - value["precedence_count"]
             made += 1
-            add_read(sheet)
-            add_rewrite(sheet)
-            add_record(sheet, numbers.below(11))
-            add_read(damaged(numbers, sheet))
-            add_read(damaged(numbers, damaged(numbers, sheet)))
-            add_read(bytes([sheet[0] ^ 64]) + sheet[1:])
-            add_read(sheet[:field] + bytes(len(sheet) - field) + bytes(numbers.below(2)))
+            add_read(lowered(sheet))
+            add_rewrite(lowered(sheet))
+            add_record(lowered(sheet), numbers.below(11))
+            add_read(lowered(damaged(numbers, sheet)))
+            add_read(lowered(damaged(numbers, damaged(numbers, sheet))))
+            add_read(lowered(bytes([sheet[0] ^ 64]) + sheet[1:]))
+            add_read(lowered(sheet[:field] + bytes(len(sheet) - field) + bytes(numbers.below(2))))
 
 
 def made_lag_writes(numbers):
@@ -1213,12 +1515,12 @@ def made_lag_writes(numbers):
         length = len(reference.encode(value))
         for i in range(value["precedence_count"], 90):
             value["precedences"][i] = [numbers.below(12), numbers.below(12), numbers.below(256)]
-        add_write(value, numbers.one_of([length - 1, length, length + 1, 351, 352, MOST_ROOM]), fill=numbers.below(256))
-        add_valid(value, "valid")
+        add_write(lowered_value(value), numbers.one_of([length - 1, length, length + 1, 351, 352, MOST_ROOM]), fill=numbers.below(256))
+        add_valid(lowered_value(value), "valid")
         fault = copied(value)
         fault["precedence_count"] = numbers.below(min(90, value["precedence_count"] + 2) + 1)
-        add_valid(fault)
-        add_write(fault, 351, fill=numbers.below(256))
+        add_valid(lowered_value(fault))
+        add_write(lowered_value(fault), 351, fill=numbers.below(256))
 
 
 def small_with_lags(numbers, most):
@@ -1298,6 +1600,89 @@ def made_finishes(numbers):
                 add_finish(value, allowance)
 
 
+def some_limit(numbers):
+    """A measure about 4,095, or above it."""
+    return numbers.one_of([4094, 4095, 4095, 4096, 4096, 4097, 8191, 32768, 65535, numbers.between(4096, 65535)])
+
+
+def about_the_limit(numbers):
+    """A value with small measures, but for one or two about 4,095, in the container or in an item, up to the count or past it."""
+    value = lowered_value(some_instance(numbers))
+    for _ in range(numbers.between(1, 2)):
+        size = numbers.one_of([value["container"], numbers.one_of(value["items"]), numbers.one_of(counted_sizes(value))])
+        size[numbers.below(3)] = some_limit(numbers)
+    return value
+
+
+def made_limits(numbers):
+    for _ in range(40):
+        sheet = reference.encode(with_lags(numbers, about_the_limit(numbers)))
+        add_read(sheet)
+        add_read(damaged(numbers, sheet))
+        add_read(sheet[: numbers.below(len(sheet))])
+        add_rewrite(sheet)
+        add_record(sheet, numbers.below(11))
+    # measures as they were made before
+    for _ in range(40):
+        sheet = some_sheet(numbers)
+        add_read(sheet)
+        add_read(damaged(numbers, sheet))
+    for _ in range(16):
+        value = about_the_limit(numbers)
+        length = len(reference.encode(value))
+        add_valid(value)
+        add_write(value, numbers.one_of([0, length - 1, length, 351]), fill=numbers.below(256))
+        add_check(value, packing(*[[some_number(numbers) - 1 for _ in range(3)] for _ in range(10)]))
+        add_clearance(value, packing(), numbers.below(11), numbers.below(11), numbers.below(4))
+        add_finish(value, numbers.below(4))
+
+
+# Beside an older pair of files
+
+
+def cases_in(stdin, stdout):
+    """Each case with its line."""
+    found, at, lines_left = [], 0, stdout.decode().split("\n")
+    while at < len(stdin):
+        start = at + 3
+        at = start + int.from_bytes(stdin[start - 2 : start], "little")
+        op, payload = stdin[start - 3], stdin[start:at]
+        line = [lines_left.pop(0)]
+        while op == RUN and line[-1] != "":
+            line.append(lines_left.pop(0))
+        found.append((op, payload, "\n".join(line)))
+    assert lines_left == [""]
+    return found
+
+
+def is_above(op, payload):
+    """Whether reading meets a measure above 4,095, or a value has one up to its count."""
+    if op in (READ, REWRITE, RUN):
+        answer = reference.read(payload)
+        return is_refused(answer) and answer[0] == 12
+    if op == RECORD:
+        return reference.record(payload[8:], 0)[1][0] == 12
+    words = [int.from_bytes(payload[at : at + 2], "little") for at in range(0, 74, 2)]
+    count = int.from_bytes(payload[6:14], "little")
+    return max(words[:3] + words[7 : 7 + 3 * min(count, 10)]) > reference.MAX_MEASURE
+
+
+def compare_with(older):
+    """Counts what is left of the older cases, and what is new."""
+    newer = list(zip(*zip(*cases), lines))
+    kept, gone, at = 0, 0, 0
+    for case in older:
+        if is_above(*case[:2]):
+            gone += 1
+            continue
+        try:
+            at = newer.index(case, at) + 1
+        except ValueError:
+            sys.exit("not among the cases any more, with its line: %s %s %s" % (KINDS[case[0]], case[1].hex(), case[2]))
+        kept += 1
+    print("before %d, of these kept %d, gone for a measure above 4,095 %d; new or in their place %d" % (len(older), kept, gone, len(cases) - kept))
+
+
 # All of it
 
 
@@ -1312,6 +1697,11 @@ def main():
     hand_lags_check()
     hand_lags_run()
     hand_finish()
+    hand_limit_read()
+    hand_limit_values()
+    hand_limit_check()
+    hand_limit_run()
+    hand_limit_finish()
     by_hand = len(cases)
     made_reads(Numbers(1))
     made_records(Numbers(2))
@@ -1323,7 +1713,8 @@ def main():
     made_lag_checks(Numbers(8))
     made_lag_runs(Numbers(9))
     made_finishes(Numbers(10))
-    for number in (1, 2, 3, 4, 5, 6, 7, 11):
+    made_limits(Numbers(11))
+    for number in (1, 2, 3, 4, 5, 6, 7, 11, 12):
         places = {line.split()[2] for line in lines if line.startswith("refused %d " % number)}
         assert len(places) >= 2, number
     for number in (8, 9):
@@ -1333,7 +1724,10 @@ def main():
     assert len(stdin) <= MOST_STDIN
     folder = os.path.join(os.path.dirname(os.path.abspath(__file__)), "..", "crates", "test_vectors")
     files = [(os.path.join(folder, "stdin"), stdin), (os.path.join(folder, "stdout"), stdout)]
-    if sys.argv[1:] == ["--check"]:
+    if sys.argv[1:2] == ["--before"]:
+        stdin_before, stdout_before = [open(path, "rb").read() for path in sys.argv[2:]]
+        compare_with(cases_in(stdin_before, stdout_before))
+    elif sys.argv[1:] == ["--check"]:
         for path, content in files:
             with open(path, "rb") as file:
                 if file.read() != content:

@@ -1,5 +1,5 @@
 """Instances, packings, item records, clearance, the search and the earliest finish, written plainly from document 01 and requests #101 to
-#103 of document 02 alone.
+#104 of document 02 alone.
 
 It shares nothing with the crates. tests/make_vectors.py takes the expected lines of crates/test_vectors from here.
 
@@ -16,6 +16,8 @@ A refusal is a tuple (number, place).
 
 MAX_ITEMS = 10
 MAX_PRECEDENCES = 90
+# #104: "Make 4,095 the greatest measure of halls and pieces."
+MAX_MEASURE = 4095
 
 
 class Refused(Exception):
@@ -49,13 +51,16 @@ def map_at(sheet, place, bits):
 
 
 def measures_at(sheet, place, standing):
-    # Bits 0, 1, 2: width, depth, shifts; "left out means 1"; "a written measure of 0 or 1" gets 3
+    # Bits 0, 1, 2: width, depth, shifts; "left out means 1"; "a written measure of 0 or 1" gets 3; #104: "12 is a written measure above
+    # 4,095, at the field's place, after 3"
     measures = [1, 1, 1]
     for bit in (0, 1, 2):
         if bit in standing:
             measure = two_bytes_at(sheet, place)
             if measure == 0 or measure == 1:
                 raise Refused(3, place)
+            if measure > MAX_MEASURE:
+                raise Refused(12, place)
             measures[bit] = measure
             place += 2
     return measures, place
@@ -150,13 +155,13 @@ def record(sheet, k):
 
 
 def valid(value):
-    """None of the conditions of number 9."""
+    """None of the conditions of number 9; #104: "9 covers such values too"."""
     n = value["item_count"]
     m = value["precedence_count"]
     if n > MAX_ITEMS or m > MAX_PRECEDENCES:
         return False
     for measures in [value["container"]] + value["items"][:n]:
-        if 0 in measures:
+        if 0 in measures or max(measures) > MAX_MEASURE:
             return False
     precedences = value["precedences"][:m]
     for u, v, _ in precedences:

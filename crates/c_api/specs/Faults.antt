@@ -11,14 +11,14 @@ use Rattle.buffers.specs.Lengths.{position-length}
 
 -- check refuses with the number n
 pub data CheckBytesFault (sheet plan : List ℕ) (n : ℕ) : Type 0 where
-  -- 1 to 7 and 11: the sheet's first fault
+  -- 1 to 7, 11 and 12: the sheet's first fault
   unread : (e : Refusal) → FirstFault sheet e → n ≡ number-of e → CheckBytesFault sheet plan n
   -- 8: "plan bytes not 6 for each piece"
   eight : (r : Reads sheet) → (length plan ≡ position-length * r .instance .«item_count» → ⊥) → n ≡ 8 → CheckBytesFault sheet plan n
 
 -- search refuses with the number n
 pub data SearchBytesFault (sheet note steps plan : List ℕ) (n : ℕ) : Type 0 where
-  -- 1 to 7 and 11: the sheet's first fault
+  -- 1 to 7, 11 and 12: the sheet's first fault
   unread : (e : Refusal) → FirstFault sheet e → n ≡ number-of e → SearchBytesFault sheet note steps plan n
   -- 8: "plan bytes not 6 for each piece; note bytes not 273; step bytes not 4"
   eight : (r : Reads sheet) → (Lengths (r .instance) note steps plan → ⊥) → n ≡ 8 → SearchBytesFault sheet note steps plan n

@@ -25,11 +25,8 @@ total-within {t} {o} {a} l u h = go (ℕ-discrete o 0)
     go (yes z) = rw z (l .tabled .within 2 a u (omega arith) (l .axis) h)
     go (no z) = let e : o ≡ 30 = omega (arith, l .aligned, l .most) in rw e (l .tabled .within 1 a u (omega arith) (l .axis) h)
 
--- in 32 bits
-pub total-small : {t : List ℕ} → Tabled t → (i : ℕ) → getD t i 0 < 4294967296
-total-small h i = omega (arith, h .small i)
-
-pub totals-small : {t : List ℕ} → Tabled t → (i j : ℕ) → getD t i 0 + getD t j 0 < 4294967296
+-- in 16 bits
+pub totals-small : {t : List ℕ} → Tabled t → (i j : ℕ) → getD t i 0 + getD t j 0 < 65536
 totals-small h i j = omega (arith, h .small i, h .small j)
 
 -- the total of z is stored

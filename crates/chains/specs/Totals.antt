@@ -32,10 +32,14 @@ step-at t o a v z = getD t (96 + (o + a * 10 + v) * 10 + z) 0
 abbrev pub gap-at : List ℕ → ℕ → ℕ → ℕ → ℕ → ℕ
 gap-at t o a v z = step-at t o a v z - measure-at t a z
 
--- 696 numbers of 16 bits, no total above the container
+-- every two numbers add up to one of 16 bits
+abbrev pub Small : List ℕ → Type 0
+Small t = (i : ℕ) → getD t i 0 < 32768
+
+-- 696 such numbers, no total above the container
 pub record Tabled (t : List ℕ) : Type 0 where
   pub long : length t ≡ 696
-  pub small : (i : ℕ) → getD t i 0 < 65536
+  pub small : Small t
   pub within : (x a u : ℕ) → Direction x → a < 3 → u < 10 → table t x a u ≤ capacity-at t a
   pub least : (x a v z : ℕ) → Direction x → a < 3 → v < 10 → z < 10 → measure-at t a z ≤ step-at t (table-start x) a v z
   pub plain : (x a v z : ℕ) → Direction x → a < 3 → v < 10 → z < 10 → gapped-at t a ≡ 0 → step-at t (table-start x) a v z ≡ measure-at t a z

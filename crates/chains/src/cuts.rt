@@ -51,7 +51,7 @@ fn above_with_gaps(t: &[u16; TOTALS], at: usize, steps: usize, sizes: usize, lim
     let mut found: u16 = 0;
     let mut v: usize = 0;
     while v < 10 {
-        if (t[steps + v] - t[sizes + v]) as u32 + t[at + v] as u32 > limit as u32 {
+        if t[steps + v] - t[sizes + v] + t[at + v] > limit {
             found = found | 1u16 << v as u16;
         }
         v = v + 1;

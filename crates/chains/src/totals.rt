@@ -40,20 +40,20 @@ fn link(t: &mut [u16; TOTALS], own: usize, a: usize, v: usize, z: usize) -> Grow
     ensures { λ r. ⌜ RaisesIf (Only v z) (Only v z) own a (now (t .entry)) (now (t .exit)) (r .fits) (r .items) ⌝ }
 {
     let row = own + a * 10;
-    let total = t[row + v] as u32 + t[STEPS + (row + v) * 10 + z] as u32;
-    if total > t[CAPACITY + a] as u32 {
+    let total = t[row + v] + t[STEPS + (row + v) * 10 + z];
+    if total > t[CAPACITY + a] {
         return Growth {
             fits: false,
             items: 0,
         };
     }
-    if total <= t[row + z] as u32 {
+    if total <= t[row + z] {
         return Growth {
             fits: true,
             items: 0,
         };
     }
-    t[row + z] = total as u16;
+    t[row + z] = total;
     Growth {
         fits: true,
         items: bit(z),

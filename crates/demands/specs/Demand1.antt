@@ -1,6 +1,6 @@
 -- The mission's first demand, as one theorem: that every function answers, what is refused and with which number, and what a refusal
 -- leaves. The table's conditions stand beside the definitions that test them: c_api Faults (check and search in bytes) and Finishes, search Results
--- (`SearchFault`), sheet Faults (reading, with document 02's 11), writer and item_record Refusing, packing Clearance.
+-- (`SearchFault`), sheet Faults (reading, with document 02's 11 and 12), writer and item_record Refusing, packing Clearance.
 use Rattle.prelude.specs.Names.{true, false, List, [], _↔_, _⊎_, inl, inr, _≡_, ℕ, _+_, _≤_, _<_, ℤ, length, getD}
 use Rattle.refusal.specs.Numbers.{number-of, place-of}
 use Rattle.refusal.specs.declared.Refusal.{Refusal}

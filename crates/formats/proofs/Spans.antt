@@ -5,7 +5,7 @@ use Rattle.prelude.specs.Names.{_+_, _≤_, _<_, min, arith, eq-or-lt-of-le, ad
 use Rattle.prelude.specs.Names.{eqb-true, eq-eqb, ltb-true, lt-ltb, leb-true, le-leb}
 use Rattle.refusal.specs.declared.Refusal.{Refusal}
 use Rattle.refusal.specs.declared.Refusal.the-variants.{EndsEarly, UnknownBit, WrittenDefault, BadCount, BadItem, NotRising, TrailingBytes}
-use Rattle.refusal.specs.declared.Refusal.the-variants.{BadArgument, InvalidInstance, NotFollowing, NoLag}
+use Rattle.refusal.specs.declared.Refusal.the-variants.{BadArgument, InvalidInstance, NotFollowing, NoLag, TooLarge}
 use Rattle.refusal.specs.Numbers.{place-of}
 use Rattle.formats.specs.Reading.{Reading, done, due, end, _>>=_, Read, got, refused, run, Before}
 use Rattle.formats.specs.Formats.{up-to, Format, byte, Test, testing, tested, row-reading, count, whole}
@@ -49,6 +49,11 @@ no-lag-first BadArgument = inr (inr (refl, omega arith))
 no-lag-first InvalidInstance = inr (inr (refl, omega arith))
 no-lag-first NotFollowing = inr (inr (refl, omega arith))
 no-lag-first (NoLag p) = inl refl
+no-lag-first (TooLarge p) = inr (inr (refl, omega arith))
+
+-- 12 is "after 3"
+pub default-before-large : (at : ℕ) → Before (WrittenDefault at) (TooLarge at)
+default-before-large at = inr (refl, omega arith)
 
 from-no-lag : (at : ℕ) (f : Refusal) → at ≤ place-of f → From (NoLag at) f
 from-no-lag at f l = elim (eq-or-lt-of-le l) [ inl q ↦ rw q (no-lag-first f) | inr h ↦ inr (inl h) ]

@@ -46,7 +46,7 @@ read-or-refused s = go (decode s) refl
     go (got i at rest) h = inl (reads-as s h)
     go (refused e) h = inr (e, h)
 
--- 1 to 7 and 11: reading refuses exactly the first fault of the table
+-- 1 to 7, 11 and 12: reading refuses exactly the first fault of the table
 pub decode-refuses : (s : List ℕ) (e : Refusal) → (decode s ≡ refused e) ↔ FirstFault s e
 unfolding decode
 decode-refuses s e = simp (read-as-refused, refused-first) Iff·rfl

@@ -5,7 +5,7 @@ use lib.ListN.{length-map}
 use Rattle.formats.proofs.Laws.{both-true}
 use Rattle.parts.specs.declared.Previous.the-variants.{Nothing, Was}
 use Rattle.parts.specs.Precedences.{arc-of, lag-of, unlagged, all-allowed, names-items, rises}
-use Rattle.parts.specs.Sizes.{positive, all-have-size, no-precedence}
+use Rattle.parts.specs.Sizes.{size-in-range, all-in-range, no-precedence}
 use Rattle.sheet.specs.Sheet.{max-items, max-precedences, longest-sheet, sheet}
 use Rattle.sheet.proofs.Longest.{sheet-most}
 use Rattle.sheet.proofs.Valid.{sheet-valid}
@@ -19,8 +19,8 @@ use Rattle.instance.specs.Reads.{Full}
 pub record IsValid (i : Instance) : Type 0 where
   pub items-few : i .«item_count» ≤ max-items
   pub precedences-few : i .«precedence_count» ≤ max-precedences
-  pub container-has-size : positive (i .container) ≡ true
-  pub items-have-size : all-have-size (items-of i) ≡ true
+  pub container-in-range : size-in-range (i .container) ≡ true
+  pub items-in-range : all-in-range (items-of i) ≡ true
   pub precedences-allowed : all-allowed (i .«item_count») Nothing (map arc-of (precedences-of i)) ≡ true
 
 pub valid-says : (i : Instance) → valid i ≡ true → IsValid i
@@ -28,9 +28,9 @@ unfolding valid
 valid-says i h =
     let (a, b) = both-true (leb (i .«item_count») max-items) _ h in
     let (c, d) = both-true (leb (i .«precedence_count») max-precedences) _ b in
-    let (e, f) = both-true (positive (i .container)) _ d in
-    let (g, k) = both-true (all-have-size (items-of i)) _ f in
-    record { items-few = leb-true _ _ a; precedences-few = leb-true _ _ c; container-has-size = e; items-have-size = g; precedences-allowed = k }
+    let (e, f) = both-true (size-in-range (i .container)) _ d in
+    let (g, k) = both-true (all-in-range (items-of i)) _ f in
+    record { items-few = leb-true _ _ a; precedences-few = leb-true _ _ c; container-in-range = e; items-in-range = g; precedences-allowed = k }
 
 -- each of the precedences that are allowed names two items below n
 pub allowed-at : (n : ℕ) (last : Previous) (os : List Precedence) → all-allowed n last (map arc-of os) ≡ true → (k : ℕ) → k < length os

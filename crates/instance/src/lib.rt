@@ -63,6 +63,9 @@ impl Instance {
 
     pub const MAX_BRANCHES: usize = 270;
 
+    // "Make 4,095 the greatest measure of halls and pieces."
+    pub const MAX_MEASURE: u16 = parts::MAX_MEASURE;
+
     // "The longest sheet is 351 bytes."
     pub const MAX_BYTES: usize = 351;
 
@@ -91,11 +94,11 @@ impl Instance {
             return false;
         }
         let container = self.container;
-        if !parts::valid::is_positive(container) {
+        if !parts::valid::size_in_range(container) {
             return false;
         }
         let items = self.items;
-        if !lists::all_positive(items, n) {
+        if !lists::all_in_range(items, n) {
             return false;
         }
         let precedences = self.precedences;

@@ -8,7 +8,7 @@ ghost use Rattle.formats.specs.Fields.{optional-reading};
 ghost use Rattle.parts.specs.Answers.{PlacesFit};
 ghost use Rattle.parts.specs.Precedences.{arc-of, unlagged, all-allowed};
 ghost use Rattle.parts.specs.Parts.{lags-zero, lag-list};
-ghost use Rattle.parts.specs.Sizes.{no-item, no-precedence, all-have-size};
+ghost use Rattle.parts.specs.Sizes.{no-item, no-precedence, all-in-range};
 ghost use Rattle.sheet.specs.Sheet.{max-items, max-precedences, item-list, precedence-list};
 ghost use Rattle.lists.specs.Lists.{item-row, precedence-row, items-read, precedences-read, lags-read, with-lags, padded, Padded};
 use parts::FieldRead;
@@ -267,16 +267,16 @@ pub fn with_lags(
     lagged
 }
 
-// The first n items have no measure 0.
-pub fn all_positive(items: [Item; MAX_ITEMS], n: usize) -> bool
+// The first n items have measures from 1 to the greatest.
+pub fn all_in_range(items: [Item; MAX_ITEMS], n: usize) -> bool
     requires { ⌜ n ≤ max-items ⌝ }
-    ensures { λ r. ⌜ r ≡ all-have-size (take n items) ⌝ }
+    ensures { λ r. ⌜ r ≡ all-in-range (take n items) ⌝ }
 {
     let mut i: usize = 0;
     while i < n {
         let item = items[i];
         let size = item.size;
-        if !parts::valid::is_positive(size) {
+        if !parts::valid::size_in_range(size) {
             return false;
         }
         i = i + 1;

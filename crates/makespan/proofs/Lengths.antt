@@ -1,6 +1,6 @@
 -- The search of an instance with fewer shifts, as a value and in the model.
 use Rattle.prelude.specs.Names.{Bool, true, false, [], cond, _≡_, refl, sym, ap, _∙_, subst, ℕ, zero, suc, _+_, _-_, _≤_, _<_, zero-add, le-leb, le-ltb}
-use Rattle.prelude.specs.Names.{arith, leb, ltb}
+use Rattle.prelude.specs.Names.{arith, leb, ltb, leb-true}
 use mathlib.Core.Path.{fun-ext}
 use Rattle.model.proofs.Below.{Implies, implies-refl, and-mono}
 use Rattle.model.proofs.Earliest.{shortened-sound, from-spent, from-none, from-packed}
@@ -12,7 +12,7 @@ use Rattle.model.specs.Earliest.{shortened, steps-before, finish-from, earliest
 use Rattle.model.specs.Problem.{Problem, Positions, time}
 use Rattle.model.specs.Run.{look, machine, step-count}
 use Rattle.model.specs.Search.{Outlook, conflict, complete, fork, Checkpoint, opening, act}
-use Rattle.parts.specs.Sizes.{positive}
+use Rattle.parts.specs.Sizes.{max-measure, in-range, size-in-range}
 use Rattle.refusal.specs.declared.Refusal.{Refusal}
 use Rattle.instance.specs.Meaning.{measure-on, problem-of}
 use Rattle.instance.specs.Reads.{Full}
@@ -55,12 +55,16 @@ module _ (i : Instance) (l : ℕ) where
       ap (λ (m : ℕ → ℕ). record { items = problem-of i .items; size = problem-of i .size; capacity = m; precedences = problem-of i .precedences })
       (fun-ext measures)
 
-  pub shortened-valid : 1 ≤ l → Implies (valid i) (valid (with-shifts i l))
-  unfolding valid positive
-  shortened-valid h = let one : Implies (leb 1 (i .container .shifts)) (leb 1 l) = λ _. le-leb 1 l h in search (and-mono, implies-refl, one) depth 9
+  -- and is valid: a length up to its shifts is a measure
+  pub shortened-valid : 1 ≤ l → l ≤ i .container .shifts → Implies (valid i) (valid (with-shifts i l))
+  unfolding valid size-in-range in-range
+  shortened-valid h k =
+      let one : Implies (leb 1 (i .container .shifts)) (leb 1 l) = λ _. le-leb 1 l h in
+      let most : Implies (leb (i .container .shifts) max-measure) (leb l max-measure) = λ e. le-leb l max-measure (omega (arith, leb-true (i .container .shifts) max-measure e)) in
+      search (and-mono, implies-refl, one, most) depth 12
 
 -- The search of the length n + 1 from the opening, and what it makes of the lengths from there on
-module _ (i : Instance) (v : valid i ≡ true) (full : Full i) (n budget : ℕ) where
+module _ (i : Instance) (v : valid i ≡ true) (full : Full i) (n : ℕ) (within : n < i .container .shifts) (budget : ℕ) where
   abbrev p : Problem
   p = problem-of i
 
@@ -76,7 +80,7 @@ module _ (i : Instance) (v : valid i ≡ true) (full : Full i) (n budget : ℕ) 
   pub searched : result ≡ result-of (shortened p (suc n)) tried
   searched =
       ap (λ c. search-result (with-shifts i (suc n)) c budget) (sym opening-value)
-      ∙ (call-held (with-shifts i (suc n)) (shortened-valid i (suc n) (omega arith) v) (full .items-room) opening tt budget
+      ∙ (call-held (with-shifts i (suc n)) (shortened-valid i (suc n) (omega arith) within v) (full .items-room) opening tt budget
       ∙ ap (λ q. result-of q (R.search q budget opening)) (shortened-problem i (suc n)))
 
   -- its answer has the number of the model's

@@ -1,25 +1,20 @@
 -- The domains of a path: all that the search uses of them.
 use Rattle.prelude.specs.Names.{true, false, List, [], _∷_, List·Memᴰ, List·Memᴰ·head, List·Memᴰ·tail, List·Memᴰ·not-nil, List·Memᴰ·cases-cons, _⊎_}
-use Rattle.prelude.specs.Names.{inl, inr, ⊎-map, _≡_, refl, ℕ, _+_, _<_, arith}
+use Rattle.prelude.specs.Names.{inl, inr, ⊎-map, _≡_, refl, ℕ, _<_, arith}
 use Rattle.model.specs.Problem.{Problem, Precedence, Positions, Feasible, time}
 use Rattle.model.specs.Domains.{Domains, gone, without, fixed-before, remove-before, fix-before, full-domains}
-use Rattle.model.specs.Rules.{joined}
 use Rattle.model.specs.Propagate.{propagate}
 use Rattle.model.specs.Branching.{fix-precedences, opening-domains, inconsistent, packed, choice, Branch, first, second, branched, path-domains}
 use Rattle.model.specs.Branching.{plan}
 use Rattle.model.specs.Order.{Proper, WellFormed, _⊑_, AtRest, Fork}
 use Rattle.model.specs.Admits.{Sound, Admits}
 use Rattle.model.specs.Weight.{weight}
-use Rattle.model.proofs.Below.{and-intro, stays}
-use Rattle.model.proofs.Gap.{lag-gap}
+use Rattle.model.proofs.Below.{and-intro}
 use Rattle.model.proofs.Slots.{proper-sym, proper-wide}
 use Rattle.model.proofs.Order.{below-refl, below-trans}
 use Rattle.model.proofs.Monotone.{gone-mono, fixed-before-mono}
 use Rattle.model.proofs.Without.{without-less, without-well-formed, without-gone, fix-before-less, fix-before-well-formed}
 use Rattle.model.proofs.Propagate.{propagate-less, propagate-well-formed, propagate-at-rest}
-use Rattle.model.proofs.GreatestChains.{greatest-ending-size, greatest-starting-size}
-use Rattle.model.proofs.Consistent.{before-left}
-use Rattle.model.proofs.Asks.{not-before, ask-c2}
 use Rattle.model.proofs.Sound.{propagate-admits}
 use Rattle.model.proofs.Admits.{full-well-formed, opening-well-formed, opening-admits}
 use Rattle.model.proofs.Fork.{choice-fork, branched-less, branched-well-formed, fork-split}
@@ -94,17 +89,6 @@ module _ (p : Problem) (sound : Sound p) (path : List Branch) where
   path-fixed o m =
       fixed-before-mono k (opening-domains p) (path-opening p path) time (o .predecessor) (o .successor)
       (precedences-fixed (p .precedences) full-domains full-well-formed (λ x n. proper-wide (omega (arith, sound .limited)) (sound .named x n)) o m)
-
-  -- so one that is longer than the container, with its items and its lag, is an inconsistency
-  pub order-inconsistent : (o : Precedence) → List·Memᴰ o (p .precedences)
-      → p .capacity time < p .size time (o .predecessor) + o .lag + p .size time (o .successor) → inconsistent p k ≡ true
-  unfolding joined
-  order-inconsistent o m h = stays (inconsistent p k) (λ consistent.
-      let s = sound .named o m in
-      let u = o .predecessor in
-      let v = o .successor in
-      before-left p k consistent time (s .axis) u v (s .item-u) (s .item-v) (path-fixed o m) (not-before path-at-rest time u v s
-      (ask-c2 p k time u v (omega (arith, lag-gap p o m, greatest-ending-size p k time u, greatest-starting-size p k time v)))))
 
   -- a packed path's plan is feasible
   pub plan-feasible : inconsistent p k ≡ false → packed p k ≡ true → Feasible p (plan p path)

@@ -8,12 +8,12 @@ use Rattle.model.specs.Wide.{wide}
 use Rattle.model.proofs.Below.{and-intro, and-both, refuted}
 use Rattle.model.proofs.Toward.{by-direction}
 use Rattle.parts.specs.declared.Precedence.{Precedence}
-use Rattle.parts.specs.Sizes.{no-precedence}
+use Rattle.parts.specs.Sizes.{max-measure, no-precedence}
 use Rattle.instance.specs.Meaning.{precedence-of}
 use Rattle.nodes.proofs.Loops.{written}
-use Rattle.chains.specs.Totals.{table-start, measure-at, gapped-at, step-at}
+use Rattle.chains.specs.Totals.{Small, table-start, measure-at, gapped-at, step-at}
 use Rattle.chains.proofs.Relaxing.{table-start-is}
-use Rattle.opening.specs.Layout.{Small, put-lag, with-precedences, LaidOut, order-length, RowStepped, Stepped, SteppedOut, LagsLaid}
+use Rattle.opening.specs.Layout.{Measures, put-lag, with-precedences, LaidOut, RowStepped, Stepped, SteppedOut, LagsLaid}
 use Rattle.model.specs.Problem as M
 
 cond-zero : (b : Bool) → _≡_ {A = ℕ} (cond b 0 0) 0
@@ -84,15 +84,15 @@ unfolding gap
 gap-none p a u v = cond-zero (eqb a time)
 
 module _ {t s : List ℕ} (h : Stepped 60 t s) where
-  pub kept-small : Small t → Small s
-  kept-small small j = elim (decLt j 96) [
-    | yes l ↦ rw (h .other j l) (small j)
+  pub measures-kept : Measures t → Measures s
+  measures-kept m j = elim (decLt j 96) [
+    | yes l ↦ rw (h .other j l) (m j)
     | no l ↦ elim (decLt j 696) [
-      | yes m ↦ let i = (j - 96) / 10 in
+      | yes b ↦ let i = (j - 96) / 10 in
           let z = (j - 96) % 10 in
           let e : j ≡ 96 + i * 10 + z = omega arith in
-          rw (e, h .rows i z (omega arith) (omega arith)) (small (60 + i % 30 / 10 * 10 + z))
-      | no m ↦ rw (h .later j (omega arith)) (small j)
+          rw (e, h .rows i z (omega arith) (omega arith)) (m (60 + i % 30 / 10 * 10 + z))
+      | no b ↦ rw (h .later j (omega arith)) (m j)
     ]
   ]
 
@@ -102,16 +102,16 @@ module _ {t s : List ℕ} (h : Stepped 60 t s) where
       let axis : i % 30 / 10 ≡ a = omega (arith, table-start-is x d) in
       (rw axis at (h .rows i z (omega (arith, table-start-is x d)) hz)) ∙ sym (h .other (60 + a * 10 + z) (omega arith))
 
-  pub stepped-out : (p : Problem) → LaidOut (with-precedences p []) t → SteppedOut (with-precedences p []) s
+  pub stepped-out : (p : Problem) → Measures t → LaidOut (with-precedences p []) t → SteppedOut (with-precedences p []) s
   unfolding wide
-  stepped-out p out = record {
+  stepped-out p m out = record {
     laid = record {
       long = h .long ∙ out .long;
-      small = kept-small (out .small);
       capacity = λ a ha. h .other (90 + a) (omega arith) ∙ out .capacity a ha;
       size = λ a u ha hu. h .other (60 + a * 10 + u) (omega arith) ∙ out .size a u ha hu;
       alone = λ x a u d ha hu. h .other _ (omega (arith, table-start-is x d)) ∙ out .alone x a u d ha hu ∙ sym (h .other (60 + a * 10 + u) (omega arith));
     };
+    small = λ j. omega (arith, measures-kept m j);
     plain = λ a u v ha hu hv e. gap-none p a u v;
     step = λ x a v z d ha hv hz. step-is x a v z d ha hv hz
         ∙ by-direction (λ x. measure-at s a z ≡ between x (with-precedences p []) a v z + measure-at s a z) (omega (arith, gap-none p a z v))
@@ -177,8 +177,8 @@ module _ (t : List ℕ) (long : length t ≡ 696) (u v lag : ℕ) (hu : u < 10) 
       (λ l e. absurd (stored (λ i w. i ≡ 95 → w ≡ 0 → ⊥) (λ e. absurd (omega arith)) (λ e. absurd (omega arith)) (λ _ e. omega arith)
       (λ i _ _ c e. absurd (c e)) 95 refl e)) (λ l e. (l, e))
 
-  put-lag-small : onto < 65536 → back < 65536 → Small t → Small (put-lag t u v lag)
-  put-lag-small x y small = by-greatest Small (λ _. stored (λ i w. w < 65536) x y (omega arith) (λ i _ _ _. small i)) (λ _. small)
+  put-lag-small : onto < 32768 → back < 32768 → Small t → Small (put-lag t u v lag)
+  put-lag-small x y small = by-greatest Small (λ _. stored (λ i w. w < 32768) x y (omega arith) (λ i _ _ _. small i)) (λ _. small)
 
 -- one precedence more: what lies between its items is no less than its lag
 module _ (p : Problem) (o : M.Precedence) (l : List M.Precedence) where
@@ -206,7 +206,7 @@ module _ (p : Problem) (o : M.Precedence) (l : List M.Precedence) where
       gap-more a y z ∙ rw q (omega arith)
 
   module _ (t : List ℕ) (out : SteppedOut before t) (hu : o .predecessor < 10) (hv : o .successor < 10)
-      (fits : measure-at t 2 (o .predecessor) + o .lag + measure-at t 2 (o .successor) < 65536) where
+      (most-u : measure-at t 2 (o .predecessor) ≤ max-measure) (most-v : measure-at t 2 (o .successor) ≤ max-measure) (lag : o .lag ≤ 255) where
     abbrev u : ℕ
     u = o .predecessor
 
@@ -273,11 +273,11 @@ module _ (p : Problem) (o : M.Precedence) (l : List M.Precedence) where
     lag-put = record {
       laid = record {
         long = put-lag-long t (out .laid .long) u v (o .lag) hu hv;
-        small = put-lag-small t (out .laid .long) u v (o .lag) hu hv (omega arith) (omega arith) (out .laid .small);
         capacity = λ a ha. kept (90 + a) (omega arith) ∙ out .laid .capacity a ha;
         size = λ a w ha hw. kept (60 + a * 10 + w) (omega arith) ∙ out .laid .size a w ha hw;
         alone = λ x a w d ha hw. kept _ (omega (arith, table-start-is x d)) ∙ out .laid .alone x a w d ha hw ∙ sym (kept (60 + a * 10 + w) (omega arith));
       };
+      small = put-lag-small t (out .laid .long) u v (o .lag) hu hv (omega arith) (omega arith) (out .small);
       plain = nothing-between;
       step = λ x a y z d ha hy hz. by-direction (λ x. step-at s (table-start x) a y z ≡ between x after a y z + measure-at s a z)
           (starts-step a y z ha hy hz) (ends-step a y z ha hy hz) x d;
@@ -292,13 +292,8 @@ laid-as : (p : Problem) (l m : List M.Precedence) {t : List ℕ} → ((u v : ℕ
     → SteppedOut (with-precedences p m) t
 unfolding wide gap
 laid-as p l m {t} same out = record {
-  laid = record {
-    long = out .laid .long;
-    small = out .laid .small;
-    capacity = out .laid .capacity;
-    size = out .laid .size;
-    alone = out .laid .alone;
-  };
+  laid = record { long = out .laid .long; capacity = out .laid .capacity; size = out .laid .size; alone = out .laid .alone };
+  small = out .small;
   plain = λ a u v ha hu hv e. sym (equal a u v) ∙ out .plain a u v ha hu hv e;
   step = λ x a v z d ha hv hz. out .step x a v z d ha hv hz ∙ ap (λ (g : ℕ). g + measure-at t a z)
       (by-direction (λ x. between x (with-precedences p l) a v z ≡ between x (with-precedences p m) a v z) (equal a z v) (equal a v z) x d);
@@ -317,10 +312,11 @@ one-more os i h = rw (add-one, take-suc os i no-precedence h) (map-last (take i 
 
 -- the lags of the first i precedences are put, and then that of the next
 pub lags-next : (os : List Precedence) (i : ℕ) {t s : List ℕ} → i < length os → let o = getD os i no-precedence in
-    o .predecessor < 10 → o .successor < 10 → order-length s o < 65536 → LagsLaid (take i os) t s
+    o .predecessor < 10 → o .successor < 10 → measure-at s 2 (o .predecessor) ≤ max-measure → measure-at s 2 (o .successor) ≤ max-measure
+    → o .lag ≤ 255 → LagsLaid (take i os) t s
     → LagsLaid (take (i + 1) os) t (put-lag s (o .predecessor) (o .successor) (o .lag))
-lags-next os i {t} {s} more hu hv fits laid p out =
+lags-next os i {t} {s} more hu hv most-u most-v lag laid p out =
     let o = getD os i no-precedence in
     let l = map precedence-of (take i os) in
     rw (one-more os i more) (laid-as p (precedence-of o ∷ l) (l ++ (precedence-of o ∷ [])) (λ u v. sym (lag-last (precedence-of o) l u v))
-    (lag-put p (precedence-of o) l s (laid p out) hu hv fits))
+    (lag-put p (precedence-of o) l s (laid p out) hu hv most-u most-v lag))

@@ -1,18 +1,18 @@
 -- An instance's measures beside the totals of chains, item by item.
-use Rattle.prelude.specs.Names.{List, [], _≡_, refl, sym, _∙_, _≢_, ℕ, _+_, _*_, _%_, _<_, decLt, arith, getD, set, length, length-set, replicate}
+use Rattle.prelude.specs.Names.{List, [], _≡_, refl, sym, _∙_, _≢_, ℕ, _+_, _*_, _%_, _≤_, _<_, decLt, arith, getD, set, length, length-set, replicate}
 use Rattle.model.proofs.Below.{below-three}
 use Rattle.model.specs.Problem.{Problem}
 use Rattle.model.specs.Wide.{wide}
 use Rattle.model.proofs.Toward.{by-direction}
 use Rattle.model.proofs.Wide.{wide-size, wide-past}
-use Rattle.parts.specs.Sizes.{no-item}
+use Rattle.parts.specs.Sizes.{max-measure, no-item}
 use Rattle.parts.specs.declared.Item.{Item}
 use Rattle.parts.specs.declared.Size.{Size}
 use Rattle.instance.specs.declared.Instance.{Instance}
 use Rattle.instance.specs.Meaning.{measure-on, problem-of}
 use Rattle.nodes.proofs.Loops.{blank-at, written}
 use Rattle.chains.specs.Totals.{table, measure-at, capacity-at}
-use Rattle.opening.specs.Layout.{put, put-item, LaidOut}
+use Rattle.opening.specs.Layout.{put, put-item, Measures, LaidOut}
 
 -- A measure is put at its three places: what holds of it there, and of the other entries, holds of all
 put-at : (t : List ℕ) (i m : ℕ) → length t ≡ 696 → i < 30 → (P : ℕ → ℕ → Type 0) → ((j : ℕ) → j < 90 → j % 30 ≡ i → P j m)
@@ -39,7 +39,7 @@ module _ (t : List ℕ) (u : ℕ) (s : Size) (long : length t ≡ 696) (h : u < 
 abbrev pub first-items : List Item → List ℕ → ℕ → Problem
 first-items items t₀ n = record { items = n; size = λ a u. measure-on a (getD items u no-item .size); capacity = capacity-at t₀; precedences = [] }
 
-module _ (items : List Item) (t₀ t : List ℕ) (u : ℕ) (h : u < 10) (small : (a : ℕ) → a < 3 → measure-on a (getD items u no-item .size) < 65536)
+module _ (items : List Item) (t₀ t : List ℕ) (u : ℕ) (h : u < 10)
     (out : LaidOut (first-items items t₀ u) t) where
   abbrev s : Size
   s = getD items u no-item .size
@@ -65,7 +65,6 @@ module _ (items : List Item) (t₀ t : List ℕ) (u : ℕ) (h : u < 10) (small :
   pub laid-next : LaidOut q (put-item t u s)
   laid-next = record {
     long = simp length-set (out .long);
-    small = item-at t u s (out .long) h (λ j v. v < 65536) (λ a j ha hj e. small a ha) (λ j d. out .small j);
     capacity = λ a ha. item-at t u s (out .long) h (λ j v. j ≡ 90 + a → v ≡ capacity-at t₀ a) (λ b j hb hj e is. absurd (omega arith))
         (λ j d is. rw is (out .capacity a ha)) (90 + a) refl;
     size = λ a w ha hw. next-size 60 a w (omega arith) refl;
@@ -73,6 +72,9 @@ module _ (items : List Item) (t₀ t : List ℕ) (u : ℕ) (h : u < 10) (small :
         by-direction (λ x. table (put-item t u s) x a w ≡ wide q .size a w) (next-size 30 a w (omega arith) (out .alone 1 a w (omega arith) ha hw))
         (next-size 0 a w (omega arith) (out .alone 2 a w (omega arith) ha hw)) x d ∙ sym (next-size 60 a w (omega arith) refl);
   }
+
+  pub measures-next : ((a : ℕ) → a < 3 → measure-on a s ≤ max-measure) → Measures t → Measures (put-item t u s)
+  measures-next most m = item-at t u s (out .long) h (λ j v. v ≤ max-measure) (λ a j ha hj e. most a ha) (λ j d. m j)
 
 -- the container alone, no items yet
 abbrev pub no-items : Size → List ℕ
@@ -88,10 +90,12 @@ module _ (c : Size) where
   no-items-zero : (j : ℕ) → j < 90 → getD (no-items c) j 0 ≡ 0
   no-items-zero = no-items-at (λ j v. j < 90 → v ≡ 0) (λ h. absurd (omega arith)) (λ h. absurd (omega arith)) (λ h. absurd (omega arith)) (λ j h. refl)
 
-  pub laid-none : (items : List Item) → ((a : ℕ) → a < 3 → measure-on a c < 65536) → LaidOut (first-items items (no-items c) 0) (no-items c)
-  laid-none items small = record {
+  pub measures-none : ((a : ℕ) → a < 3 → measure-on a c ≤ max-measure) → Measures (no-items c)
+  measures-none most = no-items-at (λ j v. v ≤ max-measure) (most 0 (omega arith)) (most 1 (omega arith)) (most 2 (omega arith)) (λ j. omega arith)
+
+  pub laid-none : (items : List Item) → LaidOut (first-items items (no-items c) 0) (no-items c)
+  laid-none items = record {
     long = refl;
-    small = no-items-at (λ j v. v < 65536) (small 0 (omega arith)) (small 1 (omega arith)) (small 2 (omega arith)) (λ j. omega arith);
     capacity = λ a ha. refl;
     size = λ a u ha hu. no-items-zero (60 + a * 10 + u) (omega arith) ∙ sym (wide-past (first-items items (no-items c) 0) a u (omega arith));
     alone = λ x a u d ha hu.
@@ -105,7 +109,6 @@ pub laid-all : (i : Instance) (u : ℕ) {t : List ℕ} → u ≡ i .«item_count
 unfolding problem-of wide
 laid-all i u e out = record {
   long = out .long;
-  small = out .small;
   capacity = λ a ha. out .capacity a ha ∙ below-three (λ a. capacity-at (no-items (i .container)) a ≡ measure-on a (i .container)) refl refl refl a ha;
   size = λ a w ha hw. rw e at (out .size a w ha hw);
   alone = out .alone;

@@ -20,8 +20,7 @@ use Rattle.model.proofs.Domains.{gone-self}
 use Rattle.model.proofs.Admits.{full-left, full-well-formed, opening-well-formed}
 use Rattle.model.proofs.Consistent.{large-inconsistent}
 use Rattle.model.proofs.Outside.{opening-untouched}
-use Rattle.model.proofs.Path.{path-root, order-inconsistent}
-use Rattle.model.proofs.Search.{look-inconsistent}
+use Rattle.model.proofs.Path.{path-root}
 use Rattle.model.proofs.Propagate.{propagate-less, propagate-mono, between-propagates, inconsistent-mono}
 use Rattle.model.proofs.Toward.{by-direction, under-sizes, under-cut, end-goal}
 use Rattle.model.proofs.Untouched.{goal-lawful}
@@ -33,7 +32,7 @@ use Rattle.domains.specs.Narrowed.{Grown, Narrowed, Refuted}
 use Rattle.chains.specs.Totals.{table, capacity-at, Tabled, Measured}
 use Rattle.chains.proofs.Linking.{exceeds-joined}
 use Rattle.propagation.specs.Propagated.{Ready}
-use Rattle.opening.specs.Layout.{LargeIf, SteppedOut, TooLarge, item, order}
+use Rattle.opening.specs.Layout.{LargeIf, SteppedOut, LargeItem}
 use Rattle.opening.specs.Openings.{PairsCut, PairsAsked, Past, Outside}
 use Rattle.nodes.specs.Nodes.{Leads, At}
 use Rattle.domains.proofs.BitLaws.{bit-zero}
@@ -97,9 +96,8 @@ module _ {p : Problem} (sound : Sound p) where
   unfolding look
   root-conflict none = rw (path-root p, stays (inconsistent p (propagate p opening)) none) refl
 
-  pub too-large-conflict : TooLarge p → look p [] ≡ conflict
-  too-large-conflict (item a u ha hu h) = root-conflict (clash (large-inconsistent p _ a u ha hu h))
-  too-large-conflict (order o m h) = look-inconsistent p [] (order-inconsistent p sound [] o m h)
+  pub large-conflict : LargeItem p → look p [] ≡ conflict
+  large-conflict (a, u, ha, hu, h) = root-conflict (clash (large-inconsistent p _ a u ha hu h))
 
   -- where the opening domains are consistent, their propagation is a goal
   goal : inconsistent p (propagate p opening) ≡ false → Goal p (propagate p opening)
@@ -128,7 +126,7 @@ module _ {p : Problem} (sound : Sound p) where
       pub root-tabled : Tabled t
       root-tabled = record {
         long = l .laid .long;
-        small = l .laid .small;
+        small = l .small;
         within = λ x a u d ha hu. omega (arith, l .laid .alone x a u d ha hu, fits a u ha hu);
         least = λ x a v z d ha hv hz. omega (arith, l .step x a v z d ha hv hz);
         plain = λ x a v z d ha hv hz e. omega (

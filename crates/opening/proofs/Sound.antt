@@ -1,12 +1,12 @@
 -- A valid instance is a sound problem.
 use Rattle.prelude.specs.Names.{true, not, _&&_, List, [], _∷_, map, List·Memᴰ, List·Memᴰ·head, List·Memᴰ·tail, _≡_, refl, ap, ℕ, zero, suc, _≤_, _<_}
-use Rattle.prelude.specs.Names.{arith, length, getD, getD-take, length-take-le, leb-true, ltb-true, lt-ltb, eqb-false, ne-eqb, not-true}
+use Rattle.prelude.specs.Names.{arith, length, getD, getD-take, length-take-le, leb, leb-true, ltb-true, lt-ltb, eqb-false, ne-eqb, not-true}
 use mathlib.Core.List.{Memᴰ·of-map}
 use Rattle.model.proofs.Below.{and-both, and-intro, below-three}
 use Rattle.model.specs.Admits.{Sound}
 use Rattle.model.specs.Order.{Proper}
 use Rattle.parts.specs.Precedences.{Arc, arc-of, unlagged, names-items, rises, all-allowed}
-use Rattle.parts.specs.Sizes.{positive, all-have-size, no-item}
+use Rattle.parts.specs.Sizes.{max-measure, in-range, size-in-range, all-in-range, no-item}
 use Rattle.parts.specs.declared.Item.{Item}
 use Rattle.parts.specs.declared.Precedence.{Precedence}
 use Rattle.parts.specs.declared.Previous.{Previous}
@@ -15,20 +15,37 @@ use Rattle.parts.specs.declared.Size.{Size}
 use Rattle.instance.specs.Meaning.{measure-on, precedence-of, problem-of}
 use Rattle.instance.specs.Valid.{valid, items-of, precedences-of}
 use Rattle.instance.specs.declared.Instance.{Instance}
+use Rattle.instance.proofs.Sheets.{valid-says}
 use Rattle.model.specs.Problem as M
 
-positive-measures : (s : Size) → positive s ≡ true → (a : ℕ) → a < 3 → 1 ≤ measure-on a s
-unfolding positive
-positive-measures s h =
-    let q = and-both _ _ h in
-    let r = and-both _ _ (q .1) in
-    below-three (λ a. 1 ≤ measure-on a s) (leb-true _ _ (q .0)) (leb-true _ _ (r .0)) (leb-true _ _ (r .1))
+range-measures : (s : Size) → size-in-range s ≡ true → (a : ℕ) → a < 3 → (1 ≤ measure-on a s) × (measure-on a s ≤ max-measure)
+unfolding size-in-range in-range
+range-measures s h =
+    let (w, r) = and-both (in-range (s .width)) _ h in
+    let (d, t) = and-both (in-range (s .depth)) _ r in
+    below-three (λ a. (1 ≤ measure-on a s) × (measure-on a s ≤ max-measure)) (both (s .width) w) (both (s .depth) d) (both (s .shifts) t)
+  where
+    both : (v : ℕ) → in-range v ≡ true → (1 ≤ v) × (v ≤ max-measure)
+    both v h = let (a, b) = and-both (leb 1 v) (leb v max-measure) h in (leb-true _ _ a, leb-true _ _ b)
 
-sizes-positive : (l : List Item) → all-have-size l ≡ true → (u : ℕ) → u < length l → positive (getD l u no-item .size) ≡ true
-unfolding all-have-size
-sizes-positive [] h u g = absurd (omega arith)
-sizes-positive (i ∷ l) h zero g = and-both _ _ h .0
-sizes-positive (i ∷ l) h (suc u) g = sizes-positive l (and-both (positive (i .size)) (all-have-size l) h .1) u (omega arith)
+range-at : (l : List Item) → all-in-range l ≡ true → (u : ℕ) → u < length l → size-in-range (getD l u no-item .size) ≡ true
+unfolding all-in-range
+range-at [] h u g = absurd (omega arith)
+range-at (i ∷ l) h zero g = and-both _ _ h .0
+range-at (i ∷ l) h (suc u) g = range-at l (and-both (size-in-range (i .size)) (all-in-range l) h .1) u (omega arith)
+
+-- the measures of a valid instance are from 1 to the greatest
+module _ (i : Instance) (h : valid i ≡ true) where
+  pub container-measures : (a : ℕ) → a < 3 → measure-on a (i .container) ≤ max-measure
+  container-measures a la = range-measures (i .container) (valid-says i h .container-in-range) a la .1
+
+  pub item-measures : length (i .items) ≡ 10 → (a u : ℕ) → a < 3 → u < i .«item_count»
+      → let m = measure-on a (getD (i .items) u no-item .size) in (1 ≤ m) × (m ≤ max-measure)
+  item-measures long a u la lu =
+      let says = valid-says i h in
+      let n = i .«item_count» in
+      let size = range-at (items-of i) (says .items-in-range) u (rw (length-take-le n (i .items) (omega (arith, says .items-few))) lu) in
+      range-measures _ (rw (getD-take n (i .items) u no-item lu) at size) a la
 
 -- a precedence that is allowed names two items
 names-proper : (n : ℕ) (o : Arc) → names-items n o ≡ true → Proper n M.time (o .predecessor) (o .successor)
@@ -58,28 +75,10 @@ allowed-wide n h last (o ∷ os) e =
     and-intro (and-intro (and-intro (lt-ltb (o .predecessor) 10 (omega arith)) (and-intro below (ap not (ne-eqb _ _ (p .distinct))))) (r .1))
     (allowed-wide n h (Was (unlagged o)) os (q .1))
 
--- validity taken apart
-pub valid-parts : (i : Instance) → valid i ≡ true
-    → (i .«item_count» ≤ 10) × (i .«precedence_count» ≤ 90) × (all-have-size (items-of i) ≡ true)
-    × (all-allowed (i .«item_count») Nothing (map arc-of (precedences-of i)) ≡ true)
-unfolding valid
-valid-parts i h =
-    let q = and-both _ _ h in
-    let r = and-both _ _ (q .1) in
-    let sizes = all-have-size (items-of i) in
-    let allowed = all-allowed (i .«item_count») Nothing (map arc-of (precedences-of i)) in
-    let s = and-both sizes allowed (and-both (positive (i .container)) (sizes && allowed) (r .1) .1) in
-    (leb-true _ _ (q .0), leb-true _ _ (r .0), s .0, s .1)
-
 pub valid-sound : (i : Instance) → valid i ≡ true → length (i .items) ≡ 10 → Sound (problem-of i)
 unfolding problem-of
-valid-sound i h long =
-    let (limited, many, σ, τ) = valid-parts i h in
-    let n = i .«item_count» in
-    record {
-      limited = limited;
-      positive = λ a u la lu.
-          let size = sizes-positive (items-of i) σ u (rw (length-take-le n (i .items) (omega arith)) lu) in
-          positive-measures _ (rw (getD-take n (i .items) u no-item lu) at size) a la;
-      named = λ o m. let (x, mem, e) = Memᴰ·of-map precedence-of (precedences-of i) m in rw (← e) (allowed-proper n Nothing τ mem);
-    }
+valid-sound i h long = let says = valid-says i h in record {
+  limited = says .items-few;
+  positive = λ a u la lu. item-measures i h long a u la lu .0;
+  named = λ o m. let (x, mem, e) = Memᴰ·of-map precedence-of (precedences-of i) m in rw (← e) (allowed-proper _ Nothing (says .precedences-allowed) mem);
+}

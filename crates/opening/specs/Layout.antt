@@ -1,13 +1,13 @@
 -- An instance's measures beside the totals of chains.
-use Rattle.prelude.specs.Names.{Bool, true, false, cond, List, [], map, List·Memᴰ, _⊎_, _≡_, ℕ, _+_, _*_, _/_, _%_, _≤_, _<_, ltb, getD, length, set}
-use Rattle.model.specs.Problem.{Problem, gap, time}
+use Rattle.prelude.specs.Names.{Bool, true, false, cond, List, [], map, _⊎_, _≡_, ℕ, _+_, _*_, _/_, _%_, _≤_, _<_, ltb, getD, length, set}
+use Rattle.model.specs.Problem.{Problem, gap}
 use Rattle.model.specs.Wide.{wide}
 use Rattle.model.specs.Toward.{Direction, between}
 use Rattle.parts.specs.declared.Precedence.{Precedence}
 use Rattle.parts.specs.declared.Size.{Size}
-use Rattle.parts.specs.Sizes.{no-precedence}
+use Rattle.parts.specs.Sizes.{max-measure}
 use Rattle.instance.specs.Meaning.{precedence-of}
-use Rattle.chains.specs.Totals.{table-start, table, measure-at, capacity-at, gapped-at, step-at}
+use Rattle.chains.specs.Totals.{Small, table-start, table, measure-at, capacity-at, gapped-at, step-at}
 use Rattle.model.specs.Problem as M
 
 -- a measure at its place, and as the total of both chains of the item alone
@@ -17,14 +17,13 @@ put t i m = set (set (set t i m) (30 + i) m) (60 + i) m
 abbrev pub put-item : List ℕ → ℕ → Size → List ℕ
 put-item t u s = put (put (put t u (s .width)) (10 + u) (s .depth)) (20 + u) (s .shifts)
 
--- numbers of 16 bits
-abbrev pub Small : List ℕ → Type 0
-Small t = (i : ℕ) → getD t i 0 < 65536
+-- no number is above the greatest measure
+abbrev pub Measures : List ℕ → Type 0
+Measures t = (i : ℕ) → getD t i 0 ≤ max-measure
 
 -- the measures of a problem, 0 past its items, with chains of one item each
 pub record LaidOut (p : Problem) (t : List ℕ) : Type 0 where
   pub long : length t ≡ 696
-  pub small : Small t
   pub capacity : (a : ℕ) → a < 3 → capacity-at t a ≡ p .capacity a
   pub size : (a u : ℕ) → a < 3 → u < 10 → measure-at t a u ≡ wide p .size a u
   pub alone : (x a u : ℕ) → Direction x → a < 3 → u < 10 → table t x a u ≡ measure-at t a u
@@ -33,15 +32,6 @@ pub record LaidOut (p : Problem) (t : List ℕ) : Type 0 where
 abbrev pub LargeIf : List ℕ → Bool → Type 0
 LargeIf t true = (a : ℕ) × (u : ℕ) × (a < 3) × (u < 10) × (capacity-at t a < measure-at t a u)
 LargeIf t false = (a u : ℕ) → a < 3 → u < 10 → measure-at t a u ≤ capacity-at t a
-
--- the length on t of a precedence: its items and its lag
-abbrev pub order-length : List ℕ → Precedence → ℕ
-order-length t o = measure-at t 2 (o .predecessor) + o .lag + measure-at t 2 (o .successor)
-
--- one of the first m precedences is longer than the container, or none
-abbrev pub LateIf : List ℕ → List Precedence → ℕ → Bool → Type 0
-LateIf t os m true = (i : ℕ) × (i < m) × (capacity-at t 2 < order-length t (getD os i no-precedence))
-LateIf t os m false = (i : ℕ) → i < m → order-length t (getD os i no-precedence) ≤ capacity-at t 2
 
 -- the row of ten steps at i has the measures on an axis, and all else stays
 pub record RowStepped (i a : ℕ) (t s : List ℕ) : Type 0 where
@@ -65,6 +55,7 @@ put-lag t u v lag =
 -- the measures of a problem with the steps of its chains
 pub record SteppedOut (p : Problem) (t : List ℕ) : Type 0 where
   pub laid : LaidOut p t
+  pub small : Small t
   pub plain : (a u v : ℕ) → a < 3 → u < 10 → v < 10 → gapped-at t a ≡ 0 → gap p a u v ≡ 0
   pub step : (x a v z : ℕ) → Direction x → a < 3 → v < 10 → z < 10 → step-at t (table-start x) a v z ≡ between x p a v z + measure-at t a z
 
@@ -76,13 +67,11 @@ with-precedences p l = record { items = p .items; size = p .size; capacity = p .
 abbrev pub LagsLaid : List Precedence → List ℕ → List ℕ → Type 0
 LagsLaid os t s = (p : Problem) → SteppedOut (with-precedences p []) t → SteppedOut (with-precedences p (map precedence-of os)) s
 
--- an item, or a precedence with its lag, is longer than the container
-pub data TooLarge (p : Problem) : Type 0 where
-  item : (a u : ℕ) → a < 3 → u < p .items → p .capacity a < p .size a u → TooLarge p
-  order : (o : M.Precedence) → List·Memᴰ o (p .precedences)
-      → p .capacity time < p .size time (o .predecessor) + o .lag + p .size time (o .successor) → TooLarge p
+-- an item is above the container's measure
+abbrev pub LargeItem : Problem → Type 0
+LargeItem p = (a : ℕ) × (u : ℕ) × (a < 3) × (u < p .items) × (p .capacity a < p .size a u)
 
--- all of a problem is laid out and fits, each alone; or something is too large
+-- all of a problem is laid out and each item alone fits; or one does not
 abbrev pub FitsIf : Problem → List ℕ → Bool → Type 0
 FitsIf p t true = SteppedOut p t × LargeIf t false
-FitsIf p t false = TooLarge p
+FitsIf p t false = LargeItem p

@@ -6,11 +6,11 @@ ghost use Prim.Native.Nat.{_+_, _≤_, _<_};
 ghost use lib.ListN.{getD, length, take, replicate};
 ghost use Rattle.sheet.specs.Sheet.{max-precedences};
 ghost use Rattle.parts.specs.Precedences.{arc-of, all-allowed};
+ghost use Rattle.parts.specs.Sizes.{max-measure};
 ghost use Rattle.parts.specs.declared.Previous.{Previous};
 ghost use Rattle.instance.specs.Valid.{valid};
 ghost use Rattle.instance.specs.Meaning.{problem-of};
-ghost use Rattle.opening.specs.Layout.{put, put-item, Small, LaidOut, LargeIf, order-length, LateIf};
-ghost use Rattle.opening.specs.Layout.{RowStepped, Stepped, put-lag, LagsLaid, FitsIf};
+ghost use Rattle.opening.specs.Layout.{put, put-item, Measures, LaidOut, LargeIf, RowStepped, Stepped, put-lag, LagsLaid, FitsIf};
 use chains::totals::CAPACITY;
 use chains::totals::GAPPED;
 use chains::totals::SIZES;
@@ -32,10 +32,10 @@ fn put_size(t: &mut [u16; TOTALS], i: usize, size: u16)
     t[SIZES + i] = size;
 }
 
-// The measures of an item, which are numbers of 16 bits.
+// The measures of an item.
 fn put_item(t: &mut [u16; TOTALS], u: usize, size: Size)
     requires { ⌜ (length (now t) ≡ 696) × (u < 10) ⌝ }
-    ensures { λ _. ⌜ (now (t .exit) ≡ put-item (now (t .entry)) u size) × (size .width < 65536) × (size .depth < 65536) × (size .shifts < 65536) ⌝ }
+    ensures { λ _. ⌜ now (t .exit) ≡ put-item (now (t .entry)) u size ⌝ }
 {
     put_size(t, u, size.width);
     put_size(t, 10 + u, size.depth);
@@ -44,8 +44,8 @@ fn put_item(t: &mut [u16; TOTALS], u: usize, size: Size)
 
 // The measures of an instance, 0 past its items, with chains of one item each.
 fn put_items(t: &mut [u16; TOTALS], instance: Instance)
-    requires { ⌜ (now t ≡ replicate 696 0) × (instance .«item_count» ≤ 10) ⌝ }
-    ensures { λ _. ⌜ LaidOut (problem-of instance) (now (t .exit)) ⌝ }
+    requires { ⌜ (now t ≡ replicate 696 0) × (valid instance ≡ true) ⌝ }
+    ensures { λ _. ⌜ LaidOut (problem-of instance) (now (t .exit)) × Measures (now (t .exit)) ⌝ }
 {
     let n = instance.item_count;
     let items = instance.items;
@@ -69,36 +69,6 @@ fn any_large(t: &[u16; TOTALS]) -> bool
     let mut i: usize = 0;
     while i < ROWS {
         if t[CAPACITY + i / 10] < t[SIZES + i] {
-            return true;
-        }
-        i = i + 1;
-    }
-    false
-}
-
-// The length on t of a precedence: its items and its lag.
-fn order_len(t: &[u16; TOTALS], o: Precedence) -> u32
-    requires { ⌜ (length (now t) ≡ 696) × Small (now t) × (o .predecessor < 10) × (o .successor < 10) ⌝ }
-    ensures { λ r. ⌜ r ≡ order-length (now (t .entry)) o ⌝ }
-{
-    let u = o.predecessor as usize;
-    let v = o.successor as usize;
-    t[SIZES + 20 + u] as u32 + o.lag as u32 + t[SIZES + 20 + v] as u32
-}
-
-// Whether one of the first m precedences is longer than the container.
-fn any_late(
-    t: &[u16; TOTALS],
-    precedences: [Precedence; Instance::MAX_PRECEDENCES],
-    m: usize,
-) -> bool
-    requires { ⌜ (length (now t) ≡ 696) × Small (now t) ⌝ }
-    requires { ⌜ (m ≤ max-precedences) × (all-allowed 10 Previous.Nothing (map arc-of (take m precedences)) ≡ true) ⌝ }
-    ensures { λ r. ⌜ LateIf (now (t .entry)) precedences m r ⌝ }
-{
-    let mut i: usize = 0;
-    while i < m {
-        if order_len(t, precedences[i]) > t[CAPACITY + 2] as u32 {
             return true;
         }
         i = i + 1;
@@ -131,13 +101,13 @@ fn put_steps(t: &mut [u16; TOTALS])
 }
 
 // The lag of two items on t, from either end, where it is the greatest of theirs so far.
-fn put_lag(t: &mut [u16; TOTALS], u: usize, v: usize, lag: u16)
-    requires { ⌜ (length (now t) ≡ 696) × (u < 10) × (v < 10) × (getD (now t) (80 + u) 0 + lag + getD (now t) (80 + v) 0 < 65536) ⌝ }
-    ensures { λ _. ⌜ now (t .exit) ≡ put-lag (now (t .entry)) u v lag ⌝ }
+fn put_lag(t: &mut [u16; TOTALS], u: usize, v: usize, lag: u8)
+    requires { ⌜ (length (now t) ≡ 696) × (u < 10) × (v < 10) × (getD (now t) (80 + u) 0 ≤ max-measure) × (getD (now t) (80 + v) 0 ≤ max-measure) ⌝ }
+    ensures { λ _. ⌜ (now (t .exit) ≡ put-lag (now (t .entry)) u v lag) × (lag ≤ 255) ⌝ }
 {
     let ends = STEPS + (20 + u) * 10 + v;
-    let onto = t[SIZES + 20 + v] + lag;
-    let back = t[SIZES + 20 + u] + lag;
+    let onto = t[SIZES + 20 + v] + lag as u16;
+    let back = t[SIZES + 20 + u] + lag as u16;
     if t[ends] < onto {
         t[ends] = onto;
         t[STEPS + (50 + v) * 10 + u] = back;
@@ -148,24 +118,19 @@ fn put_lag(t: &mut [u16; TOTALS], u: usize, v: usize, lag: u16)
 // The lags of the first m precedences, where no lag was put yet.
 fn put_lags(t: &mut [u16; TOTALS], precedences: [Precedence; Instance::MAX_PRECEDENCES], m: usize)
     requires { ⌜ (length (now t) ≡ 696) × (m ≤ max-precedences) × (all-allowed 10 Previous.Nothing (map arc-of (take m precedences)) ≡ true) ⌝ }
-    requires { ⌜ LateIf (now t) precedences m false × Small (now t) ⌝ }
+    requires { ⌜ Measures (now t) ⌝ }
     ensures { λ _. ⌜ LagsLaid (take m precedences) (now (t .entry)) (now (t .exit)) ⌝ }
 {
     let mut i: usize = 0;
     while i < m {
         let o = precedences[i];
-        put_lag(
-            t,
-            o.predecessor as usize,
-            o.successor as usize,
-            o.lag as u16,
-        );
+        put_lag(t, o.predecessor as usize, o.successor as usize, o.lag);
         i = i + 1;
     }
 }
 
-// Lays an instance out, in an array of zeros: its measures with the steps of its chains. The answer is false where an item, or a precedence with its
-// lag, is longer than the container.
+// Lays an instance out, in an array of zeros: its measures with the steps of its chains. The answer is false where an item is above the container's
+// measure.
 pub fn lay_out(t: &mut [u16; TOTALS], instance: Instance) -> bool
     requires { ⌜ (now t ≡ replicate 696 0) × (valid instance ≡ true) ⌝ }
     ensures { λ r. ⌜ FitsIf (problem-of instance) (now (t .exit)) r ⌝ }
@@ -174,9 +139,6 @@ pub fn lay_out(t: &mut [u16; TOTALS], instance: Instance) -> bool
     let m = instance.precedence_count;
     put_items(t, instance);
     if any_large(t) {
-        return false;
-    }
-    if any_late(t, precedences, m) {
         return false;
     }
     put_steps(t);

@@ -1,7 +1,7 @@
 -- The parts of a sheet have their laws; what may be written of each, and how many bytes it has at most.
 use Rattle.prelude.specs.Names.{_≡_, refl, sym, _∙_, Bool, true, false, not, cond, _&&_, _||_, and-true, and-false, Bool·not-not, List, [], _∷_}
 use Rattle.prelude.specs.Names.{ℕ, zero, suc, _/_, _%_, _≤_, arith, decLe, replicate, length-replicate}
-use Rattle.prelude.specs.Names.{ℕ-discrete, eqb, eqb·suc-zero, leb, length, length-append, eqb-true, eq-eqb, ne-eqb, leb-false, le-leb, lt-leb, not-true}
+use Rattle.prelude.specs.Names.{ℕ-discrete, eqb, eqb·suc-zero, leb, ltb, length, length-append, eqb-true, eq-eqb, ne-eqb, leb-false, le-leb, lt-leb, lt-ltb, le-ltb, not-true}
 use lib.Dec.{eqb·suc-suc}
 use Rattle.formats.specs.Formats.{byte, word, pair, converted, tested, passes-all, keyed, row-bytes, row-valid, row}
 use Rattle.formats.specs.Fields.{optional-bytes, optional-valid, fields-bytes, fields-valid, fields, map-byte, with-map}
@@ -9,7 +9,7 @@ use Rattle.formats.proofs.Laws.{Lawful, both-true, byte-lawful, word-lawful, pa
 use Rattle.formats.proofs.Maps.{OptionalLaws, FieldsLaws, with-map-lawful, with-map-valid}
 use Rattle.parts.specs.declared.Item.{Item}
 use Rattle.parts.specs.declared.Previous.{Previous}
-use Rattle.parts.specs.Sizes.{positive}
+use Rattle.parts.specs.Sizes.{in-range, size-in-range}
 use Rattle.parts.specs.Precedences.{Arc, names-items, rises}
 use Rattle.parts.specs.Parts.{number, measure, measures, item-fields, item, precedence, precedence-tests, lags-zero, lag-row, lag-list}
 
@@ -22,9 +22,18 @@ number-laws default = record {
   apart = λ v h. ne-eqb v default (λ q. omega (arith, leb-false v default (not-true _ (both-true (not (leb v default)) true h .0))));
 }
 
+pub measure-laws : OptionalLaws measure
+unfolding measure number tested passes-all word
+measure-laws = let φ = number-laws 1 in record {
+  lawful = tested-lawful word-lawful _;
+  out = φ .out;
+  only = φ .only;
+  apart = λ v h. φ .apart v (rw (both-true (not (leb v 1)) _ h .0));
+}
+
 pub item-fields-laws : FieldsLaws item-fields
-unfolding item-fields measures measure
-item-fields-laws = search number-laws depth 12
+unfolding item-fields measures
+item-fields-laws = search measure-laws depth 12
 
 pub item-lawful : Lawful item
 unfolding item item-fields measures
@@ -45,9 +54,22 @@ number-valid default v = elim (decLe default v) [
   | no k ↦ simp (ne-eqb v default (omega arith), le-leb v default (omega arith), lt-leb default v (omega arith))
 ]
 
-pub item-valid : (i : Item) → item .valid i ≡ positive (i .size)
-unfolding item item-fields measures measure fields-valid positive
-item-valid i = with-map-valid item-fields i ∙ simp (number-valid, and-true)
+-- not above is at most
+pub not-ltb : (a b : ℕ) → not (ltb a b) ≡ leb b a
+not-ltb a b = elim (decLe b a)
+    [ yes l ↦ rw (le-ltb a b l, le-leb b a l) | no k ↦ rw (lt-ltb a b (omega arith), lt-leb b a (omega arith)) ]
+
+-- a measure from 1 to the greatest
+pub measure-valid : (v : ℕ) → optional-valid measure v ≡ in-range v
+unfolding optional-valid measure number tested passes-all word in-range
+measure-valid v = elim (ℕ-discrete v 1) [
+  | yes q ↦ rw q
+  | no n ↦ let p : not (leb v 1) ≡ leb 1 v = simp (ne-eqb v 1 n, and-true) at (number-valid 1 v) in simp (ne-eqb v 1 n, not-ltb, and-true, p)
+]
+
+pub item-valid : (i : Item) → item .valid i ≡ size-in-range (i .size)
+unfolding item item-fields measures fields-valid size-in-range
+item-valid i = with-map-valid item-fields i ∙ simp (measure-valid, and-true)
 
 -- a precedence is allowed where it passes its tests
 pub precedence-valid : (n : ℕ) (last : Previous) (a : Arc)
@@ -61,11 +83,15 @@ unfolding optional-bytes number tested word
 number-most default v =
     elim (eqb v default) as (λ b. length {A = ℕ} (cond b [] (v % 256 ∷ v / 256 ∷ [])) ≤ 2) [ true ↦ omega arith | false ↦ omega arith ]
 
+pub measure-most : (v : ℕ) → length (optional-bytes measure v) ≤ 2
+unfolding optional-bytes measure number tested
+measure-most = number-most 1
+
 -- a map byte and three measures
 pub item-most : (i : Item) → length (item .bytes i) ≤ 7
-unfolding item item-fields measures measure with-map map-byte keyed tested byte fields fields-bytes
+unfolding item item-fields measures with-map map-byte keyed tested byte fields fields-bytes
 item-most i =
-    simp length-append (omega (arith, number-most 1 (i .size .width), number-most 1 (i .size .depth), number-most 1 (i .size .shifts)))
+    simp length-append (omega (arith, measure-most (i .size .width), measure-most (i .size .depth), measure-most (i .size .shifts)))
 
 -- so many lags that are all 0 are the lags that are left out
 zeros : (m : ℕ) (gs : List ℕ) → length gs ≡ m → lags-zero gs ≡ true → replicate m 0 ≡ gs

@@ -2,13 +2,14 @@
 use Rattle.prelude.specs.Names.{_≡_, refl, ap, _∙_, Bool, true, false, cond, not, _||_, List, [], _∷_, ℕ, _+_, _*_, arith, eqb, leb, ltb, length, getD}
 use Rattle.prelude.specs.Names.{zero, suc, add-zero, take, drop, replicate, le-ltb, lt-ltb}
 use lib.Dec.{leb·suc-suc}
-use Rattle.refusal.specs.declared.Refusal.the-variants.{EndsEarly, UnknownBit, WrittenDefault, BadCount, BadItem, NotRising, NoLag}
+use Rattle.refusal.specs.declared.Refusal.the-variants.{EndsEarly, UnknownBit, WrittenDefault, BadCount, BadItem, NotRising, NoLag, TooLarge}
 use Rattle.formats.specs.Reading.{Reading, Read, due, got, refused, run, read-as, _>>=_}
 use Rattle.formats.specs.Formats.{byte, word, pair, converted, testing, tested, keyed, row-reading, row, count}
 use Rattle.formats.specs.Fields.{optional-reading, is-set, fields-reading, fields, map-byte, with-map}
 use Rattle.formats.proofs.Run.{after, after-after, cond-after, run-then, read-as-cond}
 use Rattle.parts.specs.declared.Size.{Size}
 use Rattle.parts.specs.declared.Previous.{Previous}
+use Rattle.parts.specs.Sizes.{max-measure}
 use Rattle.parts.specs.Precedences.{Arc, unlagged, names-items, rises}
 use Rattle.parts.specs.Parts.{number, measure, count-field, measures, size-fields, item-fields, item, precedence, precedence-tests, lags-zero, lag-row}
 use Rattle.parts.specs.Parts.{lag-list}
@@ -34,6 +35,13 @@ pub number-run : (default at : ℕ) (present : Bool) (rest : List ℕ) → run (
 unfolding number tested testing word run _>>=_
 number-run default at true rest = two-due _ at rest
 number-run default at false rest = refl
+
+-- a measure is such a number that passes one test more
+pub measure-run : (at : ℕ) (present : Bool) (rest : List ℕ) → run (optional-reading measure present) at rest
+    ≡ after (run (optional-reading (number 1) present) at rest) λ v at₁ rest₁. cond (ltb max-measure v) (refused (TooLarge at)) (got v at₁ rest₁)
+unfolding measure number tested testing word run _>>=_
+measure-run at true rest = rw (number-run 1 at true rest) (two-due _ at rest ∙ simp cond-after)
+measure-run at false rest = refl
 
 pub count-run : (limit at : ℕ) (present : Bool) (rest : List ℕ) → run (optional-reading (count-field limit) present) at rest
     ≡ (let n = getD rest 0 0 in cond (not present) (got 0 at rest) (cond (ltb (length rest) 1) (refused (EndsEarly at))

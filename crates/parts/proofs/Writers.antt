@@ -10,7 +10,7 @@ use Rattle.parts.specs.Parts.{number, measure, measures, size-fields, it
 module _ (s : Size) where
   pub size-bytes : fields-bytes size-fields s
       ≡ optional-bytes (number 1) (s .width) ++ (optional-bytes (number 1) (s .depth) ++ optional-bytes (number 1) (s .shifts))
-  unfolding size-fields measures measure fields-bytes
+  unfolding size-fields measures measure number fields-bytes optional-bytes tested
   size-bytes = rw append-nil
 
   pub size-length : length (fields-bytes size-fields s)

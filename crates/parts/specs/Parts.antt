@@ -1,24 +1,32 @@
 -- The parts of a sheet as formats (document 01, "Sheet bytes").
-use Rattle.prelude.specs.Names.{ℕ, suc, true, not, cond, _&&_, Bool, List, [], _∷_, eqb, leb, length, replicate}
-use Rattle.refusal.specs.declared.Refusal.the-variants.{WrittenDefault, BadItem, NotRising, NoLag}
+use Rattle.prelude.specs.Names.{ℕ, suc, true, not, cond, _&&_, Bool, List, [], _∷_, eqb, leb, ltb, length, replicate}
+use Rattle.refusal.specs.declared.Refusal.the-variants.{WrittenDefault, BadItem, NotRising, NoLag, TooLarge}
 use Rattle.formats.specs.Formats.{Format, Test, byte, word, pair, converted, tested, row, count}
 use Rattle.formats.specs.Fields.{Optional, Fields, made, field, with-map}
 use Rattle.parts.specs.declared.Size.{Size}
 use Rattle.parts.specs.declared.Item.{Item}
 use Rattle.parts.specs.declared.Previous.{Previous}
+use Rattle.parts.specs.Sizes.{max-measure}
 use Rattle.parts.specs.Precedences.{Arc, names-items, rises}
 
 -- a two-byte field that is left out for its default; 3: a value not above that is never written
+abbrev pub low-test : ℕ → ℕ → Test
+low-test default v = record { fault = leb v default; refusal = WrittenDefault }
+
 unfoldable pub number : ℕ → Optional ℕ
 number default = record {
   default = default;
   left-out = λ v. eqb v default;
-  written = tested word λ v. record { fault = leb v default; refusal = WrittenDefault } ∷ [];
+  written = tested word λ v. low-test default v ∷ [];
 }
 
--- "2 bytes each; left out means 1"; 3: "a written measure of 0 or 1"
+-- 3: "a written measure of 0 or 1"; 12: "a written measure above 4,095 .. after 3"
+abbrev pub measure-tests : ℕ → List Test
+measure-tests v = low-test 1 v ∷ record { fault = ltb max-measure v; refusal = TooLarge } ∷ []
+
+-- "2 bytes each; left out means 1"
 unfoldable pub measure : Optional ℕ
-measure = number 1
+measure = record { default = 1; left-out = λ v. eqb v 1; written = tested word measure-tests }
 
 -- the count before a row of parts; left out for none
 unfoldable pub count-field : ℕ → Optional ℕ

@@ -1,16 +1,23 @@
--- Measures of at least 1, and blank entries.
-use Rattle.prelude.specs.Names.{Bool, true, _&&_, List, [], _∷_, leb}
+-- Measures, and blank entries.
+use Rattle.prelude.specs.Names.{Bool, true, _&&_, List, [], _∷_, ℕ, leb}
 use Rattle.parts.specs.declared.Size.{Size}
 use Rattle.parts.specs.declared.Item.{Item}
 use Rattle.parts.specs.declared.Precedence.{Precedence}
 
--- "Measures are 1 to 65,535": none is 0
-unfoldable pub positive : Size → Bool
-positive s = leb 1 (s .width) && (leb 1 (s .depth) && leb 1 (s .shifts))
+-- "Make 4,095 the greatest measure of halls and pieces" (document 02, #104; document 01 has 65,535)
+abbrev pub max-measure : ℕ
+max-measure = 4095
 
-unfoldable pub all-have-size : List Item → Bool
-all-have-size [] = true
-all-have-size (i ∷ is) = positive (i .size) && all-have-size is
+-- "Measures are 1 to .."
+unfoldable pub in-range : ℕ → Bool
+in-range v = leb 1 v && leb v max-measure
+
+unfoldable pub size-in-range : Size → Bool
+size-in-range s = in-range (s .width) && (in-range (s .depth) && in-range (s .shifts))
+
+unfoldable pub all-in-range : List Item → Bool
+all-in-range [] = true
+all-in-range (i ∷ is) = size-in-range (i .size) && all-in-range is
 
 -- "reading leaves them 0": entries that are no part of an instance
 abbrev pub no-item : Item

@@ -6,6 +6,9 @@ pub mod read;
 pub mod valid;
 pub mod write;
 
+// "Make 4,095 the greatest measure of halls and pieces": `Instance` has it as its own.
+pub const MAX_MEASURE: u16 = 4095;
+
 // The measures of the container or of an item.
 pub struct Size {
     pub width: u16,

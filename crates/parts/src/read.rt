@@ -49,12 +49,20 @@ pub fn read_field(rest: &[u8], at: usize, present: bool, default: u16) -> FieldR
     FieldRead::Value(v, 2)
 }
 
-// A measure; left out it means 1.
+// A measure, up to the greatest; left out it means 1.
 pub fn read_measure(rest: &[u8], at: usize, present: bool) -> FieldRead
     requires { ⌜ PlacesFit at (now rest) ⌝ }
     ensures { λ r. ⌜ run (optional-reading measure present) at (now (rest .entry)) ≡ field-read at (now (rest .entry)) r ⌝ }
 {
-    read_field(rest, at, present, 1)
+    match read_field(rest, at, present, 1) {
+        FieldRead::Refused(e) => FieldRead::Refused(e),
+        FieldRead::Value(v, used) => {
+            if crate::MAX_MEASURE < v {
+                return FieldRead::Refused(Refusal::TooLarge(at));
+            }
+            FieldRead::Value(v, used)
+        }
+    }
 }
 
 // Width, depth and shifts, by bits 0, 1 and 2 of `map`.

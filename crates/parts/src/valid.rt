@@ -1,25 +1,32 @@
 // When a part may be on a sheet.
 ghost use mathlib.Core.Path.{_≡_};
 ghost use Rattle.parts.specs.Precedences.{arc-of, names-items, rises};
-ghost use Rattle.parts.specs.Sizes.{positive};
+ghost use Rattle.parts.specs.Sizes.{in-range, size-in-range};
 use crate::Precedence;
 use crate::Previous;
 use crate::Size;
 
-// No measure is 0.
-pub fn is_positive(size: Size) -> bool
-    ensures { λ r. ⌜ r ≡ positive size ⌝ }
+// A measure is from 1 to the greatest.
+fn in_range(v: u16) -> bool
+    ensures { λ r. ⌜ r ≡ in-range v ⌝ }
 {
-    if size.width < 1 {
+    if v < 1 {
         return false;
     }
-    if size.depth < 1 {
+    v <= crate::MAX_MEASURE
+}
+
+// All three measures are.
+pub fn size_in_range(size: Size) -> bool
+    ensures { λ r. ⌜ r ≡ size-in-range size ⌝ }
+{
+    if !in_range(size.width) {
         return false;
     }
-    if size.shifts < 1 {
+    if !in_range(size.depth) {
         return false;
     }
-    true
+    in_range(size.shifts)
 }
 
 // Both are among n items, and they differ.

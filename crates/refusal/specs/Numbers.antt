@@ -1,8 +1,8 @@
--- The number and the place of each refusal (document 01, "Refusals": the columns "Number" and "What is returned"; 11 is from document 02, #101).
+-- The number and the place of each refusal (document 01, "Refusals": the columns "Number" and "What is returned"; 11 and 12 are from document 02).
 use Rattle.prelude.specs.Names.{ℕ}
 use Rattle.refusal.specs.declared.Refusal.{Refusal}
 use Rattle.refusal.specs.declared.Refusal.the-variants.{EndsEarly, UnknownBit, WrittenDefault, BadCount, BadItem, NotRising, TrailingBytes}
-use Rattle.refusal.specs.declared.Refusal.the-variants.{BadArgument, InvalidInstance, NotFollowing, NoLag}
+use Rattle.refusal.specs.declared.Refusal.the-variants.{BadArgument, InvalidInstance, NotFollowing, NoLag, TooLarge}
 
 abbrev pub number-of : Refusal → ℕ
 number-of (EndsEarly place) = 1
@@ -16,6 +16,7 @@ number-of BadArgument = 8
 number-of InvalidInstance = 9
 number-of NotFollowing = 10
 number-of (NoLag place) = 11
+number-of (TooLarge place) = 12
 
 abbrev pub place-of : Refusal → ℕ
 place-of (EndsEarly place) = place
@@ -29,3 +30,4 @@ place-of BadArgument = 0
 place-of InvalidInstance = 0
 place-of NotFollowing = 0
 place-of (NoLag place) = place
+place-of (TooLarge place) = place

@@ -25,6 +25,8 @@ pub enum Refusal {
     NotFollowing,
     // 11: a lag field in which no lag is above 0
     NoLag(usize),
+    // 12: a written measure above the greatest
+    TooLarge(usize),
 }
 
 impl Refusal {
@@ -43,6 +45,7 @@ impl Refusal {
             Refusal::InvalidInstance => 9,
             Refusal::NotFollowing => 10,
             Refusal::NoLag(_) => 11,
+            Refusal::TooLarge(_) => 12,
         }
     }
 
@@ -61,6 +64,7 @@ impl Refusal {
             Refusal::InvalidInstance => 0,
             Refusal::NotFollowing => 0,
             Refusal::NoLag(place) => place,
+            Refusal::TooLarge(place) => place,
         }
     }
 }

@@ -93,7 +93,7 @@ search-result i c budget = result-if (valid i) (problem-of i) c budget
 
 -- The table's conditions for a call in values, in their order
 pub data SearchFault (i : Instance) (c : Checkpoint) (n : ℕ) : Type 0 where
-  -- 9: "a sheet value with over 10 pieces, over 90 orders, a measure 0, or an order that would get 5 or 6"
+  -- 9: "a sheet value with over 10 pieces, over 90 orders, a measure 0, or an order that would get 5 or 6"; or a measure above 4,095
   nine : valid i ≡ false → n ≡ 9 → SearchFault i c n
   -- 10: "a note that doesn't follow its sheet"
   ten : valid i ≡ true → (Following (problem-of i) c → ⊥) → n ≡ 10 → SearchFault i c n

@@ -1,6 +1,7 @@
 -- The byte examples of documents 01 and 02, and more for the limits and the order of the fields.
 use Rattle.prelude.specs.Names.{_≡_, List, [], _∷_, ℕ, length}
 use Rattle.refusal.specs.declared.Refusal.the-variants.{EndsEarly, UnknownBit, WrittenDefault, BadCount, BadItem, NotRising, TrailingBytes, NoLag}
+use Rattle.refusal.specs.declared.Refusal.the-variants.{TooLarge}
 use Rattle.formats.specs.Reading.{Read, got, refused, run}
 use Rattle.formats.specs.Formats.{whole}
 use Rattle.parts.specs.declared.Size.{Size}
@@ -41,6 +42,9 @@ readings :
     -- the hall's measures alone; the yard number alone
     × Means (0x07 ∷ 2 ∷ 0 ∷ 3 ∷ 0 ∷ 4 ∷ 0 ∷ []) (sheet-of (size-of 2 3 4) [] [] 0 [])
     × Means (0x20 ∷ 1 ∷ 0 ∷ []) (sheet-of (size-of 1 1 1) [] [] 1 [])
+    -- the greatest measure; the yard number 65,535
+    × Means (0x0C ∷ 255 ∷ 15 ∷ 1 ∷ 0x01 ∷ 255 ∷ 15 ∷ []) (sheet-of (size-of 1 1 4095) (item-of 4095 1 1 ∷ []) [] 0 [])
+    × Means (0x20 ∷ 255 ∷ 255 ∷ []) (sheet-of (size-of 1 1 1) [] [] 65535 [])
     -- all written, and no two alike
     × Means
     (0x7F ∷ 2 ∷ 1 ∷ 3 ∷ 0 ∷ 4 ∷ 0 ∷ 2 ∷ 0x07 ∷ 5 ∷ 0 ∷ 6 ∷ 0 ∷ 7 ∷ 0 ∷ 0x07 ∷ 8 ∷ 0 ∷ 9 ∷ 0 ∷ 11 ∷ 10
@@ -85,5 +89,12 @@ refusals :
     × (read (0x58 ∷ 2 ∷ 0 ∷ 0 ∷ 2 ∷ 0 ∷ 1 ∷ 1 ∷ 0 ∷ 0 ∷ 0 ∷ []) ≡ refused (NoLag 9))
     × (read (0x58 ∷ 2 ∷ 0 ∷ 0 ∷ 2 ∷ 0 ∷ 1 ∷ 1 ∷ 0 ∷ 0 ∷ 0 ∷ 9 ∷ []) ≡ refused (NoLag 9))
     × (read (0x58 ∷ 2 ∷ 0 ∷ 0 ∷ 2 ∷ 0 ∷ 1 ∷ 1 ∷ 0 ∷ 0 ∷ []) ≡ refused (EndsEarly 10))
+    -- 12: a width of 4,096; shifts of 65,535 after a width of 4,095; a piece's depth of 4,096. 1: its high byte is missing; 3: a field before it
+    × (read (0x01 ∷ 0 ∷ 16 ∷ []) ≡ refused (TooLarge 1))
+    × (read (0x05 ∷ 255 ∷ 15 ∷ 255 ∷ 255 ∷ []) ≡ refused (TooLarge 3))
+    × (read (0x08 ∷ 1 ∷ 0x02 ∷ 0 ∷ 16 ∷ []) ≡ refused (TooLarge 3))
+    × (read (0x01 ∷ 0 ∷ []) ≡ refused (EndsEarly 2))
+    × (read (0x03 ∷ 1 ∷ 0 ∷ 0 ∷ 16 ∷ []) ≡ refused (WrittenDefault 1))
+    × (read (0x03 ∷ 0 ∷ 16 ∷ 1 ∷ 0 ∷ []) ≡ refused (TooLarge 1))
 unfolding sheet-computing
 refusals = search

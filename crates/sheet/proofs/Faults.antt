@@ -1,29 +1,30 @@
 -- "Reading goes left to right and gives the first fault; at one place the lower number": what reading a sheet gives, by the faults of its bytes.
 use Rattle.prelude.specs.Names.{_≡_, refl, sym, _∙_, Bool, true, false, not, cond, false≢true, and-false, Bool·not-not, List, [], _⊎_, inl, inr, _↔_}
-use Rattle.prelude.specs.Names.{Iff·rfl, ℕ, zero, suc, _+_, _*_, _≤_, _<_, arith, decLe, decLt, add-zero, add-assoc, eq-or-lt-of-le, eqb, leb, length}
-use Rattle.prelude.specs.Names.{getD, drop, eqb-true, eq-eqb, ne-eqb, lt-ltb, le-ltb, leb-true, le-leb}
+use Rattle.prelude.specs.Names.{Iff·rfl, ℕ, zero, suc, _+_, _*_, _≤_, _<_, arith, decLe, decLt, add-zero, add-assoc, eq-or-lt-of-le, eqb, leb, ltb, length}
+use Rattle.prelude.specs.Names.{getD, drop, eqb-true, eq-eqb, ne-eqb, lt-ltb, ltb-true, le-ltb, leb-true, le-leb}
 use lib.Seq.{drop-length}
 use Rattle.refusal.specs.declared.Refusal.{Refusal}
-use Rattle.refusal.specs.declared.Refusal.the-variants.{WrittenDefault, BadItem, NotRising, NoLag}
+use Rattle.refusal.specs.declared.Refusal.the-variants.{WrittenDefault, BadItem, NotRising, NoLag, TooLarge}
 use Rattle.formats.specs.Reading.{got, refused, run, _>>=_}
 use Rattle.formats.specs.Formats.{up-to, Format, Test, byte, word, pair, converted, testing, tested, keyed, row, count, counted, whole}
 use Rattle.formats.specs.Fields.{Fields, optional-reading, is-set, fields-reading, fields, map-byte, with-map}
 use Rattle.formats.proofs.Laws.{both-true}
 use Rattle.formats.proofs.Spans.{length-up-to, getD-up-to, Gives, reads, gives-as, first-given, none-given, given-none, gives-test, Spans, spans-as}
-use Rattle.formats.proofs.Spans.{first-inside, no-lag-inside, spans-done, spans-byte, spans-two-bytes, spans-then, spans-tested, spans-one-test}
+use Rattle.formats.proofs.Spans.{default-before-large, first-inside, no-lag-inside, spans-done, spans-byte, spans-two-bytes, spans-then, spans-tested, spans-one-test}
 use Rattle.formats.proofs.Spans.{spans-untested, Unknown, spans-map, Miscounted, spans-count, Parts, spans-row, OrTrailing, gives-whole}
 use Rattle.parts.specs.declared.Size.{Size}
 use Rattle.parts.specs.declared.Previous.{Previous}
 use Rattle.parts.specs.declared.Previous.the-variants.{Nothing, Was}
-use Rattle.parts.specs.Parts.{number, measure, measures, item-fields, item, precedence, precedence-tests, lags-zero, lag-row, lag-list}
+use Rattle.parts.specs.Parts.{number, measure-tests, measure, measures, item-fields, item, precedence, precedence-tests, lags-zero, lag-row, lag-list}
 use Rattle.parts.specs.Precedences.{Arc, unlagged, names-items, above, rises}
-use Rattle.parts.specs.Sizes.{no-item}
+use Rattle.parts.specs.Sizes.{max-measure, no-item}
 use Rattle.parts.proofs.Laws.{lag-laws}
 use Rattle.sheet.specs.Sheet.{Sheet, max-items, max-precedences, list-of, item-list, precedence-list, sheet-fields, sheet}
 use Rattle.sheet.specs.Places.{two-if, measures-length, byte-at, word-at, precedence-at, has, container-end, items-on, after-item, item-place}
 use Rattle.sheet.specs.Places.{items-end, precedences-on, precedence-place, precedences-end, yard-number-end, sheet-end}
 use Rattle.sheet.specs.Faults.{MeasureAt, width, depth, shifts, Misnames, Fault, FirstFault, ends-early, unknown-bit, item-unknown-bit}
 use Rattle.sheet.specs.Faults.{container-measure, item-measure, yard-number, item-count, precedence-count, bad-item, not-rising, trailing-bytes, no-lag}
+use Rattle.sheet.specs.Faults.{container-too-large, item-too-large}
 use Rattle.sheet.specs.Contents.{size-at, item-at, items-at, sheet-at}
 use Rattle.sheet.specs.Sheet as S
 
@@ -91,21 +92,43 @@ module _ (s : List ℕ) where
   spans-number default false at =
       rw add-zero (spans-as s (spans-done s default at) (λ e. (λ w. absurd w, λ (q, _). absurd (false≢true q))))
 
-  -- 3 at a measure of the container or item whose map byte is at m
-  abbrev LowMeasure : ℕ → Refusal → Type 0
-  LowMeasure m e = (p : ℕ) × MeasureAt s m p × Low 1 p e
+  -- 3 or 12 at a measure
+  abbrev Misfit : ℕ → Refusal → Type 0
+  Misfit at e = (at + 2 ≤ length s) × (((word-at s at ≤ 1) × (e ≡ WrittenDefault at)) ⊎ (((max-measure < word-at s at) × (e ≡ TooLarge at)) ⊎ ⊥))
+
+  spans-measure : (bit : Bool) (at : ℕ)
+      → Spans s (optional-reading measure bit) at (cond bit (word-at s at) 1) (at + two-if bit) (λ e. (bit ≡ true) × Misfit at e)
+  unfolding measure word testing run
+  spans-measure true at =
+      spans-as s (spans-tested s word measure-tests
+      (λ e. elim [
+        | inl (_, q) ↦ rw q (first-inside s refl (omega arith))
+        | inr (inl (_, q)) ↦ rw q (first-inside s refl (omega arith))
+        | inr (inr w) ↦ absurd w
+      ])
+      (λ l. gives-test s (leb (word-at s at) 1) (leb-true _ _, le-leb _ _)
+      (λ f. elim [ inl (_, q) ↦ rw q (default-before-large at) | inr w ↦ absurd w ])
+      (gives-test s (ltb max-measure (word-at s at)) (ltb-true _ _, lt-ltb _ _) (λ f w. absurd w) (reads l (λ e w. w))))
+      (spans-two-bytes s (λ low high. low + 256 * high) at))
+      (λ e. (λ w. (refl, w), λ (_, w). w))
+  spans-measure false at =
+      rw add-zero (spans-as s (spans-done s 1 at) (λ e. (λ w. absurd w, λ (q, _). absurd (false≢true q))))
+
+  -- at one of the container or item whose map byte is at m
+  abbrev MeasureFault : ℕ → Refusal → Type 0
+  MeasureFault m e = (p : ℕ) × MeasureAt s m p × Misfit p e
 
   spans-measures : {S : Type 0} {n : ℕ} (size : S → Size) (rest : Size → Fields S n) (m : ℕ) {x : S} {stop : ℕ} {W : Refusal → Type 0}
       → Spans s (fields-reading (rest (size-at s m)) (byte-at s m) 8) (m + 1 + measures-length (byte-at s m)) x stop W
-      → Spans s (fields-reading (measures size rest) (byte-at s m) 1) (m + 1) x stop (λ e. LowMeasure m e ⊎ W e)
-  unfolding measures measure fields-reading measures-length
+      → Spans s (fields-reading (measures size rest) (byte-at s m) 1) (m + 1) x stop (λ e. MeasureFault m e ⊎ W e)
+  unfolding measures fields-reading measures-length
   spans-measures size rest m σ =
       let a = two-if (is-set (byte-at s m) 1) in
       let b = two-if (is-set (byte-at s m) 2) in
       spans-as s
-      (spans-then s _ _ (spans-number 1 (is-set (byte-at s m) 1) (m + 1))
-      (spans-then s _ _ (spans-number 1 (is-set (byte-at s m) 2) (m + 1 + a))
-      (spans-then s _ _ (spans-number 1 (is-set (byte-at s m) 4) (m + 1 + a + b)) (rw (← add-assoc, ← add-assoc) at σ))))
+      (spans-then s _ _ (spans-measure (is-set (byte-at s m) 1) (m + 1))
+      (spans-then s _ _ (spans-measure (is-set (byte-at s m) 2) (m + 1 + a))
+      (spans-then s _ _ (spans-measure (is-set (byte-at s m) 4) (m + 1 + a + b)) (rw (← add-assoc, ← add-assoc) at σ))))
       (λ e. (
         elim [
           | inl (t, w) ↦ inl (_, width t, w)
@@ -114,7 +137,7 @@ module _ (s : List ℕ) where
           | inr (inr (inr w)) ↦ inr w
         ],
         elim [
-          | inl (p, i, w) ↦ (elim i as (λ p i. Low 1 p e → _)
+          | inl (p, i, w) ↦ (elim i as (λ p i. Misfit p e → _)
               [ width t ↦ λ w. inl (t, w) | depth t ↦ λ w. inr (inl (t, w)) | shifts t ↦ λ w. inr (inr (inl (t, w))) ]) w
           | inr w ↦ inr (inr (inr w))
         ],
@@ -122,7 +145,7 @@ module _ (s : List ℕ) where
 
   -- the faults of the item at m
   abbrev ItemFault : ℕ → Refusal → Type 0
-  ItemFault m e = Unknown s 3 m e ⊎ (LowMeasure m e ⊎ ⊥)
+  ItemFault m e = Unknown s 3 m e ⊎ (MeasureFault m e ⊎ ⊥)
 
   spans-item : (m : ℕ) → Spans s (item .reading) m (item-at s m) (after-item s m) (ItemFault m)
   unfolding item item-fields with-map keyed fields fields-reading after-item
@@ -213,7 +236,7 @@ module _ (s : List ℕ) where
       rw (add-zero, ← (left-out-lags m)) (spans-as s (spans-done s _ at) (λ e. (λ w. absurd w, λ (q, _). absurd (false≢true q))))
 
   spans-sheet : Spans s (sheet .reading) 0 (sheet-at s) (sheet-end s)
-      (λ e. Unknown s 7 0 e ⊎ (LowMeasure 0 e ⊎ (ItemsFault e ⊎ (PrecedencesFault e ⊎ (((has s 32 ≡ true) × Low 0 (precedences-end s) e)
+      (λ e. Unknown s 7 0 e ⊎ (MeasureFault 0 e ⊎ (ItemsFault e ⊎ (PrecedencesFault e ⊎ (((has s 32 ≡ true) × Low 0 (precedences-end s) e)
       ⊎ (LagsFault (precedences-on s) (has s 64) (yard-number-end s) e ⊎ ⊥))))))
   unfolding sheet sheet-fields with-map keyed fields fields-reading container-end yard-number-end sheet-end S.yard-number
   spans-sheet =
@@ -228,7 +251,9 @@ module _ (s : List ℕ) where
   -- what reading meets are the faults of the table
   item-to-fault : (k : ℕ) → k < items-on s → {e : Refusal} → ItemFault (item-place s k) e → Fault s e
   item-to-fault k l (inl (a, c, q)) = rw q (item-unknown-bit k l (omega arith) c)
-  item-to-fault k l (inr (inl (p, m, (a, c, q)))) = rw q (item-measure k l p m a c)
+  item-to-fault k l (inr (inl (p, m, (a, inl (c, q))))) = rw q (item-measure k l p m a c)
+  item-to-fault k l (inr (inl (p, m, (a, inr (inl (c, q)))))) = rw q (item-too-large k l p m a c)
+  item-to-fault k l (inr (inl (p, m, (a, inr (inr w))))) = absurd w
   item-to-fault k l (inr (inr w)) = absurd w
 
   precedence-to-fault : (k : ℕ) → k < precedences-on s → {e : Refusal} → PrecedenceFault k e → Fault s e
@@ -243,7 +268,9 @@ module _ (s : List ℕ) where
   to-fault (inr (l, q)) = rw q (trailing-bytes l)
   to-fault (inl (inr (l, q))) = rw q (ends-early l)
   to-fault (inl (inl (inl (l, c, q)))) = rw q (unknown-bit (omega arith) c)
-  to-fault (inl (inl (inr (inl (p, m, (l, c, q)))))) = rw q (container-measure p m l c)
+  to-fault (inl (inl (inr (inl (p, m, (l, inl (c, q))))))) = rw q (container-measure p m l c)
+  to-fault (inl (inl (inr (inl (p, m, (l, inr (inl (c, q)))))))) = rw q (container-too-large p m l c)
+  to-fault (inl (inl (inr (inl (p, m, (l, inr (inr w))))))) = absurd w
   to-fault (inl (inl (inr (inr (inl (inl (t, (l, c, q)))))))) = rw q (item-count t (omega arith) c)
   to-fault (inl (inl (inr (inr (inl (inr (k, l, w))))))) = item-to-fault k l w
   to-fault (inl (inl (inr (inr (inr (inl (inl (t, (l, c, q))))))))) = rw q (precedence-count t (omega arith) c)
@@ -257,8 +284,8 @@ module _ (s : List ℕ) where
   from-fault (ends-early l) = inl (inr (l, refl))
   from-fault (unknown-bit l c) = inl (inl (inl (omega arith, c, refl)))
   from-fault (item-unknown-bit k l a c) = inl (inl (inr (inr (inl (inr (k, l, inl (omega arith, c, refl)))))))
-  from-fault (container-measure p m l c) = inl (inl (inr (inl (p, m, (l, c, refl)))))
-  from-fault (item-measure k l p m a c) = inl (inl (inr (inr (inl (inr (k, l, inr (inl (p, m, (a, c, refl)))))))))
+  from-fault (container-measure p m l c) = inl (inl (inr (inl (p, m, (l, inl (c, refl))))))
+  from-fault (item-measure k l p m a c) = inl (inl (inr (inr (inl (inr (k, l, inr (inl (p, m, (a, inl (c, refl))))))))))
   from-fault (yard-number t l q) = inl (inl (inr (inr (inr (inr (inl (t, (l, omega arith, refl))))))))
   from-fault (item-count t l c) = inl (inl (inr (inr (inl (inl (t, (omega arith, c, refl)))))))
   from-fault (precedence-count t l c) = inl (inl (inr (inr (inr (inl (inl (t, (omega arith, c, refl))))))))
@@ -266,6 +293,8 @@ module _ (s : List ℕ) where
   from-fault (not-rising i l a c) = inl (inl (inr (inr (inr (inl (inr (suc i, l, (omega arith, inr (inl (not-above _ _ _ _ .1 c, refl))))))))))
   from-fault (trailing-bytes l) = inr (l, refl)
   from-fault (no-lag t l c) = inl (inl (inr (inr (inr (inr (inr (inl (t, (l, c, refl)))))))))
+  from-fault (container-too-large p m l c) = inl (inl (inr (inl (p, m, (l, inr (inl (c, refl)))))))
+  from-fault (item-too-large k l p m a c) = inl (inl (inr (inr (inl (inr (k, l, inr (inl (p, m, (a, inr (inl (c, refl)))))))))))
 
   sheet-gives : Gives s (sheet-at s) (sheet-end s) (Fault s) (run (whole sheet) 0 s)
   sheet-gives = gives-as s (gives-whole s sheet spans-sheet) (λ e. (to-fault, from-fault))

@@ -7,8 +7,8 @@ use Rattle.formats.specs.Fields.{optional-bytes, fields-bytes, fields, map-byte
 use Rattle.formats.proofs.Laws.{both-true}
 use Rattle.parts.specs.declared.Size.{Size}
 use Rattle.parts.specs.Precedences.{Arc}
-use Rattle.parts.specs.Parts.{measure, measures, item, precedence}
-use Rattle.parts.proofs.Laws.{number-most, item-most, lags-most}
+use Rattle.parts.specs.Parts.{measures, item, precedence}
+use Rattle.parts.proofs.Laws.{number-most, measure-most, item-most, lags-most}
 use Rattle.sheet.specs.Sheet.{Sheet, max-items, max-precedences, longest-sheet, list-of, item-list, precedence-list, yard-number, sheet-fields}
 use Rattle.sheet.specs.Sheet.{sheet}
 use Rattle.sheet.proofs.Valid.{sheet-valid}
@@ -29,7 +29,7 @@ module _ {A : Type 0} (part : Format A) (k : ℕ) (most : (x : A) → length (pa
       [ true ↦ omega arith | false ↦ omega (arith, row-most xs, mul-le-mul-left k l) ]
 
 pub sheet-most : (x : Sheet) → sheet .valid x ≡ true → length (sheet .bytes x) ≤ longest-sheet
-unfolding sheet sheet-fields measures measure item-list precedence-list yard-number precedence converted pair
+unfolding sheet sheet-fields measures item-list precedence-list yard-number precedence converted pair
     with-map map-byte keyed tested byte fields fields-bytes
 sheet-most x v =
     let (i, r) = both-true (leb (length (x .items)) max-items) _ (sym (sheet-valid x) ∙ v) in
@@ -40,9 +40,9 @@ sheet-most x v =
     list-most precedence 2 (λ o. omega arith) _ _ _ max-precedences _ (leb-true _ _ o) in
     simp length-append (omega (
       arith,
-      number-most 1 (x .container .width),
-      number-most 1 (x .container .depth),
-      number-most 1 (x .container .shifts),
+      measure-most (x .container .width),
+      measure-most (x .container .depth),
+      measure-most (x .container .shifts),
       number-most 0 (x .yard-number),
       lags-most (length (x .precedences)) (x .lags),
       eqb-true (length (x .lags)) _ g,

@@ -1,6 +1,6 @@
 -- Which sheets may be written, part by part.
-use Rattle.prelude.specs.Names.{_≡_, refl, sym, _∙_, Bool, true, false, not, _&&_, and-true, and-false, and-assoc, and-comm, List, [], _∷_, ℕ, decLe, arith}
-use Rattle.prelude.specs.Names.{leb, ltb, eqb, eqb·suc-zero, length, le-leb, lt-leb, lt-ltb, le-ltb}
+use Rattle.prelude.specs.Names.{_≡_, refl, sym, _∙_, Bool, true, false, not, _&&_, and-true, and-false, and-assoc, and-comm, List, [], _∷_, ℕ}
+use Rattle.prelude.specs.Names.{leb, eqb, eqb·suc-zero, length}
 use lib.Dec.{leb·zero}
 use Rattle.formats.specs.Formats.{Format, Test, byte, tested, passes-all, keyed, row-valid, row, count, counted}
 use Rattle.formats.specs.Fields.{optional-valid, fields-valid}
@@ -8,16 +8,11 @@ use Rattle.formats.proofs.Maps.{with-map-valid}
 use Rattle.parts.specs.declared.Item.{Item}
 use Rattle.parts.specs.declared.Previous.{Previous}
 use Rattle.parts.specs.declared.Previous.the-variants.{Nothing, Was}
-use Rattle.parts.specs.Sizes.{positive, all-have-size}
+use Rattle.parts.specs.Sizes.{size-in-range, all-in-range}
 use Rattle.parts.specs.Precedences.{Arc, unlagged, all-allowed}
-use Rattle.parts.specs.Parts.{measure, measures, item, precedence, precedence-tests}
-use Rattle.parts.proofs.Laws.{number-valid, item-valid, precedence-valid, lag-valid}
+use Rattle.parts.specs.Parts.{measures, item, precedence, precedence-tests}
+use Rattle.parts.proofs.Laws.{not-ltb, number-valid, measure-valid, item-valid, precedence-valid, lag-valid}
 use Rattle.sheet.specs.Sheet.{Sheet, max-items, max-precedences, list-of, item-list, precedence-list, yard-number, sheet-fields, sheet}
-
--- not below is at least
-not-ltb : (a b : ℕ) → not (ltb a b) ≡ leb b a
-not-ltb a b = elim (decLe b a)
-    [ yes l ↦ rw (le-ltb a b l, le-leb b a l) | no k ↦ rw (lt-ltb a b (omega arith), lt-leb b a (omega arith)) ]
 
 -- a list has at most so many parts, each as its row asks
 pub list-valid : {P A : Type 0} (part : Format A) (tests : P → A → List Test) (next : P → A → P) (p : P) (limit : ℕ) (xs : List A)
@@ -26,8 +21,8 @@ unfolding optional-valid list-of counted count keyed tested passes-all byte row 
 list-valid part tests next p limit [] = rw leb·zero
 list-valid part tests next p limit (x ∷ xs) = simp (eqb·suc-zero, not-ltb, and-true)
 
-items-valid : (is : List Item) → row-valid item (λ (_ : Unit {0}) _. []) (λ p _. p) tt (length is) is ≡ all-have-size is
-unfolding row-valid all-have-size tested passes-all
+items-valid : (is : List Item) → row-valid item (λ (_ : Unit {0}) _. []) (λ p _. p) tt (length is) is ≡ all-in-range is
+unfolding row-valid all-in-range tested passes-all
 items-valid [] = refl
 items-valid (i ∷ is) = rw (item-valid i, items-valid is, and-true)
 
@@ -41,11 +36,23 @@ and-left-comm : (a b c : Bool) → (a && (b && c)) ≡ (b && (a && c))
 and-left-comm true b c = refl
 and-left-comm false b c = sym (and-false b)
 
--- not "over 10 pieces, over 90 orders, a measure 0, or an order that would get 5 or 6"; and there is a lag for each order
+-- not "over 10 pieces, over 90 orders, a measure 0, or an order that would get 5 or 6", nor a measure above 4,095; and there is a lag for each order
 pub sheet-valid : (x : Sheet) → sheet .valid x
     ≡ (leb (length (x .items)) max-items && (leb (length (x .precedences)) max-precedences && (eqb (length (x .lags)) (length (x .precedences))
-    && (positive (x .container) && (all-have-size (x .items) && all-allowed (length (x .items)) Nothing (x .precedences))))))
-unfolding sheet sheet-fields measures measure item-list precedence-list yard-number fields-valid positive
+    && (size-in-range (x .container) && (all-in-range (x .items) && all-allowed (length (x .items)) Nothing (x .precedences))))))
+unfolding sheet sheet-fields measures item-list precedence-list yard-number fields-valid size-in-range
 sheet-valid x =
     with-map-valid sheet-fields x
-    ∙ simp (number-valid, list-valid, items-valid, precedences-valid, lag-valid, leb·zero, and-true, and-assoc, and-left-comm, and-comm)
+    ∙ simp (
+      number-valid,
+      measure-valid,
+      list-valid,
+      items-valid,
+      precedences-valid,
+      lag-valid,
+      leb·zero,
+      and-true,
+      and-assoc,
+      and-left-comm,
+      and-comm,
+    )

@@ -1,10 +1,12 @@
--- The table of refusals for reading (document 01, and number 11 of document 02), on the bytes of a sheet: each line with its number, its place and its
+-- The table of refusals for reading (document 01, and numbers 11 and 12 of document 02), on the bytes of a sheet: each line with its number, its place and its
 -- condition. A line speaks of bytes that are there. It does not ask whether the bytes before are in order: which line is given is said by `FirstFault`.
 use Rattle.prelude.specs.Names.{ℕ, suc, _+_, _≤_, _<_, true, List, _⊎_, _≡_, length}
 use Rattle.refusal.specs.declared.Refusal.{Refusal}
 use Rattle.refusal.specs.declared.Refusal.the-variants.{EndsEarly, UnknownBit, WrittenDefault, BadCount, BadItem, NotRising, TrailingBytes, NoLag}
+use Rattle.refusal.specs.declared.Refusal.the-variants.{TooLarge}
 use Rattle.formats.specs.Reading.{Before}
 use Rattle.formats.specs.Fields.{is-set}
+use Rattle.parts.specs.Sizes.{max-measure}
 use Rattle.sheet.specs.Sheet.{max-items, max-precedences}
 use Rattle.sheet.specs.Places.{two-if, byte-at, word-at, has, container-end, items-on, item-place, items-end, precedences-on, precedence-place}
 use Rattle.sheet.specs.Places.{precedences-end, yard-number-end, sheet-end}
@@ -56,6 +58,10 @@ module _ (s : List ℕ) where
     -- 11: "a lag field in which no lag is above 0, an empty field included, at its first byte's place, after its bytes are read"
     no-lag : has s 64 ≡ true → sheet-end s ≤ length s → ((i : ℕ) → i < precedences-on s → byte-at s (yard-number-end s + i) ≡ 0)
         → Fault (NoLag (yard-number-end s))
+    -- 12: "a written measure above 4,095, at the field's place"
+    container-too-large : (p : ℕ) → MeasureAt 0 p → p + 2 ≤ length s → max-measure < word-at s p → Fault (TooLarge p)
+    item-too-large : (k : ℕ) → k < items-on s → (p : ℕ) → MeasureAt (item-place s k) p → p + 2 ≤ length s → max-measure < word-at s p
+        → Fault (TooLarge p)
 
   -- "Reading goes left to right and gives the first fault; at one place the lower number"; 11 of an empty field is "before anything that follows it"
   pub record FirstFault (e : Refusal) : Type 0 where

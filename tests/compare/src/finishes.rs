@@ -7,7 +7,7 @@ use crate::reference::bytes::plan_bytes;
 use crate::reference::finish::{self, with_shifts, LENGTH_BYTES};
 use crate::reference::packing::TIME;
 use crate::reference::search::{opening, Search, Status};
-use crate::reference::sheet::{self, Instance};
+use crate::reference::sheet::{self, Instance, GREATEST_MEASURE};
 use crate::report::{hexadecimal, Report};
 
 /// Container, items, precedences, lags; the steps of each length, and the starts where the last one is placed.
@@ -33,8 +33,8 @@ const CIRCLE: &[(usize, usize)] = &[(0, 1), (1, 2), (2, 0)];
 const ROWS: &[Row] = &[
     // "An empty sheet gives 1 once a step is allowed"
     ([1, 1, 1], &[], &[], &[], &[1], Some(&[])),
-    ([1, 1, 65535], &[], &[], &[], &[1], Some(&[])),
-    ([1, 1, 65535], &[UNIT], &[], &[], &[1], Some(&[[0, 0, 0]])),
+    ([1, 1, 4095], &[], &[], &[], &[1], Some(&[])),
+    ([1, 1, 4095], &[UNIT], &[], &[], &[1], Some(&[[0, 0, 0]])),
     ([3, 3, 9], &[[2, 2, 4]], &[], &[], &[1; 4], Some(&[[0, 0, 0]])),
     ([3, 3, 3], &[[2, 2, 4]], &[], &[], &[1; 3], None),
     ([1, 1, 300], &[[1, 1, 258]], &[], &[], &[1; 258], Some(&[[0, 0, 0]])),
@@ -42,7 +42,7 @@ const ROWS: &[Row] = &[
     ([1, 1, 3], &[[2, 1, 1]], &[], &[], &[1; 3], None),
     ([1, 1, 3], &[[1, 2, 1]], &[], &[], &[1; 3], None),
     ([3, 1, 4], &[UNIT; 3], CIRCLE, &[0; 3], &[1; 4], None),
-    ([1, 1, 65535], &[[2, 1, 1]], &[], &[], &[1; 65535], None),
+    ([1, 1, 4095], &[[2, 1, 1]], &[], &[], &[1; 4095], None),
     ([2, 1, 1], ORDERED, &[(1, 0)], &[0], &[1], None),
     ([2, 1, 2], ORDERED, &[(1, 0)], &[0], &[1, 1], ORDERED_PLAN),
     ([2, 1, 9], ORDERED, &[(1, 0)], &[0], &[1, 1], ORDERED_PLAN),
@@ -56,6 +56,12 @@ const ROWS: &[Row] = &[
     ([1, 1, 20], &[UNIT; 3], &[(0, 1), (0, 2), (1, 2)], &[1, 5, 0], &[1; 7], Some(&[[0, 0, 0], [0, 0, 2], [0, 0, 6]])),
     ([1, 1, 300], &[UNIT; 2], &[(0, 1)], &[255], &[1; 257], Some(&[[0, 0, 0], [0, 0, 256]])),
     ([1, 1, 256], &[UNIT; 2], &[(0, 1)], &[255], &[1; 256], None),
+    // All lengths there are: one item, a chain of 2,047 + 2,048, and one of 1,920 + 255 + 1,920; with one more no length is enough.
+    ([1, 1, 4095], &[[1, 1, 4095]], &[], &[], &[1; 4095], Some(&[[0, 0, 0]])),
+    ([1, 1, 4094], &[[1, 1, 4095]], &[], &[], &[1; 4094], None),
+    ([1, 1, 4095], &[[1, 1, 2047], [1, 1, 2048]], &[(0, 1)], &[0], &[1; 4095], Some(&[[0, 0, 0], [0, 0, 2047]])),
+    ([1, 1, 4095], &[[1, 1, 1920]; 2], &[(0, 1)], &[255], &[1; 4095], Some(&[[0, 0, 0], [0, 0, 2175]])),
+    ([1, 1, 4095], &[[1, 1, 1921], [1, 1, 1920]], &[(0, 1)], &[255], &[1; 4095], None),
 ];
 
 /// The searches of lengths 1, 2 and so on, as far as they were taken.
@@ -213,10 +219,10 @@ fn with_other_shifts(random: &mut Random, instance: &Instance) -> Instance {
         1 => shifts + 1,
         2 => shifts.max(2) - 1,
         3 => random.between(1, 4) as u32,
-        4 => 65535,
+        4 => GREATEST_MEASURE,
         _ => shifts + random.between(2, 9) as u32,
     };
-    let mut instance = with_shifts(instance, other.min(65535));
+    let mut instance = with_shifts(instance, other.min(GREATEST_MEASURE));
     let widest = instance.items.iter().map(|size| size[0]).max().unwrap_or(0);
     if widest > 1 && random.one_in(12) {
         instance.container[0] = widest - 1;

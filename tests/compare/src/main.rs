@@ -101,6 +101,8 @@ fn all_cases(report: &mut Report, options: &Options, began: Instant) {
     table::small_halls(report);
     table::rule_3(report);
     table::lags(report);
+    table::greatest(report);
+    values::by_hand(report);
     if let Some(file) = &options.sheets {
         let text = std::fs::read_to_string(file).expect("the file of sheets");
         table::from_file(report, &text, options.most_steps);

@@ -19,6 +19,9 @@ pub fn reading(report: &mut Report, kind: &'static str, sheet: &[u8]) {
     let read = sheet::read(sheet);
     let expected = read.as_ref().map_or_else(code, |_| (0, 0));
     report.same(kind, &Ok(expected), &library::read(sheet), || hexadecimal(sheet));
+    if let Err(Refusal { number: 12, .. }) = read {
+        report.count("sheets refused by 12");
+    }
     let kind = if read.is_ok() { "pieces: their number" } else { "pieces: refused" };
     report.same(kind, &Ok(bytes::pieces(sheet)), &library::pieces(sheet), || hexadecimal(sheet));
     let plan = vec![0; 6 * read.as_ref().map_or(1, |instance| instance.items.len())];
@@ -388,6 +391,21 @@ pub fn lag_fields(report: &mut Report, random: &mut Random, instance: &Instance)
     }
 }
 
+/// Sheets with one or two measures about the greatest: whole, cut anywhere, with a byte changed, and written again.
+pub fn greatest_measures(report: &mut Report, random: &mut Random, instance: &Instance) {
+    let sheet = sheet::encode(&random::with_greatest(random, instance));
+    reading(report, if sheet::read(&sheet).is_ok() { "measures about 4,095, read" } else { "measures about 4,095, refused" }, &sheet);
+    rewriting(report, random, &sheet);
+    records(report, &sheet);
+    for _ in 0..6 {
+        reading(report, "measures about 4,095, cut short", &sheet[..random.below(sheet.len())]);
+        let mut damaged = sheet.clone();
+        let place = random.below(sheet.len());
+        damaged[place] = random.pick(&[0, 1, 2, 8, 0x0F, 0x10, 64, 91, 255]);
+        reading(report, "measures about 4,095, with one byte changed", &damaged);
+    }
+}
+
 /// Everything about one instance.
 pub fn everything(report: &mut Report, random: &mut Random, instance: &Instance, most_steps: usize) {
     let sheet = sheet::encode(instance);
@@ -397,6 +415,7 @@ pub fn everything(report: &mut Report, random: &mut Random, instance: &Instance,
     rewriting(report, random, &sheet);
     records(report, &sheet);
     lag_fields(report, random, instance);
+    greatest_measures(report, random, instance);
     report.count(match instance.lags.iter().max() {
         None => "instances without orders",
         Some(0) => "instances with orders, without lags",

@@ -1,6 +1,6 @@
 //! Numbers from a seed, and instances with small measures.
 
-use crate::reference::sheet::Instance;
+use crate::reference::sheet::{Instance, GREATEST_MEASURE};
 
 /// SplitMix64.
 pub struct Random(u64);
@@ -40,6 +40,24 @@ impl Random {
     pub fn pick<T: Copy>(&mut self, from: &[T]) -> T {
         from[self.below(from.len())]
     }
+}
+
+/// A measure about the greatest, or above it.
+pub fn about_greatest(random: &mut Random) -> u32 {
+    let above = random.between(GREATEST_MEASURE as usize + 1, 65535) as u32;
+    let near = GREATEST_MEASURE - 1 + random.below(4) as u32;
+    random.pick(&[near, near, near, 0x0FFF, 0x1000, 0x8000, 0xFFFF, above])
+}
+
+/// The instance with one or two measures about the greatest, or above it.
+pub fn with_greatest(random: &mut Random, instance: &Instance) -> Instance {
+    let mut large = instance.clone();
+    for _ in 0..random.between(1, 2) {
+        let mut sizes: Vec<&mut [u32; 3]> = large.items.iter_mut().chain([&mut large.container]).collect();
+        let at = random.below(sizes.len());
+        sizes[at][random.below(3)] = about_greatest(random);
+    }
+    large
 }
 
 /// An instance whose items take up a good part of the container, so that answers vary.
@@ -108,7 +126,7 @@ pub fn instance(random: &mut Random, items: usize) -> Instance {
     let yard_number = random.pick(&[0, 0, 0, 0, 0, 1, 2, 256, 65535, any]);
     if random.one_in(40) {
         // Large measures: the same problem in other units.
-        let factor = 65535 / sizes.iter().chain([&container]).flatten().max().expect("the container's");
+        let factor = GREATEST_MEASURE / sizes.iter().chain([&container]).flatten().max().expect("the container's");
         for size in sizes.iter_mut().chain([&mut container]) {
             for measure in size.iter_mut() {
                 *measure *= factor;

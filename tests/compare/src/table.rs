@@ -1,4 +1,5 @@
-//! Document 01's table of small halls, sheets on which rule 3 tells, sheets with lags, and sheets from a file with their answers and steps.
+//! Document 01's table of small halls, sheets on which rule 3 tells, sheets with lags, measures about the greatest, and sheets from a file
+//! with their answers and steps.
 
 use crate::library;
 use crate::parts;
@@ -79,9 +80,9 @@ const LAG_ROWS: &[(Row, &[u32])] = &[
     (([1, 1, 129], &[UNIT; 2], &[(0, 1)], 2, 1, &[]), &[128]),
     (([1, 1, 257], &[UNIT; 2], &[(0, 1)], 1, 1, &[0, 0, 0, 0, 0, 0, 0, 0, 0, 0, 0, 1]), &[255]),
     (([1, 1, 256], &[UNIT; 2], &[(0, 1)], 2, 1, &[]), &[255]),
-    // 65,024 + 255 + 256 = 65,535, and 1 starts at 65,279 = 255 + 256 * 254; one more is too much.
-    (([1, 1, 65535], &[[1, 1, 65024], [1, 1, 256]], &[(0, 1)], 1, 1, &[0, 0, 0, 0, 0, 0, 0, 0, 0, 0, 255, 254]), &[255]),
-    (([1, 1, 65535], &[[1, 1, 65025], [1, 1, 256]], &[(0, 1)], 2, 1, &[]), &[255]),
+    // 3,584 + 255 + 256 = 4,095, and 1 starts at 3,839 = 255 + 256 * 14; one more is too much.
+    (([1, 1, 4095], &[[1, 1, 3584], [1, 1, 256]], &[(0, 1)], 1, 1, &[0, 0, 0, 0, 0, 0, 0, 0, 0, 0, 255, 14]), &[255]),
+    (([1, 1, 4095], &[[1, 1, 3585], [1, 1, 256]], &[(0, 1)], 2, 1, &[]), &[255]),
     // A circle: nothing fits, in however many shifts.
     (([3, 1, 99], &[UNIT; 3], &[(0, 1), (1, 2), (2, 0)], 2, 1, &[]), &[1, 0, 0]),
 ];
@@ -126,6 +127,86 @@ const LAGS_REFUSED: &[(&[u8], u32, usize)] = &[
     (&[0x80], 2, 0),
     (&[0xC0], 2, 0),
     (&[0xFF], 2, 0),
+];
+
+const MOST: [u32; 3] = [4095; 3];
+const CHAIN: &[(usize, usize)] = &[(0, 1), (1, 2), (2, 3), (3, 4), (4, 5), (5, 6), (6, 7), (7, 8), (8, 9)];
+
+/// Halls of 4,095. A piece as large as the hall, and larger on each axis; ten of them, which take 40,950 and with lags of 255 43,245. Two
+/// pieces one after another, 2,047 + 2,048 = 4,095: with the order 0, 1 at once, and on x, where the first turn puts 0 first; 4,096 is too
+/// much.
+const GREATEST_ROWS: &[(Row, &[u32])] = &[
+    ((MOST, &[MOST], &[], 1, 1, &[0; 6]), &[]),
+    (([4094, 4095, 4095], &[MOST], &[], 2, 1, &[]), &[]),
+    (([4095, 4094, 4095], &[MOST], &[], 2, 1, &[]), &[]),
+    (([4095, 4095, 4094], &[MOST], &[], 2, 1, &[]), &[]),
+    ((MOST, &[MOST; 10], &[], 2, 1, &[]), &[]),
+    ((MOST, &[MOST; 10], CHAIN, 2, 1, &[]), &[0; 9]),
+    ((MOST, &[MOST; 10], CHAIN, 2, 1, &[]), &[255; 9]),
+    (([1, 1, 4095], &[[1, 1, 2047], [1, 1, 2048]], &[(0, 1)], 1, 1, &[0, 0, 0, 0, 0, 0, 0, 0, 0, 0, 255, 7]), &[0]),
+    (([1, 1, 4095], &[[1, 1, 2048]; 2], &[(0, 1)], 2, 1, &[]), &[0]),
+    (([4095, 1, 1], &[[2047, 1, 1], [2048, 1, 1]], &[], 1, 2, &[0, 0, 0, 0, 0, 0, 255, 7, 0, 0, 0, 0]), &[]),
+    (([4095, 1, 1], &[[2048, 1, 1]; 2], &[], 2, 1, &[]), &[]),
+];
+
+/// Measures of 4,096 and more, and the order of checks about them.
+const GREATEST_REFUSED: &[(&[u8], u32, usize)] = &[
+    // Each place, the low byte first
+    (&[1, 0, 0x10], 12, 1),
+    (&[2, 0xFF, 0xFF], 12, 1),
+    (&[4, 0, 0x80], 12, 1),
+    (&[7, 0xFF, 0x0F, 0, 0x10, 2, 0], 12, 3),
+    (&[7, 0xFF, 0x0F, 0xFF, 0x0F, 0, 0x10], 12, 5),
+    (&[8, 1, 1, 0, 0x10], 12, 3),
+    (&[8, 1, 2, 0x0F, 0xFF], 12, 3),
+    (&[8, 1, 4, 1, 0x10], 12, 3),
+    (&[8, 2, 0, 7, 0xFF, 0x0F, 0xFF, 0x0F, 0, 0x10], 12, 8),
+    (&[8, 2, 1, 0xFF, 0x0F, 1, 0, 0x10], 12, 6),
+    // A byte that is missing: of this field, and of a later one
+    (&[1, 0xFF], 1, 2),
+    (&[1, 0x10], 1, 2),
+    (&[8, 1, 1, 0xFF], 1, 4),
+    (&[3, 0, 0x10], 12, 1),
+    (&[3, 0xFF, 0x0F, 0], 1, 4),
+    // 3 in an earlier field, and in a later one
+    (&[3, 1, 0, 0, 0x10], 3, 1),
+    (&[3, 0, 0x10, 0, 0], 12, 1),
+    (&[9, 0, 0x10, 1, 1, 1, 0], 12, 1),
+    (&[9, 1, 0, 1, 1, 0, 0x10], 3, 1),
+    (&[8, 2, 1, 0, 0x10, 1, 1, 0], 12, 3),
+    (&[8, 2, 1, 1, 0, 1, 0, 0x10], 3, 3),
+    // 2, 4, 5, 7 and 11
+    (&[0x81, 0, 0x10], 2, 0),
+    (&[8, 1, 9, 0, 0x10], 2, 2),
+    (&[8, 2, 1, 0, 0x10, 8], 12, 3),
+    (&[9, 0, 0x10, 0], 12, 1),
+    (&[9, 0xFF, 0x0F, 0], 4, 3),
+    (&[0x18, 2, 0, 2, 0, 0x10, 1, 1, 1], 12, 4),
+    (&[0x18, 2, 0, 2, 0xFF, 0x0F, 1, 1, 1], 5, 7),
+    (&[1, 0, 0x10, 0], 12, 1),
+    (&[1, 0xFF, 0x0F, 0], 7, 3),
+    (&[0x41, 0, 0x10], 12, 1),
+    (&[0x41, 0xFF, 0x0F], 11, 3),
+    // The yard number 0 is still 3, after the hall
+    (&[0x21, 0, 0x10, 0, 0], 12, 1),
+    (&[0x21, 0xFF, 0x0F, 0, 0], 3, 3),
+];
+
+/// Sheets that read: measures of 4,095 and less, yard numbers above it.
+const GREATEST_READ: &[&[u8]] = &[
+    &[1, 0xFE, 0x0F],
+    &[1, 0xFF, 0x0F],
+    &[2, 0xFF, 0x0F],
+    &[4, 0xFF, 0x0F],
+    &[8, 1, 1, 0xFF, 0x0F],
+    &[8, 1, 2, 0xFF, 0x0F],
+    &[8, 1, 4, 0xFF, 0x0F],
+    &[1, 0x10, 0],
+    &[1, 0x10, 0x0F],
+    &[0x20, 0, 0x10],
+    &[0x20, 0x88, 0x13],
+    &[0x21, 0xFF, 0x0F, 0xFF, 0xFF],
+    &[0x58, 2, 4, 0xFF, 0x0F, 0, 1, 0, 1, 0xFF],
 ];
 
 const REFUSED: &[(&[u8], u32, usize)] = &[
@@ -191,11 +272,45 @@ pub fn lags(report: &mut Report) {
     longest(report);
 }
 
+/// The rows, refusals and sheets above, and ten pieces of 180 with lags of 255: 1,800 + 2,295 = 4,095, each 435 after the one before.
+pub fn greatest(report: &mut Report) {
+    let kind = "measures about the greatest";
+    for (one, lags) in GREATEST_ROWS {
+        row(report, kind, one, lags.to_vec());
+    }
+    refusals(report, kind, GREATEST_REFUSED);
+    for &sheet in GREATEST_READ {
+        let own = sheet::read(sheet).map(|instance| sheet::encode(&instance));
+        report.same(kind, &Ok(sheet.to_vec()), &own, || hexadecimal(sheet));
+        report.same(kind, &Ok((0, 0)), &library::read(sheet), || hexadecimal(sheet));
+        report.same(kind, &Ok((sheet.len(), sheet.to_vec())), &library::rewrite(sheet, &vec![0; sheet.len()]), || hexadecimal(sheet));
+    }
+    for (shifts, returned) in [(4095, 1), (4094, 2)] {
+        let (items, lags) = (vec![[1, 1, 180]; 10], vec![255; 9]);
+        let sheet = sheet::encode(&Instance { container: [1, 1, shifts], items, precedences: CHAIN.to_vec(), lags, yard_number: 0 });
+        let start = |piece: u32| if returned == 1 { 435 * piece } else { 0 };
+        let plan = bytes::plan_bytes(&(0..10).map(|piece| [0, 0, start(piece)]).collect::<Vec<_>>());
+        for got in answers(&sheet, 10, 1_000_000) {
+            report.same(kind, &Ok((returned, 1, plan.clone())), &got, || hexadecimal(&sheet));
+        }
+    }
+    far_plans(report, kind);
+}
+
+/// A start is no measure: 65,535 is one, and a piece there is outside, also where its end is small in 16 bits.
+fn far_plans(report: &mut Report, kind: &'static str) {
+    let piece = [0x0F, 0xFF, 0x0F, 0xFF, 0x0F, 0xFF, 0x0F, 1, 4, 0xFF, 0x0F];
+    for (start, fits) in [(0, 1), (1, 0), (4095, 0), (61441, 0), (65535, 0)] {
+        let plan = bytes::plan_bytes(&[[4094, 4094, start]]);
+        report.same(kind, &(fits, Ok(fits)), &(bytes::check(&piece, &plan), library::check(&piece, &plan)), || format!("start {start}"));
+    }
+}
+
 /// "The longest sheet is 351 bytes": whole, a byte shorter, a byte longer; with lags of 0, in 351 and in 352 bytes. 90 orders are circles.
 fn longest(report: &mut Report) {
     let kind = "the longest sheet";
     let precedences: Vec<(usize, usize)> = (0..90).map(|i| (i / 9, i % 9 + usize::from(i % 9 >= i / 9))).collect();
-    let full = Instance { container: [65535; 3], items: vec![[65535; 3]; 10], precedences, lags: vec![255; 90], yard_number: 65535 };
+    let full = Instance { container: [4095; 3], items: vec![[4095; 3]; 10], precedences, lags: vec![255; 90], yard_number: 65535 };
     let sheet = sheet::encode(&full);
     report.same(kind, &(sheet::LONGEST_SHEET, Ok(full)), &(sheet.len(), sheet::read(&sheet)), || hexadecimal(&sheet));
     let mut longer = sheet.clone();

@@ -4,7 +4,7 @@
 use crate::layout::value_bytes;
 use crate::library::{self, Written};
 use crate::parts::Run;
-use crate::random::Random;
+use crate::random::{self, Random};
 use crate::reference::bytes::{plan_bytes, positions_of};
 use crate::reference::packing::Position;
 use crate::reference::sheet::{self, Instance, MOST_ITEMS, MOST_PRECEDENCES};
@@ -15,7 +15,7 @@ type Order = (usize, usize);
 
 /// Any measures, 0 among them.
 fn any_size(random: &mut Random) -> [u32; 3] {
-    let most = random.pick(&[1, 3, 65536]);
+    let most = random.pick(&[1, 3, 4096, 65536]);
     [0; 3].map(|_: u32| random.below(most) as u32)
 }
 
@@ -57,20 +57,29 @@ fn count_over(random: &mut Random, most: usize, count: u64) -> u64 {
     random.pick(&[most + 1, most + 2, 255, 65535, u64::MAX, part, part + count, part + most, any.max(most + 1)])
 }
 
-/// A measure 0, in the container, in an item or past the count.
-fn with_measure_0(random: &mut Random, value: &mut Value) -> &'static str {
+/// A measure in the container, in an item or past the count: whether past it.
+fn put_measure(random: &mut Random, value: &mut Value, measure: u32) -> bool {
     let axis = random.below(3);
     let counted = value.item_count as usize;
     match random.below(3) {
-        0 => value.container[axis] = 0,
-        1 if counted > 0 => value.items[random.below(counted)][axis] = 0,
+        0 => value.container[axis] = measure,
+        1 if counted > 0 => value.items[random.below(counted)][axis] = measure,
         _ if counted < MOST_ITEMS => {
-            value.items[random.between(counted, MOST_ITEMS - 1)][axis] = 0;
-            return "values with a measure 0 past the count";
+            value.items[random.between(counted, MOST_ITEMS - 1)][axis] = measure;
+            return true;
         }
-        _ => value.items[MOST_ITEMS - 1][axis] = 0,
+        _ => value.items[MOST_ITEMS - 1][axis] = measure,
     }
-    "values with a measure 0"
+    false
+}
+
+fn with_measure_0(random: &mut Random, value: &mut Value) -> &'static str {
+    if put_measure(random, value, 0) { "values with a measure 0 past the count" } else { "values with a measure 0" }
+}
+
+fn with_large_measure(random: &mut Random, value: &mut Value) -> &'static str {
+    let measure = random::about_greatest(random);
+    if put_measure(random, value, measure) { "values with a measure about 4,095 past the count" } else { "values with a measure about 4,095" }
 }
 
 /// An order that is not above the one before, or names what is no piece, or one piece twice.
@@ -131,6 +140,7 @@ fn changed(random: &mut Random, value: &Value, way: usize) -> (&'static str, Val
         2 => with_measure_0(random, &mut value),
         3 => with_order_changed(random, &mut value),
         4 => with_lags_changed(random, &mut value),
+        5 => with_large_measure(random, &mut value),
         _ if random.one_in(2) => {
             value.item_count = random.below(MOST_ITEMS + 1) as u64;
             "values with another count of items"
@@ -218,6 +228,47 @@ fn ten_positions(random: &mut Random, instance: &Instance, run: &Run) -> Vec<u8>
     plan
 }
 
+/// A measure on one axis of the container (place 0), of item 0 or item 1, or past the count of two: whether 9 names the value.
+const MEASURES_BY_HAND: &[(u32, usize, bool)] = &[
+    (4095, 0, false),
+    (4096, 0, true),
+    (65535, 0, true),
+    (4095, 1, false),
+    (4096, 1, true),
+    (4095, 2, false),
+    (4096, 2, true),
+    (65535, 2, true),
+    (4096, 3, false),
+    (65535, 3, false),
+    (65535, 10, false),
+];
+
+/// Check, writing and clearance of such values: 9 before the room that is too short, the item and the axis that are not there.
+pub fn by_hand(report: &mut Report) {
+    let kind = "values by hand";
+    for &(measure, place, by_9) in MEASURES_BY_HAND {
+        for axis in 0..3 {
+            let mut value = value_of(&mut Random::new(1, 0), &pair());
+            let size = if place == 0 { &mut value.container } else { &mut value.items[place - 1] };
+            size[axis] = measure;
+            let (bytes, plan) = (value_bytes(&value), plan_bytes(&[[65535; 3]; MOST_ITEMS]));
+            report.same(kind, &by_9, &value::instance_of(&value).is_err(), || shown(&value));
+            report.same(kind, &Ok(if by_9 { 109 } else { 0 }), &library::check_value(&bytes, &plan), || shown(&value));
+            let number = |other| if by_9 { 9 } else { other };
+            let written = library::write_value(&bytes, &[7]).map(|written| (written.number, written.place, written.room));
+            report.same(kind, &Ok((number(8), 0, vec![7])), &written, || shown(&value));
+            for (u, axis, other) in [(2, 0, 5), (0, 3, 8)] {
+                report.same(kind, &Ok((0, number(other), 0)), &library::clearance(&bytes, &plan, u, 0, axis), || shown(&value));
+            }
+        }
+    }
+}
+
+/// Two items in a hall of 4,095.
+fn pair() -> Instance {
+    Instance { container: [4095; 3], items: vec![[2, 3, 4]; 2], precedences: vec![(0, 1)], lags: vec![255], yard_number: 65535 }
+}
+
 /// Everything about the value of one instance.
 pub fn values(report: &mut Report, random: &mut Random, instance: &Instance, run: &Run) {
     let (items, len) = (instance.items.len(), sheet::encode(instance).len());
@@ -231,7 +282,7 @@ pub fn values(report: &mut Report, random: &mut Random, instance: &Instance, run
     for room in (near..len + 3).chain([0, len + random.below(40)]) {
         write(report, random, &own, room);
     }
-    for way in 0..6 {
+    for way in 0..7 {
         let (kind, other) = changed(random, &own, way);
         report.count(kind);
         report.count(if value::instance_of(&other).is_ok() { "changed values that stand" } else { "changed values refused by 9" });

@@ -9,7 +9,7 @@ use Rattle.model.specs.Search.{conflict}
 use Rattle.instance.specs.Meaning.{problem-of}
 use Rattle.instance.specs.Valid.{valid}
 use Rattle.instance.specs.declared.Instance.{Instance}
-use Rattle.opening.proofs.Sound.{valid-parts}
+use Rattle.instance.proofs.Sheets.{valid-says}
 use Rattle.makespan.specs.Results.{ConflictIf, LastConflict}
 use Rattle.makespan.proofs.Lengths.{with-shifts, shortened-problem, shortened-valid}
 use Rattle.makespan.proofs.conflicts.Tie as tie
@@ -41,7 +41,7 @@ module _ (c : tie.After-shortened Inv-loop μ-loop) where
   in-the-middle = ap (λ i. with-shifts i middle) (c .before .before .loop .inv .0)
 
   valid-there : valid (with-shifts (c .before .before .loop .shortened) middle) ≡ true
-  valid-there = subst (λ i. valid i ≡ true) (sym in-the-middle) (shortened-valid i middle (omega arith) (c .before .before .before .pre))
+  valid-there = subst (λ i. valid i ≡ true) (sym in-the-middle) (shortened-valid i middle (omega arith) (omega (arith, c .before .before .loop .inv .2)) (c .before .before .before .pre))
 
 -- what the test says is said of the shortened problem
 tested : (c : tie.After-in-conflict Inv-loop μ-loop) {b : Bool} → c .in-conflict .result ≡ b
@@ -56,7 +56,7 @@ unfolding problem-of
 below c =
     let m = c .before .before in
     let there = tested (c .before) (c .if1 .taken) in
-    λ l a b. conflict-shorter (problem-of (i m)) l (middle m) b (valid-parts (i m) (m .before .before .before .pre) .0) there
+    λ l a b. conflict-shorter (problem-of (i m)) l (middle m) b (valid-says (i m) (m .before .before .before .pre) .items-few) there
 
 -- where it is not, it is past the new `high`
 above : (c : tie.Else1 Inv-loop μ-loop) → let m = c .before .before in Past (problem-of (i m)) (i m .container .shifts) (middle m - 1)

@@ -1,6 +1,6 @@
 -- `makespan::try_lengths` meets its contract. The invariant: what is asked for is what the lengths left come to under the rest of the budget, after the
 -- steps taken; `shortened` is the instance but for its shifts. `most - length` falls.
-use Rattle.prelude.specs.Names.{_≡_, refl, sym, ap, _∙_, subst, ℕ, suc, _+_, _-_, _≤_, arith, needs}
+use Rattle.prelude.specs.Names.{_≡_, refl, sym, ap, _∙_, subst, ℕ, suc, _+_, _-_, _≤_, _<_, arith, needs}
 use Rattle.model.proofs.Shorter.{before-twice}
 use Rattle.model.specs.Earliest.{steps-before, finish-from, earliest-finish}
 use Rattle.model.specs.Problem.{Problem}
@@ -60,6 +60,9 @@ module _ (c : tie.After-search Inv-loop μ-loop) where
   abbrev asked : Finish
   asked = finish-of p (earliest-finish p (looped .before .args .budget))
 
+  within : n < i .container .shifts
+  within = c .before .before .before .loop-test .taken
+
   -- the instance searched
   at-length : with-shifts (looped .loop .shortened) (n + 1) ≡ with-shifts i (suc n)
   at-length = ap (λ j. with-shifts j (n + 1)) (looped .loop .inv .0) ∙ ap (with-shifts i) (omega arith)
@@ -74,7 +77,7 @@ module _ (c : tie.After-search Inv-loop μ-loop) where
   answer-is e = ap (λ (r : SearchResult). r .answer) (sym result-is) ∙ e
 
   steps-fit : c .search .result .steps ≤ left
-  steps-fit = subst (λ (r : SearchResult). r .steps ≤ left) (sym result-is) (steps-most i (looped .before .pre .0) full n left)
+  steps-fit = subst (λ (r : SearchResult). r .steps ≤ left) (sym result-is) (steps-most i (looped .before .pre .0) full n within left)
 
   rest-is : finish-from p (i .container .shifts - n) n left ≡ finish-from p (suc more) n left
   rest-is = let next : i .container .shifts - n ≡ suc more = omega (arith, c .before .before .before .loop-test .taken) in rw next refl
@@ -88,7 +91,7 @@ module _ (c : tie.After-search Inv-loop μ-loop) where
   unfolding packed-finish
   packed-here e =
       let next : suc n ≡ n + 1 = omega arith in
-      sym (comes (next-packed i (looped .before .pre .0) full n left more (answer-is e))
+      sym (comes (next-packed i (looped .before .pre .0) full n within left more (answer-is e))
       ∙ (ap (λ (r : SearchResult). packed-finish (suc n) (taken + r .steps) (r .packing)) (sym result-is)
       ∙ ap (λ k. let r = c .search .result in packed-finish k (taken + r .steps) (r .packing)) next))
 
@@ -96,7 +99,7 @@ module _ (c : tie.After-search Inv-loop μ-loop) where
   unfolding spent-finish
   spent-here e =
       let all : taken + left ≡ looped .before .args .budget = omega (arith, looped .loop .inv .2) in
-      sym (comes (next-spent i (looped .before .pre .0) full n left more (answer-is e)) ∙ ap (spent-finish n) all)
+      sym (comes (next-spent i (looped .before .pre .0) full n within left more (answer-is e)) ∙ ap (spent-finish n) all)
 
   none-here : c .search .result .answer ≡ Infeasible → let m = c .search .result .steps in let budget = looped .before .args .budget in
       earliest-finish p budget ≡ steps-before (budget - (left - m)) (finish-from p (i .container .shifts - (n + 1)) (n + 1) (left - m))
@@ -105,11 +108,11 @@ module _ (c : tie.After-search Inv-loop μ-loop) where
       let next : suc n ≡ n + 1 = omega arith in
       let sum : taken + m ≡ looped .before .args .budget - (left - m) = omega (arith, looped .loop .inv .2, steps-fit) in
       let later = subst (λ (r : SearchResult). finish-from p (suc more) n left ≡ steps-before (r .steps) (finish-from p more (suc n) (left - r .steps)))
-      (sym result-is) (next-none i (looped .before .pre .0) full n left more (answer-is e)) in
+      (sym result-is) (next-none i (looped .before .pre .0) full n within left more (answer-is e)) in
       rw (← next, ← sum) (looped .loop .inv .3 ∙ (ap (steps-before taken) (rest-is ∙ later) ∙ before-twice taken m (finish-from p more (suc n) (left - m))))
 
   refused-not : (e : Refusal) → c .search .result .answer ≡ Refused e → ⊥
-  refused-not r e = next-refused i (looped .before .pre .0) full n left r (answer-is e)
+  refused-not r e = next-refused i (looped .before .pre .0) full n within left r (answer-is e)
 
 -- no length left
 none-left : (p : Problem) (most length budget left : ℕ) → most ≤ length

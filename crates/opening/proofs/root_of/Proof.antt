@@ -4,11 +4,12 @@ use Rattle.model.specs.Admits.{Sound}
 use Rattle.model.specs.Domains.{full-domains}
 use Rattle.model.specs.Branching.{opening-domains}
 use Rattle.instance.proofs.Arrays.{length-mapped}
+use Rattle.instance.proofs.Sheets.{valid-says}
 use Rattle.instance.specs.Meaning.{problem-of}
 use Rattle.opening.specs.Layout.{FitsIf}
 use Rattle.domains.specs.Narrowed.{Grown}
-use Rattle.opening.proofs.Sound.{valid-sound, valid-parts, allowed-wide}
-use Rattle.opening.proofs.Roots.{no-queue, full-good, too-large-conflict, unfixed-conflict, uncut-conflict, root-tabled, rooted}
+use Rattle.opening.proofs.Sound.{valid-sound, allowed-wide}
+use Rattle.opening.proofs.Roots.{no-queue, full-good, large-conflict, unfixed-conflict, uncut-conflict, root-tabled, rooted}
 use Rattle.opening.proofs.root_of.Tie as tie
 
 sound : (c : tie.Start) → Sound (problem-of (c .args .instance))
@@ -18,7 +19,7 @@ returns : tie.Need-returns
 returns c =
     let b = c .before .before in
     let q = rw (not-true (b .lay-out .result) (c .before .if1 .taken)) at (b .lay-out .ensures) in
-    rw (c .no-root .ensures) (too-large-conflict (sound (b .before .before .before)) q)
+    rw (c .no-root .ensures) (large-conflict (sound (b .before .before .before)) q)
 
 -- where the layout is known
 abbrev totals : tie.After-fix-precedences → tie.After-lay-out
@@ -75,5 +76,6 @@ returns-4 c =
 pub root-of-spec : {M : Type 1} → Rattle.opening.proofs.root_of.Statement.statement M
 root-of-spec = tie.close (tie.spec (λ c κs. search needs) (λ c κs. search needs) returns (λ c. search needs)
     (λ c κs. let b = c .before .before .before .before .before .before .before in
-    let (limited, many, sizes, allowed) = valid-parts (b .args .instance) (b .pre) in (full-good, many, allowed-wide _ limited _ _ allowed))
+    let says = valid-says (b .args .instance) (b .pre) in
+    (full-good, says .precedences-few, allowed-wide _ (says .items-few) _ _ (says .precedences-allowed)))
     (λ c κs. search needs) returns-2 cut-pairs-requires (λ c κs. search needs) returns-3 returns-4)

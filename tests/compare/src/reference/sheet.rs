@@ -1,9 +1,12 @@
-//! "Sheet bytes" and "Refusals", with request #101's lags: reading and writing instances, and the records of their items.
+//! "Sheet bytes" and "Refusals", with request #101's lags and #104's greatest measure: reading and writing instances, and the records of
+//! their items.
 
 use std::ops::Range;
 
 pub const MOST_ITEMS: usize = 10;
 pub const MOST_PRECEDENCES: usize = 90;
+/// "Make 4,095 the greatest measure of halls and pieces."
+pub const GREATEST_MEASURE: u32 = 4095;
 /// "The longest sheet is 351 bytes"
 pub const LONGEST_SHEET: usize = 351;
 
@@ -67,6 +70,16 @@ impl Reader<'_> {
         Ok(value)
     }
 
+    /// 12: "a written measure above 4,095, at the field's place, after 3"
+    fn measure(&mut self) -> Result<u32, Refusal> {
+        let place = self.at;
+        let measure = self.field(2)?;
+        if measure > GREATEST_MEASURE {
+            return refuse(12, place);
+        }
+        Ok(measure)
+    }
+
     /// 2: "a bit stands that has no meaning"
     fn map(&mut self, bits: usize) -> Result<Vec<bool>, Refusal> {
         let place = self.at;
@@ -83,7 +96,7 @@ impl Reader<'_> {
         let mut size = [1; 3];
         for axis in 0..3 {
             if standing[axis] {
-                size[axis] = self.field(2)?;
+                size[axis] = self.measure()?;
             }
         }
         Ok(size)

@@ -1,7 +1,7 @@
 //! Sheets as values: number 9, and check, writing and clearance by whoever takes a value.
 
 use super::packing::{self, Position};
-use super::sheet::{self, names_items, refuse, Instance, Refusal, MOST_ITEMS, MOST_PRECEDENCES};
+use super::sheet::{self, names_items, refuse, Instance, Refusal, GREATEST_MEASURE, MOST_ITEMS, MOST_PRECEDENCES};
 
 /// "Entries of a sheet past its counts are no part of it". The counts may be any number.
 #[derive(Clone, Debug)]
@@ -17,7 +17,8 @@ pub struct Value {
     pub yard_number: u32,
 }
 
-/// 9: "a sheet value with over 10 pieces, over 90 orders, a measure 0, or an order that would get 5 or 6"
+/// 9: "a sheet value with over 10 pieces, over 90 orders, a measure 0, or an order that would get 5 or 6"; a measure above 4,095: "9 covers
+/// such values too"
 pub fn instance_of(value: &Value) -> Result<Instance, Refusal> {
     if value.item_count > MOST_ITEMS as u64 || value.precedence_count > MOST_PRECEDENCES as u64 {
         return refuse(9, 0);
@@ -26,6 +27,10 @@ pub fn instance_of(value: &Value) -> Result<Instance, Refusal> {
     let precedences = value.precedences[..value.precedence_count as usize].to_vec();
     let lags = value.lags[..precedences.len()].to_vec();
     if value.container.contains(&0) || items.iter().any(|size| size.contains(&0)) {
+        return refuse(9, 0);
+    }
+    let too_large = |size: &[u32; 3]| size.iter().any(|&measure| measure > GREATEST_MEASURE);
+    if too_large(&value.container) || items.iter().any(too_large) {
         return refuse(9, 0);
     }
     for (at, &order) in precedences.iter().enumerate() {

@@ -3,7 +3,6 @@
 use Rattle.prelude.specs.Names.{⊎-elim, _≡_, _+_, _-_, _≤_, needs, arith, ltb, getD, pow-mono, lt-ltb, le-ltb}
 use Rattle.domains.specs.Bits.{Gives}
 use Rattle.chains.proofs.Cutting.{gives-none, gives-shifted, gives-skip}
-use Rattle.chains.proofs.Relaxing.{total-small}
 use Rattle.chains.proofs.cuts.above_with_gaps.Tie as tie
 
 abbrev Inv-loop : tie.InvT-loop
@@ -15,9 +14,6 @@ abbrev μ-loop : tie.MeasureT-loop
 
 sub-if1 : tie.Need-sub-if1 Inv-loop μ-loop
 sub-if1 c = c .before .before .before .before .pre .1 .least (c .before .before .before .loop .v) (c .before .before .loop-test .taken)
-
-cast-if1 : tie.Need-cast-if1 Inv-loop μ-loop
-cast-if1 c = let s = c .before .before .before .before in omega (arith, s .pre .0 .small (s .args .steps + c .before .before .before .loop .v))
 
 add-if1-4 : tie.Need-add-if1-4 Inv-loop μ-loop
 add-if1-4 c =
@@ -39,7 +35,4 @@ cast-result : tie.Need-cast-result Inv-loop μ-loop
 cast-result c = let h = c .before .loop .inv in omega (arith, h .1 .small, pow-mono {i = c .before .loop .v} {j = 10} (h .0))
 
 pub above-with-gaps-spec : {M : Type 1} → Rattle.chains.proofs.cuts.above_with_gaps.Statement.statement M
-above-with-gaps-spec = tie.close (tie.spec Inv-loop μ-loop (λ c. (omega arith, gives-none _)) (λ c. search needs) (λ c. search needs) (λ c. search
-    needs) (λ c. search needs) (λ c. search needs) (λ c. search needs) sub-if1 cast-if1 (λ c. search needs) (λ c. search needs) (λ c. search needs) (λ
-    c. search total-small) add-if1-4 (λ c. search needs) (λ c. search needs) (λ c. search needs) (λ c. search needs) loop-again cast-result (λ c. let
-    e : c .before .loop .v ≡ 10 = omega arith in rw e at (c .before .loop .inv .1)))
+above-with-gaps-spec = tie.close (tie.spec Inv-loop μ-loop (λ c. (omega arith, gives-none _)) (λ c. search needs) (λ c. search needs) (λ c. search needs) (λ c. search needs) (λ c. search needs) (λ c. search needs) sub-if1 (λ c. search needs) (λ c. search needs) (λ c. search needs) add-if1-4 (λ c. search needs) (λ c. search needs) (λ c. search needs) (λ c. search needs) loop-again cast-result (λ c. let e : c .before .loop .v ≡ 10 = omega arith in rw e at (c .before .loop .inv .1)))

@@ -1,17 +1,11 @@
 -- `opening::layout::put_item` meets its contract.
 use Rattle.prelude.specs.Names.{needs, arith, refl, length-set}
-use mir.Syntax.{w16}
-use mir.Val.{Fits}
 use Rattle.opening.proofs.layout.put_item.Tie as tie
 
 returns : tie.Need-returns
 returns c =
     let b = c .before .before .before .before in
-    let s = b .before .before .args .size in
-    let x : Fits w16 (s .width) = search needs in
-    let y : Fits w16 (s .depth) = search needs in
-    let z : Fits w16 (s .shifts) = search needs in
-    (rw (c .put-size3 .ensures, c .before .before .put-size2 .ensures, b .put-size .ensures) refl, x .fits, y .fits, z .fits)
+    rw (c .put-size3 .ensures, c .before .before .put-size2 .ensures, b .put-size .ensures) refl
 
 pub put-item-spec : {M : Type 1} → Rattle.opening.proofs.layout.put_item.Statement.statement M
 put-item-spec = tie.close (tie.spec (λ c κs. search needs) (λ c. search needs)
