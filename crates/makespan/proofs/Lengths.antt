@@ -60,7 +60,8 @@ module _ (i : Instance) (l : ℕ) where
   unfolding valid size-in-range in-range
   shortened-valid h k =
       let one : Implies (leb 1 (i .container .shifts)) (leb 1 l) = λ _. le-leb 1 l h in
-      let most : Implies (leb (i .container .shifts) max-measure) (leb l max-measure) = λ e. le-leb l max-measure (omega (arith, leb-true (i .container .shifts) max-measure e)) in
+      let most : Implies (leb (i .container .shifts) max-measure) (leb l max-measure) =
+      λ e. le-leb l max-measure (omega (arith, leb-true (i .container .shifts) max-measure e)) in
       search (and-mono, implies-refl, one, most) depth 12
 
 -- The search of the length n + 1 from the opening, and what it makes of the lengths from there on

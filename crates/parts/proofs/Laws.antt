@@ -1,7 +1,7 @@
 -- The parts of a sheet have their laws; what may be written of each, and how many bytes it has at most.
 use Rattle.prelude.specs.Names.{_≡_, refl, sym, _∙_, Bool, true, false, not, cond, _&&_, _||_, and-true, and-false, Bool·not-not, List, [], _∷_}
-use Rattle.prelude.specs.Names.{ℕ, zero, suc, _/_, _%_, _≤_, arith, decLe, replicate, length-replicate}
-use Rattle.prelude.specs.Names.{ℕ-discrete, eqb, eqb·suc-zero, leb, ltb, length, length-append, eqb-true, eq-eqb, ne-eqb, leb-false, le-leb, lt-leb, lt-ltb, le-ltb, not-true}
+use Rattle.prelude.specs.Names.{ℕ, zero, suc, _/_, _%_, _≤_, arith, decLe, ℕ-discrete, eqb, eqb·suc-zero, leb, ltb, length, length-append}
+use Rattle.prelude.specs.Names.{replicate, length-replicate, eqb-true, eq-eqb, ne-eqb, leb-false, le-leb, lt-leb, lt-ltb, le-ltb, not-true}
 use lib.Dec.{eqb·suc-suc}
 use Rattle.formats.specs.Formats.{byte, word, pair, converted, tested, passes-all, keyed, row-bytes, row-valid, row}
 use Rattle.formats.specs.Fields.{optional-bytes, optional-valid, fields-bytes, fields-valid, fields, map-byte, with-map}

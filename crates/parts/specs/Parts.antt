@@ -9,10 +9,11 @@ use Rattle.parts.specs.declared.Previous.{Previous}
 use Rattle.parts.specs.Sizes.{max-measure}
 use Rattle.parts.specs.Precedences.{Arc, names-items, rises}
 
--- a two-byte field that is left out for its default; 3: a value not above that is never written
+-- 3: a field is never written with a value that is not above its default
 abbrev pub low-test : ℕ → ℕ → Test
 low-test default v = record { fault = leb v default; refusal = WrittenDefault }
 
+-- a two-byte field that is left out for its default
 unfoldable pub number : ℕ → Optional ℕ
 number default = record {
   default = default;

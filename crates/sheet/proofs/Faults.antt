@@ -10,7 +10,8 @@ use Rattle.formats.specs.Formats.{up-to, Format, Test, byte, word, pair, conver
 use Rattle.formats.specs.Fields.{Fields, optional-reading, is-set, fields-reading, fields, map-byte, with-map}
 use Rattle.formats.proofs.Laws.{both-true}
 use Rattle.formats.proofs.Spans.{length-up-to, getD-up-to, Gives, reads, gives-as, first-given, none-given, given-none, gives-test, Spans, spans-as}
-use Rattle.formats.proofs.Spans.{default-before-large, first-inside, no-lag-inside, spans-done, spans-byte, spans-two-bytes, spans-then, spans-tested, spans-one-test}
+use Rattle.formats.proofs.Spans.{default-before-large}
+use Rattle.formats.proofs.Spans.{first-inside, no-lag-inside, spans-done, spans-byte, spans-two-bytes, spans-then, spans-tested, spans-one-test}
 use Rattle.formats.proofs.Spans.{spans-untested, Unknown, spans-map, Miscounted, spans-count, Parts, spans-row, OrTrailing, gives-whole}
 use Rattle.parts.specs.declared.Size.{Size}
 use Rattle.parts.specs.declared.Previous.{Previous}

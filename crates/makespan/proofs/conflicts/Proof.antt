@@ -41,7 +41,9 @@ module _ (c : tie.After-shortened Inv-loop μ-loop) where
   in-the-middle = ap (λ i. with-shifts i middle) (c .before .before .loop .inv .0)
 
   valid-there : valid (with-shifts (c .before .before .loop .shortened) middle) ≡ true
-  valid-there = subst (λ i. valid i ≡ true) (sym in-the-middle) (shortened-valid i middle (omega arith) (omega (arith, c .before .before .loop .inv .2)) (c .before .before .before .pre))
+  valid-there =
+      let most : middle ≤ i .container .shifts = omega (arith, c .before .before .loop .inv .2) in
+      subst (λ i. valid i ≡ true) (sym in-the-middle) (shortened-valid i middle (omega arith) most (c .before .before .before .pre))
 
 -- what the test says is said of the shortened problem
 tested : (c : tie.After-in-conflict Inv-loop μ-loop) {b : Bool} → c .in-conflict .result ≡ b

@@ -35,4 +35,7 @@ cast-result : tie.Need-cast-result Inv-loop μ-loop
 cast-result c = let h = c .before .loop .inv in omega (arith, h .1 .small, pow-mono {i = c .before .loop .v} {j = 10} (h .0))
 
 pub above-with-gaps-spec : {M : Type 1} → Rattle.chains.proofs.cuts.above_with_gaps.Statement.statement M
-above-with-gaps-spec = tie.close (tie.spec Inv-loop μ-loop (λ c. (omega arith, gives-none _)) (λ c. search needs) (λ c. search needs) (λ c. search needs) (λ c. search needs) (λ c. search needs) (λ c. search needs) sub-if1 (λ c. search needs) (λ c. search needs) (λ c. search needs) add-if1-4 (λ c. search needs) (λ c. search needs) (λ c. search needs) (λ c. search needs) loop-again cast-result (λ c. let e : c .before .loop .v ≡ 10 = omega arith in rw e at (c .before .loop .inv .1)))
+above-with-gaps-spec = tie.close (tie.spec Inv-loop μ-loop (λ c. (omega arith, gives-none _)) (λ c. search needs) (λ c. search needs)
+    (λ c. search needs) (λ c. search needs) (λ c. search needs) (λ c. search needs) sub-if1 (λ c. search needs) (λ c. search needs)
+    (λ c. search needs) add-if1-4 (λ c. search needs) (λ c. search needs) (λ c. search needs) (λ c. search needs) loop-again cast-result
+    (λ c. let e : c .before .loop .v ≡ 10 = omega arith in rw e at (c .before .loop .inv .1)))
