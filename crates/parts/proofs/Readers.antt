@@ -36,11 +36,13 @@ unfolding number tested testing word run _>>=_
 number-run default at true rest = two-due _ at rest
 number-run default at false rest = refl
 
--- a measure is such a number that passes one test more
+-- a measure passes one test more
 pub measure-run : (at : ℕ) (present : Bool) (rest : List ℕ) → run (optional-reading measure present) at rest
-    ≡ after (run (optional-reading (number 1) present) at rest) λ v at₁ rest₁. cond (ltb max-measure v) (refused (TooLarge at)) (got v at₁ rest₁)
-unfolding measure number tested testing word run _>>=_
-measure-run at true rest = rw (number-run 1 at true rest) (two-due _ at rest ∙ simp cond-after)
+    ≡ (let v = getD rest 0 0 + 256 * getD rest 1 0 in cond (not present) (got 1 at rest)
+    (cond (ltb (length rest) 2) (refused (EndsEarly (at + length rest)))
+    (cond (leb v 1) (refused (WrittenDefault at)) (cond (ltb max-measure v) (refused (TooLarge at)) (got v (at + 2) (drop 2 rest))))))
+unfolding measure tested testing word run _>>=_
+measure-run at true rest = two-due _ at rest
 measure-run at false rest = refl
 
 pub count-run : (limit at : ℕ) (present : Bool) (rest : List ℕ) → run (optional-reading (count-field limit) present) at rest

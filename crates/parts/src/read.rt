@@ -54,15 +54,20 @@ pub fn read_measure(rest: &[u8], at: usize, present: bool) -> FieldRead
     requires { ⌜ PlacesFit at (now rest) ⌝ }
     ensures { λ r. ⌜ run (optional-reading measure present) at (now (rest .entry)) ≡ field-read at (now (rest .entry)) r ⌝ }
 {
-    match read_field(rest, at, present, 1) {
-        FieldRead::Refused(e) => FieldRead::Refused(e),
-        FieldRead::Value(v, used) => {
-            if crate::MAX_MEASURE < v {
-                return FieldRead::Refused(Refusal::TooLarge(at));
-            }
-            FieldRead::Value(v, used)
-        }
+    if !present {
+        return FieldRead::Value(1, 0);
     }
+    if rest.len() < 2 {
+        return FieldRead::Refused(Refusal::EndsEarly(at + rest.len()));
+    }
+    let v = wide(rest[0]) + 256 * wide(rest[1]);
+    if v <= 1 {
+        return FieldRead::Refused(Refusal::WrittenDefault(at));
+    }
+    if crate::MAX_MEASURE < v {
+        return FieldRead::Refused(Refusal::TooLarge(at));
+    }
+    FieldRead::Value(v, 2)
 }
 
 // Width, depth and shifts, by bits 0, 1 and 2 of `map`.
