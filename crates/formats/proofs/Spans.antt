@@ -179,14 +179,14 @@ module _ (s : List ℕ) where
         across e f (inr (_, p)) (inr (_, q)) = inl (q ∙ sym p)
 
   -- where the test c, of a condition C, is a fault, that is refused
-  pub gives-test : {A : Type 0} {x : A} {stop : ℕ} (c : Bool) {C : Type 0} {e : Refusal} {M : Refusal → Type 0} {z : Read A} → ((c ≡ true) ↔ C)
+  gives-test : {A : Type 0} {x : A} {stop : ℕ} (c : Bool) {C : Type 0} {e : Refusal} {M : Refusal → Type 0} {z : Read A} → ((c ≡ true) ↔ C)
       → ((f : Refusal) → M f → Before e f) → Gives x stop M z → Gives x stop (λ f. (C × (f ≡ e)) ⊎ M f) (cond c (refused e) z)
   gives-test true {e = e} t h g = refuses e (inl (t .0 refl, refl)) (λ f. elim [ inl (_, q) ↦ inl q | inr m ↦ inr (h f m) ])
   gives-test false t h g = gives-as g (λ f. (inr, elim [ inl (c, _) ↦ absurd (false≢true (t .1 c)) | inr m ↦ m ]))
 
   module _ {A : Type 0} (f : Format A) {at : ℕ} {x : A} {stop : ℕ} where
     -- a value with no fault of its own is tested, at its place
-    pub spans-tested : (tests : A → List Test) {M : Refusal → Type 0} → ((e : Refusal) → M e → stop ≤ length s → Inside at stop e)
+    spans-tested : (tests : A → List Test) {M : Refusal → Type 0} → ((e : Refusal) → M e → stop ≤ length s → Inside at stop e)
         → (stop ≤ length s → Gives x stop M (run (testing (tests x) at x) stop (drop stop s)))
         → Spans (f .reading) at x stop (λ e. ⊥) → Spans (tested f tests .reading) at x stop (λ e. (stop ≤ length s) × M e)
     unfolding tested run
@@ -208,6 +208,22 @@ module _ (s : List ℕ) where
         (spans-tested _ (λ e. elim [ inl (_, q) ↦ rw q placed | inr w ↦ absurd w ])
         (λ l. gives-test (fault x) c (λ f w. absurd w) (reads l (λ e w. w))) σ)
         (λ e. (λ (l, w). elim w [ inl (t, q) ↦ (l, t, q) | inr w ↦ absurd w ], λ (l, t, q). (l, inl (t, q))))
+
+    -- two tests, both at the value's place, the first one's number before the second's
+    pub spans-two-tests : (fault₁ fault₂ : A → Bool) (refusal₁ refusal₂ : ℕ → Refusal) {C D : Type 0} → (stop ≤ length s → Inside at stop (refusal₁ at))
+        → (stop ≤ length s → Inside at stop (refusal₂ at)) → Before (refusal₁ at) (refusal₂ at) → ((fault₁ x ≡ true) ↔ C) → ((fault₂ x ≡ true) ↔ D)
+        → Spans (f .reading) at x stop (λ e. ⊥)
+        → Spans (tested f (λ y. record { fault = fault₁ y; refusal = refusal₁ } ∷ record { fault = fault₂ y; refusal = refusal₂ } ∷ []) .reading) at x stop
+        (λ e. (stop ≤ length s) × ((C × (e ≡ refusal₁ at)) ⊎ (D × (e ≡ refusal₂ at))))
+    unfolding testing run
+    spans-two-tests fault₁ fault₂ refusal₁ refusal₂ placed₁ placed₂ before c d σ = spans-as
+        (spans-tested _ (λ e. elim [ inl (_, q) ↦ rw q placed₁ | inr (inl (_, q)) ↦ rw q placed₂ | inr (inr w) ↦ absurd w ])
+        (λ l. gives-test (fault₁ x) c (λ g. elim [ inl (_, q) ↦ rw q before | inr w ↦ absurd w ])
+        (gives-test (fault₂ x) d (λ g w. absurd w) (reads l (λ e w. w)))) σ)
+        (λ e. (
+          λ (l, w). (l, elim w [ inl a ↦ inl a | inr (inl b) ↦ inr b | inr (inr w) ↦ absurd w ]),
+          λ (l, w). (l, elim w [ inl a ↦ inl a | inr b ↦ inr (inl b) ]),
+        ))
 
     pub spans-untested : {W : Refusal → Type 0} → Spans (f .reading) at x stop W → Spans (tested f (λ _. []) .reading) at x stop W
     spans-untested σ = record { onward = σ .onward; within = σ .within; gives = λ l. rw untested (σ .gives l) }

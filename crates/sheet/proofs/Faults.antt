@@ -6,17 +6,17 @@ use lib.Seq.{drop-length}
 use Rattle.refusal.specs.declared.Refusal.{Refusal}
 use Rattle.refusal.specs.declared.Refusal.the-variants.{WrittenDefault, BadItem, NotRising, NoLag, TooLarge}
 use Rattle.formats.specs.Reading.{got, refused, run, _>>=_}
-use Rattle.formats.specs.Formats.{up-to, Format, Test, byte, word, pair, converted, testing, tested, keyed, row, count, counted, whole}
+use Rattle.formats.specs.Formats.{up-to, Format, Test, byte, word, pair, converted, tested, keyed, row, count, counted, whole}
 use Rattle.formats.specs.Fields.{Fields, optional-reading, is-set, fields-reading, fields, map-byte, with-map}
 use Rattle.formats.proofs.Laws.{both-true}
-use Rattle.formats.proofs.Spans.{length-up-to, getD-up-to, Gives, reads, gives-as, first-given, none-given, given-none, gives-test, Spans, spans-as}
-use Rattle.formats.proofs.Spans.{default-before-large}
-use Rattle.formats.proofs.Spans.{first-inside, no-lag-inside, spans-done, spans-byte, spans-two-bytes, spans-then, spans-tested, spans-one-test}
+use Rattle.formats.proofs.Spans.{length-up-to, getD-up-to, Gives, gives-as, first-given, none-given, given-none, Spans, spans-as}
+use Rattle.formats.proofs.Spans.{default-before-large, spans-two-tests}
+use Rattle.formats.proofs.Spans.{first-inside, no-lag-inside, spans-done, spans-byte, spans-two-bytes, spans-then, spans-one-test}
 use Rattle.formats.proofs.Spans.{spans-untested, Unknown, spans-map, Miscounted, spans-count, Parts, spans-row, OrTrailing, gives-whole}
 use Rattle.parts.specs.declared.Size.{Size}
 use Rattle.parts.specs.declared.Previous.{Previous}
 use Rattle.parts.specs.declared.Previous.the-variants.{Nothing, Was}
-use Rattle.parts.specs.Parts.{number, measure-tests, measure, measures, item-fields, item, precedence, precedence-tests, lags-zero, lag-row, lag-list}
+use Rattle.parts.specs.Parts.{number, measure, measures, item-fields, item, precedence, precedence-tests, lags-zero, lag-row, lag-list}
 use Rattle.parts.specs.Precedences.{Arc, unlagged, names-items, above, rises}
 use Rattle.parts.specs.Sizes.{max-measure, no-item}
 use Rattle.parts.proofs.Laws.{lag-laws}
@@ -95,22 +95,15 @@ module _ (s : List ℕ) where
 
   -- 3 or 12 at a measure
   abbrev Misfit : ℕ → Refusal → Type 0
-  Misfit at e = (at + 2 ≤ length s) × (((word-at s at ≤ 1) × (e ≡ WrittenDefault at)) ⊎ (((max-measure < word-at s at) × (e ≡ TooLarge at)) ⊎ ⊥))
+  Misfit at e = (at + 2 ≤ length s) × (((word-at s at ≤ 1) × (e ≡ WrittenDefault at)) ⊎ ((max-measure < word-at s at) × (e ≡ TooLarge at)))
 
   spans-measure : (bit : Bool) (at : ℕ)
       → Spans s (optional-reading measure bit) at (cond bit (word-at s at) 1) (at + two-if bit) (λ e. (bit ≡ true) × Misfit at e)
-  unfolding measure word testing run
+  unfolding measure word
   spans-measure true at =
-      spans-as s (spans-tested s word measure-tests
-      (λ e. elim [
-        | inl (_, q) ↦ rw q (first-inside s refl (omega arith))
-        | inr (inl (_, q)) ↦ rw q (first-inside s refl (omega arith))
-        | inr (inr w) ↦ absurd w
-      ])
-      (λ l. gives-test s (leb (word-at s at) 1) (leb-true _ _, le-leb _ _)
-      (λ f. elim [ inl (_, q) ↦ rw q (default-before-large at) | inr w ↦ absurd w ])
-      (gives-test s (ltb max-measure (word-at s at)) (ltb-true _ _, lt-ltb _ _) (λ f w. absurd w) (reads l (λ e w. w))))
-      (spans-two-bytes s (λ low high. low + 256 * high) at))
+      let σ = spans-two-bytes s (λ low high. low + 256 * high) at in
+      spans-as s (spans-two-tests s word (λ v. leb v 1) (λ v. ltb max-measure v) WrittenDefault TooLarge (first-inside s refl (omega arith))
+      (first-inside s refl (omega arith)) (default-before-large at) (leb-true _ _, le-leb _ _) (ltb-true _ _, lt-ltb _ _) σ)
       (λ e. (λ w. (refl, w), λ (_, w). w))
   spans-measure false at =
       rw add-zero (spans-as s (spans-done s 1 at) (λ e. (λ w. absurd w, λ (q, _). absurd (false≢true q))))
@@ -165,22 +158,15 @@ module _ (s : List ℕ) where
   PrecedenceFault k e =
       let p = precedence-place s k in
       (precedence-place s (suc k) ≤ length s)
-      × ((Misnames s p × (e ≡ BadItem p)) ⊎ (((not (rises (previous k) (nth k)) ≡ true) × (e ≡ NotRising p)) ⊎ ⊥))
+      × ((Misnames s p × (e ≡ BadItem p)) ⊎ ((not (rises (previous k) (nth k)) ≡ true) × (e ≡ NotRising p)))
 
   spans-precedence : (k : ℕ) → Spans s (tested precedence (precedence-tests (items-on s) (previous k)) .reading)
       (precedence-place s k) (nth k) (precedence-place s (suc k)) (PrecedenceFault k)
-  unfolding precedence converted pair byte _>>=_ testing run precedence-place
+  unfolding precedence converted pair byte _>>=_ precedence-place
   spans-precedence k =
       let p : precedence-place s k + 2 ≡ precedence-place s (suc k) = omega arith in
-      spans-tested s precedence (precedence-tests (items-on s) (previous k))
-      (λ e. elim [
-        | inl (_, q) ↦ rw q (first-inside s refl (omega arith))
-        | inr (inl (_, q)) ↦ rw q (first-inside s refl (omega arith))
-        | inr (inr w) ↦ absurd w
-      ])
-      (λ l. gives-test s (not (names-items (items-on s) (nth k))) (misnames _ _ _)
-      (λ f. elim [ inl (_, q) ↦ rw q (inr (refl, omega arith)) | inr w ↦ absurd w ])
-      (gives-test s (not (rises (previous k) (nth k))) Iff·rfl (λ f w. absurd w) (reads l (λ e w. w))))
+      spans-two-tests s precedence (λ a. not (names-items (items-on s) a)) (λ a. not (rises (previous k) a)) BadItem NotRising
+      (first-inside s refl (omega arith)) (first-inside s refl (omega arith)) (inr (refl, omega arith)) (misnames _ _ _) Iff·rfl
       (rw p at (spans-two-bytes s {A = Arc} (λ u v. record { predecessor = u; successor = v }) (precedence-place s k)))
 
   -- a counted row where its bit is set
@@ -253,16 +239,14 @@ module _ (s : List ℕ) where
   item-to-fault : (k : ℕ) → k < items-on s → {e : Refusal} → ItemFault (item-place s k) e → Fault s e
   item-to-fault k l (inl (a, c, q)) = rw q (item-unknown-bit k l (omega arith) c)
   item-to-fault k l (inr (inl (p, m, (a, inl (c, q))))) = rw q (item-measure k l p m a c)
-  item-to-fault k l (inr (inl (p, m, (a, inr (inl (c, q)))))) = rw q (item-too-large k l p m a c)
-  item-to-fault k l (inr (inl (p, m, (a, inr (inr w))))) = absurd w
+  item-to-fault k l (inr (inl (p, m, (a, inr (c, q))))) = rw q (item-too-large k l p m a c)
   item-to-fault k l (inr (inr w)) = absurd w
 
   precedence-to-fault : (k : ℕ) → k < precedences-on s → {e : Refusal} → PrecedenceFault k e → Fault s e
   unfolding precedence-place
   precedence-to-fault k l (a, inl (c, q)) = rw q (bad-item k l (omega arith) c)
-  precedence-to-fault zero l (a, inr (inl (c, q))) = absurd (false≢true c)
-  precedence-to-fault (suc k) l (a, inr (inl (c, q))) = rw q (not-rising k l (omega arith) (not-above _ _ _ _ .0 c))
-  precedence-to-fault k l (a, inr (inr w)) = absurd w
+  precedence-to-fault zero l (a, inr (c, q)) = absurd (false≢true c)
+  precedence-to-fault (suc k) l (a, inr (c, q)) = rw q (not-rising k l (omega arith) (not-above _ _ _ _ .0 c))
 
   to-fault : {e : Refusal} → OrTrailing s sheet spans-sheet e → Fault s e
   unfolding sheet-end
@@ -270,8 +254,7 @@ module _ (s : List ℕ) where
   to-fault (inl (inr (l, q))) = rw q (ends-early l)
   to-fault (inl (inl (inl (l, c, q)))) = rw q (unknown-bit (omega arith) c)
   to-fault (inl (inl (inr (inl (p, m, (l, inl (c, q))))))) = rw q (container-measure p m l c)
-  to-fault (inl (inl (inr (inl (p, m, (l, inr (inl (c, q)))))))) = rw q (container-too-large p m l c)
-  to-fault (inl (inl (inr (inl (p, m, (l, inr (inr w))))))) = absurd w
+  to-fault (inl (inl (inr (inl (p, m, (l, inr (c, q))))))) = rw q (container-too-large p m l c)
   to-fault (inl (inl (inr (inr (inl (inl (t, (l, c, q)))))))) = rw q (item-count t (omega arith) c)
   to-fault (inl (inl (inr (inr (inl (inr (k, l, w))))))) = item-to-fault k l w
   to-fault (inl (inl (inr (inr (inr (inl (inl (t, (l, c, q))))))))) = rw q (precedence-count t (omega arith) c)
@@ -291,11 +274,11 @@ module _ (s : List ℕ) where
   from-fault (item-count t l c) = inl (inl (inr (inr (inl (inl (t, (omega arith, c, refl)))))))
   from-fault (precedence-count t l c) = inl (inl (inr (inr (inr (inl (inl (t, (omega arith, c, refl))))))))
   from-fault (bad-item i l a c) = inl (inl (inr (inr (inr (inl (inr (i, l, (omega arith, inl (c, refl)))))))))
-  from-fault (not-rising i l a c) = inl (inl (inr (inr (inr (inl (inr (suc i, l, (omega arith, inr (inl (not-above _ _ _ _ .1 c, refl))))))))))
+  from-fault (not-rising i l a c) = inl (inl (inr (inr (inr (inl (inr (suc i, l, (omega arith, inr (not-above _ _ _ _ .1 c, refl)))))))))
   from-fault (trailing-bytes l) = inr (l, refl)
   from-fault (no-lag t l c) = inl (inl (inr (inr (inr (inr (inr (inl (t, (l, c, refl)))))))))
-  from-fault (container-too-large p m l c) = inl (inl (inr (inl (p, m, (l, inr (inl (c, refl)))))))
-  from-fault (item-too-large k l p m a c) = inl (inl (inr (inr (inl (inr (k, l, inr (inl (p, m, (a, inr (inl (c, refl)))))))))))
+  from-fault (container-too-large p m l c) = inl (inl (inr (inl (p, m, (l, inr (c, refl))))))
+  from-fault (item-too-large k l p m a c) = inl (inl (inr (inr (inl (inr (k, l, inr (inl (p, m, (a, inr (c, refl))))))))))
 
   sheet-gives : Gives s (sheet-at s) (sheet-end s) (Fault s) (run (whole sheet) 0 s)
   sheet-gives = gives-as s (gives-whole s sheet spans-sheet) (λ e. (to-fault, from-fault))
