@@ -12,7 +12,7 @@ use Rattle.model.specs.Search.{infeasible}
 use Rattle.model.specs.Calls.{budget-spent, no-packing, packing}
 use Rattle.model.specs.Run.{run-end}
 use Rattle.model.specs.Earliest.{Finish, earliest-finish}
-use Rattle.model.specs.Trials.{Triple, trial, trial-with, problem, xyt, unit, with-budget, trial-right}
+use Rattle.model.specs.Trials.{Triple, TrialCall, Trial, trial, trial-with, problem, xyt, unit, with-budget, trial-right}
 use Rattle.model.specs.Admits.{Sound}
 use Rattle.model.proofs.Feasible.{all-all}
 use Rattle.model.proofs.Theorems.{infeasible-exactly}
@@ -172,11 +172,18 @@ pub walkway-not-in-time : trial-right (trial-with 1 (xyt 8 1 2) four-wide [] (wi
 unfolding trial-right
 walkway-not-in-time = refl
 
--- with a lag too: on t the lag alone counts
-pub walkway-and-lag : trial-right (trial-with 3 (xyt 4 1 5) four-wide (order 1 0 3 ∷ [])
-    (with-budget 9 (packing (xyt 0 0 4 ∷ xyt 0 0 0 ∷ [])) 1 ∷ [])) ≡ true
+-- Walkway and lag. In a hall of 5×1×4 stand items of 2×1×2, 2×1×2 and 5×1×1; order 0, 2 with lag 1. Items 0 and 1 must stand side by side, which takes 2, the
+-- walkway and 2; item 2 waits for 0 and its lag. A walkway of 2 is one too wide
+abbrev side-by-side : ℕ → List TrialCall → Trial
+side-by-side walkway = trial-with walkway (xyt 5 1 4) (xyt 2 1 2 ∷ xyt 2 1 2 ∷ xyt 5 1 1 ∷ []) (order 0 2 1 ∷ [])
+
+pub walkway-and-lag : trial-right (side-by-side 1 (with-budget 9 (packing (xyt 0 0 0 ∷ xyt 3 0 0 ∷ xyt 0 0 3 ∷ [])) 2 ∷ [])) ≡ true
 unfolding trial-right
 walkway-and-lag = refl
+
+pub walkway-too-wide : trial-right (side-by-side 2 (with-budget 9 no-packing 1 ∷ [])) ≡ true
+unfolding trial-right
+walkway-too-wide = refl
 
 -- fit asks for it on x or on y, one of them is enough; corner to corner is closer than the walkway on both
 abbrev square : Problem

@@ -9,10 +9,10 @@ use Rattle.opening.proofs.Layouts.{first-items, laid-none, measures-non
 use Rattle.opening.proofs.layout.put_items.Tie as tie
 
 abbrev Inv-loop : tie.InvT-loop
-Inv-loop t₀ n items u₀ t u = (u ≤ n) × LaidOut (first-items items t₀ u) t × Measures t
+Inv-loop t₀ n items walkway u₀ t u = (u ≤ n) × LaidOut (first-items items walkway t₀ u) t × Measures t
 
 abbrev μ-loop : tie.MeasureT-loop
-μ-loop t₀ n items u₀ t u = n - u
+μ-loop t₀ n items walkway u₀ t u = n - u
 
 -- the next item is one of ten
 room : (c : tie.In-loop Inv-loop μ-loop) → c .before .loop .u < 10

@@ -4,10 +4,10 @@ use Rattle.packing.proofs.Loops.{Failed, parted-on, parted-left, parted
 use Rattle.packing.proofs.feasible.apart_on_some_axis.Tie as tie
 
 abbrev Inv-loop : tie.InvT-loop
-Inv-loop u v first second axis₀ axis = Failed (parted-on first second) 3 axis
+Inv-loop u v first second walkway axis₀ axis = Failed (parted-on walkway first second) 3 axis
 
 abbrev μ-loop : tie.MeasureT-loop
-μ-loop u v first second axis₀ axis = 3 - axis
+μ-loop u v first second walkway axis₀ axis = 3 - axis
 
 pub apart-on-some-axis-spec : {M : Type 1} → Rattle.packing.proofs.feasible.apart_on_some_axis.Statement.statement M
 apart-on-some-axis-spec = tie.close (tie.spec Inv-loop μ-loop (λ c κs. search needs) (λ c κs. search needs) (λ c. search needs)
