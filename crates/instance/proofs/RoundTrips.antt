@@ -86,6 +86,7 @@ same-blanked i v full = record {
   item-count = sym (items-counted i v full);
   items = rw take-append-seam;
   yard-number = refl;
+  walkway = refl;
   precedence-count = sym (length-map (precedences-of i) arc-of ∙ precedences-counted i v full);
   precedences = sym (precedences-are (sheet-of i) ∙ lagged-back (precedences-of i));
 }

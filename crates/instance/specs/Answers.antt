@@ -18,6 +18,7 @@ empty-instance = record {
   precedences = replicate max-precedences no-precedence;
   «precedence_count» = 0;
   «yard_number» = 0;
+  walkway = 0;
 }
 
 abbrev pub read-result : Read Instance → ReadResult

@@ -17,18 +17,21 @@ pub record Draft (i : Instance) : Type 0 where
 abbrev pub later : {n : ℕ} → Fields Sheet (suc n) → Sheet → Fields Sheet n
 later (field get o rest) draft = rest (get draft)
 
--- the fields after the container's, after the items, after the precedences, after the yard number
-abbrev pub after-container : Sheet → Fields Sheet 4
+-- the fields after the container's, after the items, after the precedences, after the yard number, after the lags
+abbrev pub after-container : Sheet → Fields Sheet 5
 after-container s = later (later (later sheet-fields s) s) s
 
-abbrev pub after-items : Sheet → Fields Sheet 3
+abbrev pub after-items : Sheet → Fields Sheet 4
 after-items s = later (after-container s) s
 
-abbrev pub after-precedences : Sheet → Fields Sheet 2
+abbrev pub after-precedences : Sheet → Fields Sheet 3
 after-precedences s = later (after-items s) s
 
-abbrev pub after-yard-number : Sheet → Fields Sheet 1
+abbrev pub after-yard-number : Sheet → Fields Sheet 2
 after-yard-number s = later (after-precedences s) s
+
+abbrev pub after-lags : Sheet → Fields Sheet 1
+after-lags s = later (after-yard-number s) s
 
 -- fields by their bits of the map, from a weight on, and the end of the sheet
 abbrev pub to-the-end : {n : ℕ} → Fields Sheet n → ℕ → ℕ → ℕ → List ℕ → Read Instance
@@ -45,3 +48,6 @@ from-yard-number map draft = to-the-end (after-precedences draft) map 32
 
 unfoldable pub from-lags : ℕ → Sheet → ℕ → List ℕ → Read Instance
 from-lags map draft = to-the-end (after-yard-number draft) map 64
+
+unfoldable pub from-walkway : ℕ → Sheet → ℕ → List ℕ → Read Instance
+from-walkway map draft = to-the-end (after-lags draft) map 128

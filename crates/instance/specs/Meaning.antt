@@ -31,6 +31,7 @@ problem-of i = record {
   items = i .«item_count»;
   size = λ a u. measure-on a (getD (i .items) u no-item .size);
   capacity = λ a. measure-on a (i .container);
+  walkway = i .walkway;
   precedences = map precedence-of (precedences-of i);
 }
 

@@ -24,3 +24,4 @@ pub record SameInstance (i j : Instance) : Type 0 where
   pub precedence-count : i .«precedence_count» ≡ j .«precedence_count»
   pub precedences : precedences-of i ≡ precedences-of j
   pub yard-number : i .«yard_number» ≡ j .«yard_number»
+  pub walkway : i .walkway ≡ j .walkway

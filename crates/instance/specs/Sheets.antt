@@ -17,6 +17,7 @@ instance-of s = record {
   precedences = padded max-precedences no-precedence (with-lags (s .precedences) (s .lags));
   «precedence_count» = length (s .precedences);
   «yard_number» = s .yard-number;
+  walkway = s .walkway;
 }
 
 abbrev pub sheet-of : Instance → Sheet
@@ -26,6 +27,7 @@ sheet-of i = record {
   precedences = map arc-of (precedences-of i);
   yard-number = i .«yard_number»;
   lags = map lag-of (precedences-of i);
+  walkway = i .walkway;
 }
 
 -- the instance that bytes read as, or the first fault from left to right

@@ -17,6 +17,7 @@ pub struct Instance {
     pub precedences: [Precedence; Instance::MAX_PRECEDENCES],
     pub precedence_count: usize,
     pub yard_number: u16,
+    pub walkway: u8,
 }
 
 // Where one item starts.
@@ -66,8 +67,8 @@ impl Instance {
     // "Make 4,095 the greatest measure of halls and pieces."
     pub const MAX_MEASURE: u16 = parts::MAX_MEASURE;
 
-    // "The longest sheet is 351 bytes."
-    pub const MAX_BYTES: usize = 351;
+    // "The longest sheet is 352 bytes."
+    pub const MAX_BYTES: usize = 352;
 
     // The opening checkpoint: open with an empty path.
     pub fn opening() -> Checkpoint

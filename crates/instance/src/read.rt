@@ -4,11 +4,12 @@ ghost use Rattle.formats.specs.Reading.{refused};
 ghost use Rattle.parts.specs.Answers.{PlacesFit};
 ghost use Rattle.instance.specs.Answers.{read-result, empty-instance};
 ghost use Rattle.instance.specs.Sheets.{sheet-of, decode};
-ghost use Rattle.instance.specs.Drafts.{Draft, from-items, from-precedences, from-yard-number, from-lags};
+ghost use Rattle.instance.specs.Drafts.{Draft, from-items, from-precedences, from-yard-number, from-lags, from-walkway};
 use crate::Instance;
 use crate::ReadAnswer;
 use crate::ReadResult;
 use lists::Stop;
+use parts::ByteRead;
 use parts::FieldRead;
 use parts::Size;
 use parts::SizeRead;
@@ -31,6 +32,7 @@ fn empty() -> Instance
         precedences,
         precedence_count: 0,
         yard_number: 0,
+        walkway: 0,
     }
 }
 
@@ -44,7 +46,28 @@ fn refuse(e: Refusal) -> ReadResult
     }
 }
 
-// The lags, and the end of the sheet.
+// The walkway, and the end of the sheet.
+fn read_from_walkway(rest: &[u8], at: usize, map: u8, draft: Instance) -> ReadResult
+    requires { ⌜ PlacesFit at (now rest) × Draft draft ⌝ }
+    ensures { λ r. ⌜ r ≡ read-result (from-walkway map (sheet-of draft) at (now (rest .entry))) ⌝ }
+{
+    match parts::read::read_byte(rest, at, parts::read::bit_is_set(map, 128)) {
+        ByteRead::Refused(e) => refuse(e),
+        ByteRead::Value(walkway, used) => {
+            if used < rest.len() {
+                return refuse(Refusal::TrailingBytes(at + used));
+            }
+            let mut instance = draft;
+            instance.walkway = walkway;
+            ReadResult {
+                answer: ReadAnswer::Read,
+                instance,
+            }
+        }
+    }
+}
+
+// The lags, and what follows them.
 fn read_from_lags(rest: &[u8], at: usize, map: u8, draft: Instance) -> ReadResult
     requires { ⌜ PlacesFit at (now rest) × Draft draft ⌝ }
     ensures { λ r. ⌜ r ≡ read-result (from-lags map (sheet-of draft) at (now (rest .entry))) ⌝ }
@@ -55,18 +78,12 @@ fn read_from_lags(rest: &[u8], at: usize, map: u8, draft: Instance) -> ReadResul
     match stop {
         Stop::Refused(e) => refuse(e),
         Stop::After(used) => {
-            if used < rest.len() {
-                return refuse(Refusal::TrailingBytes(at + used));
-            }
             let unlagged = draft.precedences;
             let lags = list.lags;
             let precedences = lists::with_lags(unlagged, lags);
-            let mut instance = draft;
-            instance.precedences = precedences;
-            ReadResult {
-                answer: ReadAnswer::Read,
-                instance,
-            }
+            let mut next = draft;
+            next.precedences = precedences;
+            read_from_walkway(&rest[used..], at + used, map, next)
         }
     }
 }
@@ -134,9 +151,6 @@ impl Instance {
             return refuse(Refusal::EndsEarly(0));
         }
         let map = bytes[0];
-        if 127 < map {
-            return refuse(Refusal::UnknownBit(0));
-        }
         match parts::read::read_size(&bytes[1..], 1, map) {
             SizeRead::Refused(e) => refuse(e),
             SizeRead::Value(container, used) => {

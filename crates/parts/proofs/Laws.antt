@@ -1,9 +1,9 @@
 -- The parts of a sheet have their laws; what may be written of each, and how many bytes it has at most.
 use Rattle.prelude.specs.Names.{_≡_, refl, sym, _∙_, Bool, true, false, not, cond, _&&_, _||_, and-true, and-false, Bool·not-not, List, [], _∷_}
-use Rattle.prelude.specs.Names.{ℕ, zero, suc, _/_, _%_, _≤_, arith, decLe, ℕ-discrete, eqb, eqb·suc-zero, leb, ltb, length, length-append}
+use Rattle.prelude.specs.Names.{ℕ, zero, suc, _≤_, arith, decLe, ℕ-discrete, eqb, eqb·suc-zero, leb, ltb, length, length-append}
 use Rattle.prelude.specs.Names.{replicate, length-replicate, eqb-true, eq-eqb, ne-eqb, leb-false, le-leb, lt-leb, lt-ltb, le-ltb, not-true}
 use lib.Dec.{eqb·suc-suc}
-use Rattle.formats.specs.Formats.{byte, word, pair, converted, tested, passes-all, keyed, row-bytes, row-valid, row}
+use Rattle.formats.specs.Formats.{Format, byte, word, pair, converted, tested, passes-all, keyed, row-bytes, row-valid, row}
 use Rattle.formats.specs.Fields.{optional-bytes, optional-valid, fields-bytes, fields-valid, fields, map-byte, with-map}
 use Rattle.formats.proofs.Laws.{Lawful, both-true, byte-lawful, word-lawful, pair-lawful, converted-lawful, tested-lawful, row-lawful}
 use Rattle.formats.proofs.Maps.{OptionalLaws, FieldsLaws, with-map-lawful, with-map-valid}
@@ -11,16 +11,28 @@ use Rattle.parts.specs.declared.Item.{Item}
 use Rattle.parts.specs.declared.Previous.{Previous}
 use Rattle.parts.specs.Sizes.{in-range, size-in-range}
 use Rattle.parts.specs.Precedences.{Arc, names-items, rises}
-use Rattle.parts.specs.Parts.{number, measure, measures, item-fields, item, precedence, precedence-tests, lags-zero, lag-row, lag-list}
+use Rattle.parts.specs.Parts.{number-as, number, byte-number, measure, measures, item-fields, item, precedence, precedence-tests, lags-zero}
+use Rattle.parts.specs.Parts.{lag-row, lag-list}
 
-pub number-laws : (default : ℕ) → OptionalLaws (number default)
-unfolding number tested passes-all word
-number-laws default = record {
-  lawful = tested-lawful word-lawful _;
+-- a number in the bytes of f
+number-as-laws : {f : Format ℕ} → Lawful f → (default : ℕ) → OptionalLaws (number-as f default)
+unfolding tested passes-all
+number-as-laws {f} φ default = record {
+  lawful = tested-lawful φ _;
   out = eq-eqb default default refl;
   only = λ v h. sym (eqb-true v default h);
-  apart = λ v h. ne-eqb v default (λ q. omega (arith, leb-false v default (not-true _ (both-true (not (leb v default)) true h .0))));
+  apart = λ v h.
+      let k : (not (leb v default) && true) ≡ true = both-true (f .valid v) _ h .1 in
+      ne-eqb v default (λ q. omega (arith, leb-false v default (not-true _ (both-true _ true k .0))));
 }
+
+pub number-laws : (default : ℕ) → OptionalLaws (number default)
+unfolding number
+number-laws = number-as-laws word-lawful
+
+pub byte-number-laws : OptionalLaws byte-number
+unfolding byte-number
+byte-number-laws = number-as-laws byte-lawful 0
 
 pub measure-laws : OptionalLaws measure
 unfolding measure number tested passes-all word
@@ -44,15 +56,22 @@ unfolding precedence
 precedence-lawful = converted-lawful (pair-lawful byte-lawful byte-lawful) _ _ (λ a. refl) (λ p. refl)
 
 -- a number may be written from its default on
-pub number-valid : (default v : ℕ) → optional-valid (number default) v ≡ leb default v
-unfolding optional-valid number tested passes-all word
-number-valid default v = elim (decLe default v) [
+from-default : (default v : ℕ) → (eqb v default || (not (leb v default) && true)) ≡ leb default v
+from-default default v = elim (decLe default v) [
   | yes l ↦ elim (ℕ-discrete v default) [
     | yes q ↦ simp (eq-eqb v default q, le-leb default v l)
     | no n ↦ simp (ne-eqb v default n, lt-leb v default (omega arith), le-leb default v l)
   ]
   | no k ↦ simp (ne-eqb v default (omega arith), le-leb v default (omega arith), lt-leb default v (omega arith))
 ]
+
+pub number-valid : (default v : ℕ) → optional-valid (number default) v ≡ leb default v
+unfolding optional-valid number tested passes-all word
+number-valid = from-default
+
+pub byte-number-valid : (v : ℕ) → optional-valid byte-number v ≡ leb 0 v
+unfolding optional-valid byte-number tested passes-all byte
+byte-number-valid = from-default 0
 
 -- not above is at most
 pub not-ltb : (a b : ℕ) → not (ltb a b) ≡ leb b a
@@ -77,11 +96,19 @@ pub precedence-valid : (n : ℕ) (last : Previous) (a : Arc)
 unfolding precedence tested passes-all converted pair byte
 precedence-valid n last a = simp (Bool·not-not, and-true)
 
--- two bytes or none
+-- what is written is there whole or not at all
+or-none : (left-out : Bool) (xs : List ℕ) → length (cond left-out [] xs) ≤ length xs
+or-none true xs = omega arith
+or-none false xs = omega arith
+
+-- two bytes or none; one byte or none
 pub number-most : (default v : ℕ) → length (optional-bytes (number default) v) ≤ 2
 unfolding optional-bytes number tested word
-number-most default v =
-    elim (eqb v default) as (λ b. length {A = ℕ} (cond b [] (v % 256 ∷ v / 256 ∷ [])) ≤ 2) [ true ↦ omega arith | false ↦ omega arith ]
+number-most default v = or-none (eqb v default) _
+
+pub byte-number-most : (v : ℕ) → length (optional-bytes byte-number v) ≤ 1
+unfolding optional-bytes byte-number tested byte
+byte-number-most v = or-none (eqb v 0) _
 
 pub measure-most : (v : ℕ) → length (optional-bytes measure v) ≤ 2
 unfolding optional-bytes measure number tested
@@ -151,5 +178,4 @@ lag-bytes m gs = rw lag-row-bytes
 
 -- one byte each, or none
 pub lags-most : (m : ℕ) (gs : List ℕ) → length (optional-bytes (lag-list m) gs) ≤ length gs
-lags-most m gs =
-    rw lag-bytes (elim (eqb (length gs) m && lags-zero gs) as (λ b. length {A = ℕ} (cond b [] gs) ≤ length gs) [ true ↦ omega arith | false ↦ omega arith ])
+lags-most m gs = rw lag-bytes (or-none (eqb (length gs) m && lags-zero gs) gs)

@@ -11,8 +11,8 @@ use Rattle.parts.specs.declared.Size.{Size}
 use Rattle.parts.specs.declared.Previous.{Previous}
 use Rattle.parts.specs.Sizes.{max-measure}
 use Rattle.parts.specs.Precedences.{Arc, unlagged, names-items, rises}
-use Rattle.parts.specs.Parts.{number, measure, count-field, measures, size-fields, item-fields, item, precedence, precedence-tests, lags-zero, lag-row}
-use Rattle.parts.specs.Parts.{lag-list}
+use Rattle.parts.specs.Parts.{number, byte-number, measure, count-field, measures, size-fields, item-fields, item, precedence, precedence-tests}
+use Rattle.parts.specs.Parts.{lags-zero, lag-row, lag-list}
 
 -- one byte is read, or two, where they are there
 one-due : {A : Type 0} (next : ℕ → Reading A) (at : ℕ) (rest : List ℕ) → run (due next) at rest
@@ -35,6 +35,13 @@ pub number-run : (default at : ℕ) (present : Bool) (rest : List ℕ) → run (
 unfolding number tested testing word run _>>=_
 number-run default at true rest = two-due _ at rest
 number-run default at false rest = refl
+
+pub byte-number-run : (at : ℕ) (present : Bool) (rest : List ℕ) → run (optional-reading byte-number present) at rest
+    ≡ (let v = getD rest 0 0 in cond (not present) (got 0 at rest) (cond (ltb (length rest) 1) (refused (EndsEarly at))
+    (cond (leb v 0) (refused (WrittenDefault at)) (got v (at + 1) (drop 1 rest)))))
+unfolding byte-number tested testing byte run _>>=_
+byte-number-run at true rest = one-due _ at rest
+byte-number-run at false rest = refl
 
 -- a measure passes one test more
 pub measure-run : (at : ℕ) (present : Bool) (rest : List ℕ) → run (optional-reading measure present) at rest

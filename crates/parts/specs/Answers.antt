@@ -4,11 +4,13 @@ use Rattle.parts.specs.declared.Size.{Size}
 use Rattle.parts.specs.declared.Item.{Item}
 use Rattle.parts.specs.declared.Precedence.{Precedence}
 use Rattle.parts.specs.declared.FieldRead.{FieldRead}
+use Rattle.parts.specs.declared.ByteRead.{ByteRead}
 use Rattle.parts.specs.declared.SizeRead.{SizeRead}
 use Rattle.parts.specs.declared.ItemRead.{ItemRead}
 use Rattle.parts.specs.declared.PrecedenceRead.{PrecedenceRead}
 use Rattle.formats.specs.Reading.{Read, got, refused}
 use Rattle.parts.specs.declared.FieldRead.the-variants as F
+use Rattle.parts.specs.declared.ByteRead.the-variants as B
 use Rattle.parts.specs.declared.SizeRead.the-variants as S
 use Rattle.parts.specs.declared.ItemRead.the-variants as I
 use Rattle.parts.specs.declared.PrecedenceRead.the-variants as P
@@ -21,6 +23,10 @@ module _ (at : ℕ) (rest : List ℕ) where
   abbrev pub field-read : FieldRead → Read ℕ
   field-read (F.Value v used) = value-taken at rest v used
   field-read (F.Refused e) = refused e
+
+  abbrev pub byte-read : ByteRead → Read ℕ
+  byte-read (B.Value v used) = value-taken at rest v used
+  byte-read (B.Refused e) = refused e
 
   abbrev pub size-read : SizeRead → Read Size
   size-read (S.Value s used) = value-taken at rest s used

@@ -1,8 +1,8 @@
 -- The parts of a sheet as formats (document 01, "Sheet bytes").
-use Rattle.prelude.specs.Names.{ℕ, suc, true, not, cond, _&&_, Bool, List, [], _∷_, eqb, leb, ltb, length, replicate}
+use Rattle.prelude.specs.Names.{ℕ, suc, true, not, _&&_, Bool, List, [], _∷_, eqb, leb, ltb, length, replicate}
 use Rattle.refusal.specs.declared.Refusal.the-variants.{WrittenDefault, BadItem, NotRising, NoLag, TooLarge}
 use Rattle.formats.specs.Formats.{Format, Test, byte, word, pair, converted, tested, row, count}
-use Rattle.formats.specs.Fields.{Optional, Fields, made, field, with-map}
+use Rattle.formats.specs.Fields.{Optional, optional-bytes, flag, Fields, made, field, with-map}
 use Rattle.parts.specs.declared.Size.{Size}
 use Rattle.parts.specs.declared.Item.{Item}
 use Rattle.parts.specs.declared.Previous.{Previous}
@@ -13,13 +13,20 @@ use Rattle.parts.specs.Precedences.{Arc, names-items, rises}
 abbrev pub low-test : ℕ → ℕ → Test
 low-test default v = record { fault = leb v default; refusal = WrittenDefault }
 
--- a two-byte field that is left out for its default
-unfoldable pub number : ℕ → Optional ℕ
-number default = record {
+-- a number that is left out for its default, in the bytes of f
+abbrev pub number-as : Format ℕ → ℕ → Optional ℕ
+number-as f default = record {
   default = default;
   left-out = λ v. eqb v default;
-  written = tested word λ v. low-test default v ∷ [];
+  written = tested f λ v. low-test default v ∷ [];
 }
+
+-- in two bytes; in one byte, which is left out for 0
+unfoldable pub number : ℕ → Optional ℕ
+number = number-as word
+
+unfoldable pub byte-number : Optional ℕ
+byte-number = number-as byte 0
 
 -- 3: "a written measure of 0 or 1"; 12: "a written measure above 4,095 .. after 3"
 abbrev pub measure-tests : ℕ → List Test
@@ -33,12 +40,12 @@ measure = record { default = 1; left-out = λ v. eqb v 1; written = tested word 
 unfoldable pub count-field : ℕ → Optional ℕ
 count-field limit = record { default = 0; left-out = λ n. eqb n 0; written = count limit }
 
--- its bytes and its bit, whatever the limit
-unfoldable pub count-bytes : ℕ → List ℕ
-count-bytes n = cond (eqb n 0) [] (n ∷ [])
+-- its bytes and its bit, whatever the limit: those of a byte that is left out for 0
+abbrev pub count-bytes : ℕ → List ℕ
+count-bytes = optional-bytes byte-number
 
 abbrev pub count-flag : ℕ → ℕ
-count-flag n = cond (eqb n 0) 0 1
+count-flag = flag byte-number
 
 -- bits 0, 1, 2 of a map byte: "width, depth, shifts"
 unfoldable pub measures : {S : Type 0} {n : ℕ} → (S → Size) → (Size → Fields S n) → Fields S (suc (suc (suc n)))

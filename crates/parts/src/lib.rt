@@ -40,6 +40,11 @@ pub enum FieldRead {
     Refused(Refusal),
 }
 
+pub enum ByteRead {
+    Value(u8, usize),
+    Refused(Refusal),
+}
+
 pub enum SizeRead {
     Value(Size, usize),
     Refused(Refusal),

@@ -5,8 +5,9 @@ ghost use Rattle.formats.specs.Reading.{run, read-as};
 ghost use Rattle.formats.specs.Formats.{tested};
 ghost use Rattle.formats.specs.Fields.{is-set, optional-reading, fields-reading};
 ghost use Rattle.parts.specs.Precedences.{unlagged};
-ghost use Rattle.parts.specs.Parts.{number, measure, count-field, size-fields, item, precedence, precedence-tests};
-ghost use Rattle.parts.specs.Answers.{field-read, size-read, item-read, precedence-read, PlacesFit};
+ghost use Rattle.parts.specs.Parts.{number, byte-number, measure, count-field, size-fields, item, precedence, precedence-tests};
+ghost use Rattle.parts.specs.Answers.{field-read, byte-read, size-read, item-read, precedence-read, PlacesFit};
+use crate::ByteRead;
 use crate::FieldRead;
 use crate::Item;
 use crate::ItemRead;
@@ -47,6 +48,23 @@ pub fn read_field(rest: &[u8], at: usize, present: bool, default: u16) -> FieldR
         return FieldRead::Refused(Refusal::WrittenDefault(at));
     }
     FieldRead::Value(v, 2)
+}
+
+// A one-byte field; left out it means 0.
+pub fn read_byte(rest: &[u8], at: usize, present: bool) -> ByteRead
+    ensures { λ r. ⌜ run (optional-reading byte-number present) at (now (rest .entry)) ≡ byte-read at (now (rest .entry)) r ⌝ }
+{
+    if !present {
+        return ByteRead::Value(0, 0);
+    }
+    if rest.len() < 1 {
+        return ByteRead::Refused(Refusal::EndsEarly(at));
+    }
+    let v = rest[0];
+    if v == 0 {
+        return ByteRead::Refused(Refusal::WrittenDefault(at));
+    }
+    ByteRead::Value(v, 1)
 }
 
 // A measure, up to the greatest; left out it means 1.

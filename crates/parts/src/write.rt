@@ -5,7 +5,7 @@ ghost use lib.ListN.{length};
 ghost use lib.Seq.{sets};
 ghost use Rattle.formats.specs.Fields.{flag, flags, optional-bytes, fields-bytes};
 ghost use Rattle.parts.specs.Precedences.{arc-of};
-ghost use Rattle.parts.specs.Parts.{number, count-bytes, count-flag, size-fields, item, precedence};
+ghost use Rattle.parts.specs.Parts.{number, byte-number, size-fields, item, precedence};
 use crate::Item;
 use crate::Precedence;
 use crate::Size;
@@ -36,23 +36,23 @@ pub fn write_field(out: &mut [u8], at: usize, default: u16, v: u16) -> usize
     at + 2
 }
 
-// The same of a count, which is left out for none.
-pub fn flag_of_count(n: usize) -> u8
-    ensures { λ r. ⌜ (r ≡ count-flag n) × (r ≤ 1) ⌝ }
+// The same of one byte, which is left out for 0: a count, the walkway.
+pub fn flag_of_byte(n: usize) -> u8
+    ensures { λ r. ⌜ (r ≡ flag byte-number n) × (r ≤ 1) ⌝ }
 {
     if n == 0 { 0 } else { 1 }
 }
 
-pub fn count_len(n: usize) -> usize
-    ensures { λ r. ⌜ (r ≡ length (count-bytes n)) × (r ≤ 1) ⌝ }
+pub fn byte_len(n: usize) -> usize
+    ensures { λ r. ⌜ (r ≡ length (optional-bytes byte-number n)) × (r ≤ 1) ⌝ }
 {
     if n == 0 { 0 } else { 1 }
 }
 
-pub fn write_count(out: &mut [u8], at: usize, n: usize) -> usize
-    requires { ⌜ (n ≤ 255) × (at + length (count-bytes n) ≤ length (now out)) ⌝ }
-    ensures { λ r. ⌜ r ≡ at + length (count-bytes n) ⌝ }
-    ensures { λ _. ⌜ now (out .exit) ≡ sets (now (out .entry)) at (count-bytes n) ⌝ }
+pub fn write_byte(out: &mut [u8], at: usize, n: usize) -> usize
+    requires { ⌜ (n ≤ 255) × (at + length (optional-bytes byte-number n) ≤ length (now out)) ⌝ }
+    ensures { λ r. ⌜ r ≡ at + length (optional-bytes byte-number n) ⌝ }
+    ensures { λ _. ⌜ now (out .exit) ≡ sets (now (out .entry)) at (optional-bytes byte-number n) ⌝ }
 {
     if n == 0 {
         return at;

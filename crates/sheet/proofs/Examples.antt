@@ -26,30 +26,34 @@ item-of width depth shifts = record { size = size-of width depth shifts }
 abbrev before : ℕ → ℕ → Arc
 before u v = record { predecessor = u; successor = v }
 
-abbrev sheet-of : Size → List Item → List Arc → ℕ → List ℕ → Sheet
-sheet-of container items precedences yard-number lags =
-    record { container = container; items = items; precedences = precedences; yard-number = yard-number; lags = lags }
+abbrev sheet-of : Size → List Item → List Arc → ℕ → List ℕ → ℕ → Sheet
+sheet-of container items precedences yard-number lags walkway =
+    record { container = container; items = items; precedences = precedences; yard-number = yard-number; lags = lags; walkway = walkway }
 
 readings :
     -- the hall 2×1×2 with the pieces 2×1×1 and 1×1×1 and the order 1,0
     Means (0x1D ∷ 2 ∷ 0 ∷ 2 ∷ 0 ∷ 2 ∷ 1 ∷ 2 ∷ 0 ∷ 0 ∷ 1 ∷ 1 ∷ 0 ∷ [])
-    (sheet-of (size-of 2 1 2) (item-of 2 1 1 ∷ item-of 1 1 1 ∷ []) (before 1 0 ∷ []) 0 (0 ∷ []))
+    (sheet-of (size-of 2 1 2) (item-of 2 1 1 ∷ item-of 1 1 1 ∷ []) (before 1 0 ∷ []) 0 (0 ∷ []) 0)
     -- the same with a lag of 5
     × Means (0x5D ∷ 2 ∷ 0 ∷ 2 ∷ 0 ∷ 2 ∷ 1 ∷ 2 ∷ 0 ∷ 0 ∷ 1 ∷ 1 ∷ 0 ∷ 5 ∷ [])
-    (sheet-of (size-of 2 1 2) (item-of 2 1 1 ∷ item-of 1 1 1 ∷ []) (before 1 0 ∷ []) 0 (5 ∷ []))
+    (sheet-of (size-of 2 1 2) (item-of 2 1 1 ∷ item-of 1 1 1 ∷ []) (before 1 0 ∷ []) 0 (5 ∷ []) 0)
     -- all left out
-    × Means (0 ∷ []) (sheet-of (size-of 1 1 1) [] [] 0 [])
+    × Means (0 ∷ []) (sheet-of (size-of 1 1 1) [] [] 0 [] 0)
     -- the hall's measures alone; the yard number alone
-    × Means (0x07 ∷ 2 ∷ 0 ∷ 3 ∷ 0 ∷ 4 ∷ 0 ∷ []) (sheet-of (size-of 2 3 4) [] [] 0 [])
-    × Means (0x20 ∷ 1 ∷ 0 ∷ []) (sheet-of (size-of 1 1 1) [] [] 1 [])
+    × Means (0x07 ∷ 2 ∷ 0 ∷ 3 ∷ 0 ∷ 4 ∷ 0 ∷ []) (sheet-of (size-of 2 3 4) [] [] 0 [] 0)
+    × Means (0x20 ∷ 1 ∷ 0 ∷ []) (sheet-of (size-of 1 1 1) [] [] 1 [] 0)
     -- the greatest measure; the yard number 65,535
-    × Means (0x0C ∷ 255 ∷ 15 ∷ 1 ∷ 0x01 ∷ 255 ∷ 15 ∷ []) (sheet-of (size-of 1 1 4095) (item-of 4095 1 1 ∷ []) [] 0 [])
-    × Means (0x20 ∷ 255 ∷ 255 ∷ []) (sheet-of (size-of 1 1 1) [] [] 65535 [])
+    × Means (0x0C ∷ 255 ∷ 15 ∷ 1 ∷ 0x01 ∷ 255 ∷ 15 ∷ []) (sheet-of (size-of 1 1 4095) (item-of 4095 1 1 ∷ []) [] 0 [] 0)
+    × Means (0x20 ∷ 255 ∷ 255 ∷ []) (sheet-of (size-of 1 1 1) [] [] 65535 [] 0)
+    -- the least walkway and the widest; a lag, and a walkway after it
+    × Means (0x80 ∷ 1 ∷ []) (sheet-of (size-of 1 1 1) [] [] 0 [] 1)
+    × Means (0x80 ∷ 255 ∷ []) (sheet-of (size-of 1 1 1) [] [] 0 [] 255)
+    × Means (0xD8 ∷ 2 ∷ 0 ∷ 0 ∷ 1 ∷ 0 ∷ 1 ∷ 3 ∷ 5 ∷ []) (sheet-of (size-of 1 1 1) (item-of 1 1 1 ∷ item-of 1 1 1 ∷ []) (before 0 1 ∷ []) 0 (3 ∷ []) 5)
     -- all written, and no two alike
     × Means
-    (0x7F ∷ 2 ∷ 1 ∷ 3 ∷ 0 ∷ 4 ∷ 0 ∷ 2 ∷ 0x07 ∷ 5 ∷ 0 ∷ 6 ∷ 0 ∷ 7 ∷ 0 ∷ 0x07 ∷ 8 ∷ 0 ∷ 9 ∷ 0 ∷ 11 ∷ 10
-    ∷ 2 ∷ 0 ∷ 1 ∷ 1 ∷ 0 ∷ 12 ∷ 13 ∷ 0 ∷ 14 ∷ [])
-    (sheet-of (size-of 0x0102 3 4) (item-of 5 6 7 ∷ item-of 8 9 0x0A0B ∷ []) (before 0 1 ∷ before 1 0 ∷ []) 0x0D0C (0 ∷ 14 ∷ []))
+    (0xFF ∷ 2 ∷ 1 ∷ 3 ∷ 0 ∷ 4 ∷ 0 ∷ 2 ∷ 0x07 ∷ 5 ∷ 0 ∷ 6 ∷ 0 ∷ 7 ∷ 0 ∷ 0x07 ∷ 8 ∷ 0 ∷ 9 ∷ 0 ∷ 11 ∷ 10
+    ∷ 2 ∷ 0 ∷ 1 ∷ 1 ∷ 0 ∷ 12 ∷ 13 ∷ 0 ∷ 14 ∷ 15 ∷ [])
+    (sheet-of (size-of 0x0102 3 4) (item-of 5 6 7 ∷ item-of 8 9 0x0A0B ∷ []) (before 0 1 ∷ before 1 0 ∷ []) 0x0D0C (0 ∷ 14 ∷ []) 15)
 unfolding sheet-computing
 readings = search
 
@@ -58,8 +62,7 @@ refusals :
     (read [] ≡ refused (EndsEarly 0))
     × (read (0x01 ∷ 2 ∷ []) ≡ refused (EndsEarly 2))
     × (read (0x18 ∷ 2 ∷ 0 ∷ 0 ∷ 1 ∷ 2 ∷ []) ≡ refused (EndsEarly 6))
-    -- 2: bit 7 of the sheet, bit 3 of a piece
-    × (read (0x80 ∷ []) ≡ refused (UnknownBit 0))
+    -- 2: bit 3 of a piece
     × (read (0x08 ∷ 1 ∷ 0x08 ∷ []) ≡ refused (UnknownBit 2))
     -- 3: a measure of 1, yard number 0
     × (read (0x01 ∷ 1 ∷ 0 ∷ []) ≡ refused (WrittenDefault 1))
@@ -89,6 +92,17 @@ refusals :
     × (read (0x58 ∷ 2 ∷ 0 ∷ 0 ∷ 2 ∷ 0 ∷ 1 ∷ 1 ∷ 0 ∷ 0 ∷ 0 ∷ []) ≡ refused (NoLag 9))
     × (read (0x58 ∷ 2 ∷ 0 ∷ 0 ∷ 2 ∷ 0 ∷ 1 ∷ 1 ∷ 0 ∷ 0 ∷ 0 ∷ 9 ∷ []) ≡ refused (NoLag 9))
     × (read (0x58 ∷ 2 ∷ 0 ∷ 0 ∷ 2 ∷ 0 ∷ 1 ∷ 1 ∷ 0 ∷ 0 ∷ []) ≡ refused (EndsEarly 10))
+    -- the walkway: 3, also after a lag; 1, also after a lag; 7 for a byte after it
+    × (read (0x80 ∷ 0 ∷ []) ≡ refused (WrittenDefault 1))
+    × (read (0xD8 ∷ 2 ∷ 0 ∷ 0 ∷ 1 ∷ 0 ∷ 1 ∷ 3 ∷ 0 ∷ []) ≡ refused (WrittenDefault 8))
+    × (read (0x80 ∷ []) ≡ refused (EndsEarly 1))
+    × (read (0xD8 ∷ 2 ∷ 0 ∷ 0 ∷ 1 ∷ 0 ∷ 1 ∷ 3 ∷ []) ≡ refused (EndsEarly 8))
+    × (read (0x80 ∷ 5 ∷ 0 ∷ []) ≡ refused (TrailingBytes 2))
+    -- 11 comes before what is said of a walkway: of an empty field of lags, with 1, 3 or none at the same place; of a lag of 0
+    × (read (0xC0 ∷ []) ≡ refused (NoLag 1))
+    × (read (0xC0 ∷ 0 ∷ []) ≡ refused (NoLag 1))
+    × (read (0xC0 ∷ 5 ∷ []) ≡ refused (NoLag 1))
+    × (read (0xD8 ∷ 2 ∷ 0 ∷ 0 ∷ 1 ∷ 0 ∷ 1 ∷ 0 ∷ 0 ∷ []) ≡ refused (NoLag 7))
     -- 12: a width of 4,096; shifts of 65,535 after a width of 4,095; a piece's depth of 4,096. 1: its high byte is missing; 3: a field before it
     × (read (0x01 ∷ 0 ∷ 16 ∷ []) ≡ refused (TooLarge 1))
     × (read (0x05 ∷ 255 ∷ 15 ∷ 255 ∷ 255 ∷ []) ≡ refused (TooLarge 3))

@@ -4,10 +4,10 @@ use Rattle.prelude.specs.Names.{Iff·rfl, ℕ, zero, suc, _+_, _*_, _≤_, _<_,
 use Rattle.prelude.specs.Names.{getD, drop, eqb-true, eq-eqb, ne-eqb, lt-ltb, ltb-true, le-ltb, leb-true, le-leb}
 use lib.Seq.{drop-length}
 use Rattle.refusal.specs.declared.Refusal.{Refusal}
-use Rattle.refusal.specs.declared.Refusal.the-variants.{WrittenDefault, BadItem, NotRising, NoLag, TooLarge}
-use Rattle.formats.specs.Reading.{got, refused, run, _>>=_}
+use Rattle.refusal.specs.declared.Refusal.the-variants.{UnknownBit, WrittenDefault, BadItem, NotRising, NoLag, TooLarge}
+use Rattle.formats.specs.Reading.{Bytes, got, refused, run, _>>=_}
 use Rattle.formats.specs.Formats.{up-to, Format, Test, byte, word, pair, converted, tested, keyed, row, count, counted, whole}
-use Rattle.formats.specs.Fields.{Fields, optional-reading, is-set, fields-reading, fields, map-byte, with-map}
+use Rattle.formats.specs.Fields.{Optional, optional-reading, Fields, is-set, fields-reading, fields, map-byte, with-map}
 use Rattle.formats.proofs.Laws.{both-true}
 use Rattle.formats.proofs.Spans.{length-up-to, getD-up-to, Gives, gives-as, first-given, none-given, given-none, Spans, spans-as}
 use Rattle.formats.proofs.Spans.{default-before-large, spans-two-tests}
@@ -16,16 +16,17 @@ use Rattle.formats.proofs.Spans.{spans-untested, Unknown, spans-map, Miscounted
 use Rattle.parts.specs.declared.Size.{Size}
 use Rattle.parts.specs.declared.Previous.{Previous}
 use Rattle.parts.specs.declared.Previous.the-variants.{Nothing, Was}
-use Rattle.parts.specs.Parts.{number, measure, measures, item-fields, item, precedence, precedence-tests, lags-zero, lag-row, lag-list}
+use Rattle.parts.specs.Parts.{number-as, number, byte-number, measure, measures, item-fields, item, precedence, precedence-tests, lags-zero, lag-row}
+use Rattle.parts.specs.Parts.{lag-list}
 use Rattle.parts.specs.Precedences.{Arc, unlagged, names-items, above, rises}
 use Rattle.parts.specs.Sizes.{max-measure, no-item}
 use Rattle.parts.proofs.Laws.{lag-laws}
 use Rattle.sheet.specs.Sheet.{Sheet, max-items, max-precedences, list-of, item-list, precedence-list, sheet-fields, sheet}
 use Rattle.sheet.specs.Places.{two-if, measures-length, byte-at, word-at, precedence-at, has, container-end, items-on, after-item, item-place}
-use Rattle.sheet.specs.Places.{items-end, precedences-on, precedence-place, precedences-end, yard-number-end, sheet-end}
+use Rattle.sheet.specs.Places.{items-end, precedences-on, precedence-place, precedences-end, yard-number-end, lags-end, sheet-end}
 use Rattle.sheet.specs.Faults.{MeasureAt, width, depth, shifts, Misnames, Fault, FirstFault, ends-early, unknown-bit, item-unknown-bit}
-use Rattle.sheet.specs.Faults.{container-measure, item-measure, yard-number, item-count, precedence-count, bad-item, not-rising, trailing-bytes, no-lag}
-use Rattle.sheet.specs.Faults.{container-too-large, item-too-large}
+use Rattle.sheet.specs.Faults.{container-measure, item-measure, yard-number, walkway, item-count, precedence-count, bad-item, not-rising}
+use Rattle.sheet.specs.Faults.{trailing-bytes, no-lag, container-too-large, item-too-large}
 use Rattle.sheet.specs.Contents.{size-at, item-at, items-at, sheet-at}
 use Rattle.sheet.specs.Sheet as S
 
@@ -79,19 +80,31 @@ unfolding lag-list
 left-out-lags m = lag-laws m .only _ (rw (eq-eqb _ m (length-up-to {A = ℕ} m (λ _. 0))) (no-lags m (λ _. 0) .1 (λ i l. refl)))
 
 module _ (s : List ℕ) where
-  -- 3 at a two-byte field
-  abbrev Low : ℕ → ℕ → Refusal → Type 0
-  Low default at e = (at + 2 ≤ length s) × (word-at s at ≤ default) × (e ≡ WrittenDefault at)
+  -- a field is read where its bit is set
+  spans-optional : {A : Type 0} (o : Optional A) (bit : Bool) (at size : ℕ) {x : A} {W : Refusal → Type 0} → Spans s (o .written .reading) at x (at + size) W
+      → Spans s (optional-reading o bit) at (cond bit x (o .default)) (at + cond bit size 0) (λ e. (bit ≡ true) × W e)
+  spans-optional o true at size σ = spans-as s σ (λ e. (λ w. (refl, w), λ (_, w). w))
+  spans-optional o false at size σ =
+      rw add-zero (spans-as s (spans-done s (o .default) at) (λ e. (λ w. absurd w, λ (q, _). absurd (false≢true q))))
 
-  spans-number : (default : ℕ) (bit : Bool) (at : ℕ)
-      → Spans s (optional-reading (number default) bit) at (cond bit (word-at s at) default) (at + two-if bit) (λ e. (bit ≡ true) × Low default at e)
+  -- 3 at a number v
+  abbrev Low : ℕ → ℕ → ℕ → ℕ → Refusal → Type 0
+  Low default v at stop e = (stop ≤ length s) × (v ≤ default) × (e ≡ WrittenDefault at)
+
+  spans-number-as : (f : Format ℕ) (default : ℕ) {at v stop : ℕ} → at < stop → Spans s (f .reading) at v stop (λ e. ⊥)
+      → Spans s (number-as f default .written .reading) at v stop (Low default v at stop)
+  spans-number-as f default l σ = spans-one-test s f (λ v. leb v default) WrittenDefault (first-inside s refl (omega arith)) (leb-true _ _, le-leb _ _) σ
+
+  spans-number : (default : ℕ) (bit : Bool) (at : ℕ) → Spans s (optional-reading (number default) bit) at (cond bit (word-at s at) default)
+      (at + two-if bit) (λ e. (bit ≡ true) × Low default (word-at s at) at (at + 2) e)
   unfolding number word
-  spans-number default true at =
-      let σ = spans-two-bytes s (λ low high. low + 256 * high) at in
-      spans-as s (spans-one-test s word (λ v. leb v default) WrittenDefault (first-inside s refl (omega arith)) (leb-true _ _, le-leb _ _) σ)
-      (λ e. (λ w. (refl, w), λ (_, w). w))
-  spans-number default false at =
-      rw add-zero (spans-as s (spans-done s default at) (λ e. (λ w. absurd w, λ (q, _). absurd (false≢true q))))
+  spans-number default bit at =
+      spans-optional (number default) bit at 2 (spans-number-as word default (omega arith) (spans-two-bytes s (λ low high. low + 256 * high) at))
+
+  spans-byte-number : (bit : Bool) (at : ℕ) → Spans s (optional-reading byte-number bit) at (cond bit (byte-at s at) 0)
+      (at + cond bit 1 0) (λ e. (bit ≡ true) × Low 0 (byte-at s at) at (at + 1) e)
+  unfolding byte-number
+  spans-byte-number bit at = spans-optional byte-number bit at 1 (spans-number-as byte 0 (omega arith) (spans-byte s at))
 
   -- 3 or 12 at a measure
   abbrev Misfit : ℕ → Refusal → Type 0
@@ -100,13 +113,10 @@ module _ (s : List ℕ) where
   spans-measure : (bit : Bool) (at : ℕ)
       → Spans s (optional-reading measure bit) at (cond bit (word-at s at) 1) (at + two-if bit) (λ e. (bit ≡ true) × Misfit at e)
   unfolding measure word
-  spans-measure true at =
+  spans-measure bit at =
       let σ = spans-two-bytes s (λ low high. low + 256 * high) at in
-      spans-as s (spans-two-tests s word (λ v. leb v 1) (λ v. ltb max-measure v) WrittenDefault TooLarge (first-inside s refl (omega arith))
-      (first-inside s refl (omega arith)) (default-before-large at) (leb-true _ _, le-leb _ _) (ltb-true _ _, lt-ltb _ _) σ)
-      (λ e. (λ w. (refl, w), λ (_, w). w))
-  spans-measure false at =
-      rw add-zero (spans-as s (spans-done s 1 at) (λ e. (λ w. absurd w, λ (q, _). absurd (false≢true q))))
+      spans-optional measure bit at 2 (spans-two-tests s word (λ v. leb v 1) (λ v. ltb max-measure v) WrittenDefault TooLarge
+      (first-inside s refl (omega arith)) (first-inside s refl (omega arith)) (default-before-large at) (leb-true _ _, le-leb _ _) (ltb-true _ _, lt-ltb _ _) σ)
 
   -- at one of the container or item whose map byte is at m
   abbrev MeasureFault : ℕ → Refusal → Type 0
@@ -222,18 +232,31 @@ module _ (s : List ℕ) where
   spans-lags m false at =
       rw (add-zero, ← (left-out-lags m)) (spans-as s (spans-done s _ at) (λ e. (λ w. absurd w, λ (q, _). absurd (false≢true q))))
 
-  spans-sheet : Spans s (sheet .reading) 0 (sheet-at s) (sheet-end s)
-      (λ e. Unknown s 7 0 e ⊎ (MeasureFault 0 e ⊎ (ItemsFault e ⊎ (PrecedencesFault e ⊎ (((has s 32 ≡ true) × Low 0 (precedences-end s) e)
-      ⊎ (LagsFault (precedences-on s) (has s 64) (yard-number-end s) e ⊎ ⊥))))))
-  unfolding sheet sheet-fields with-map keyed fields fields-reading container-end yard-number-end sheet-end S.yard-number
-  spans-sheet =
-      spans-then s (map-byte 7 .reading) _ (spans-map s 7 0)
-      (spans-measures (λ (x : Sheet). x .container) _ 0
+  abbrev YardNumberFault : Refusal → Type 0
+  YardNumberFault e = let at = precedences-end s in (has s 32 ≡ true) × Low 0 (word-at s at) at (at + 2) e
+
+  abbrev WalkwayFault : Refusal → Type 0
+  WalkwayFault e = let at = lags-end s in (has s 128 ≡ true) × Low 0 (byte-at s at) at (at + 1) e
+
+  -- the fields after the map byte
+  abbrev FieldsFault : Refusal → Type 0
+  FieldsFault e = MeasureFault 0 e ⊎ (ItemsFault e ⊎ (PrecedencesFault e ⊎ (YardNumberFault e
+      ⊎ (LagsFault (precedences-on s) (has s 64) (yard-number-end s) e ⊎ (WalkwayFault e ⊎ ⊥)))))
+
+  spans-fields : Spans s (fields-reading sheet-fields (byte-at s 0) 1) 1 (sheet-at s) (sheet-end s) FieldsFault
+  unfolding sheet-fields fields-reading container-end yard-number-end lags-end sheet-end S.yard-number S.walkway
+  spans-fields =
+      spans-measures (λ (x : Sheet). x .container) _ 0
       (spans-then s _ _ spans-items
       (spans-then s _ _ (spans-precedences (length (items-at s)) (length-up-to (items-on s) _))
       (spans-then s _ _ (spans-number 0 (has s 32) (precedences-end s))
       (spans-then s _ _ (rw (length-up-to (precedences-on s) nth) (spans-lags (precedences-on s) (has s 64) (yard-number-end s)))
+      (spans-then s _ _ (spans-byte-number (has s 128) (lags-end s))
       (spans-done s (sheet-at s) (sheet-end s)))))))
+
+  spans-sheet : Spans s (sheet .reading) 0 (sheet-at s) (sheet-end s) (λ e. Unknown s 8 0 e ⊎ FieldsFault e)
+  unfolding sheet with-map keyed fields
+  spans-sheet = spans-then s (map-byte 8 .reading) _ (spans-map s 8 0) spans-fields
 
   -- what reading meets are the faults of the table
   item-to-fault : (k : ℕ) → k < items-on s → {e : Refusal} → ItemFault (item-place s k) e → Fault s e
@@ -249,7 +272,7 @@ module _ (s : List ℕ) where
   precedence-to-fault (suc k) l (a, inr (c, q)) = rw q (not-rising k l (omega arith) (not-above _ _ _ _ .0 c))
 
   to-fault : {e : Refusal} → OrTrailing s sheet spans-sheet e → Fault s e
-  unfolding sheet-end
+  unfolding lags-end
   to-fault (inr (l, q)) = rw q (trailing-bytes l)
   to-fault (inl (inr (l, q))) = rw q (ends-early l)
   to-fault (inl (inl (inl (l, c, q)))) = rw q (unknown-bit (omega arith) c)
@@ -261,16 +284,18 @@ module _ (s : List ℕ) where
   to-fault (inl (inl (inr (inr (inr (inl (inr (k, l, w)))))))) = precedence-to-fault k l w
   to-fault (inl (inl (inr (inr (inr (inr (inl (t, (l, c, q))))))))) = rw q (yard-number t l (omega arith))
   to-fault (inl (inl (inr (inr (inr (inr (inr (inl (t, (l, c, q)))))))))) = rw q (no-lag t l c)
-  to-fault (inl (inl (inr (inr (inr (inr (inr (inr w)))))))) = absurd w
+  to-fault (inl (inl (inr (inr (inr (inr (inr (inr (inl (t, (l, c, q))))))))))) = rw q (walkway t (omega arith) (omega arith))
+  to-fault (inl (inl (inr (inr (inr (inr (inr (inr (inr w))))))))) = absurd w
 
   from-fault : {e : Refusal} → Fault s e → OrTrailing s sheet spans-sheet e
-  unfolding precedence-place sheet-end
+  unfolding precedence-place lags-end
   from-fault (ends-early l) = inl (inr (l, refl))
   from-fault (unknown-bit l c) = inl (inl (inl (omega arith, c, refl)))
   from-fault (item-unknown-bit k l a c) = inl (inl (inr (inr (inl (inr (k, l, inl (omega arith, c, refl)))))))
   from-fault (container-measure p m l c) = inl (inl (inr (inl (p, m, (l, inl (c, refl))))))
   from-fault (item-measure k l p m a c) = inl (inl (inr (inr (inl (inr (k, l, inr (inl (p, m, (a, inl (c, refl))))))))))
   from-fault (yard-number t l q) = inl (inl (inr (inr (inr (inr (inl (t, (l, omega arith, refl))))))))
+  from-fault (walkway t l q) = inl (inl (inr (inr (inr (inr (inr (inr (inl (t, (omega arith, omega arith, refl))))))))))
   from-fault (item-count t l c) = inl (inl (inr (inr (inl (inl (t, (omega arith, c, refl)))))))
   from-fault (precedence-count t l c) = inl (inl (inr (inr (inr (inl (inl (t, (omega arith, c, refl))))))))
   from-fault (bad-item i l a c) = inl (inl (inr (inr (inr (inl (inr (i, l, (omega arith, inl (c, refl)))))))))
@@ -279,6 +304,15 @@ module _ (s : List ℕ) where
   from-fault (no-lag t l c) = inl (inl (inr (inr (inr (inr (inr (inl (t, (l, c, refl)))))))))
   from-fault (container-too-large p m l c) = inl (inl (inr (inl (p, m, (l, inr (c, refl))))))
   from-fault (item-too-large k l p m a c) = inl (inl (inr (inr (inl (inr (k, l, inr (inl (p, m, (a, inr (c, refl))))))))))
+
+  -- every bit of the sheet's map byte has a meaning: 2 is met at a piece's alone
+  pub map-known : Bytes s → Fault s (UnknownBit 0) → ⊥
+  map-known b φ = elim (from-fault φ) [
+    | inl (inl (inl (l, c, q))) ↦ omega (arith, b 0)
+    | inl (inl (inr w)) ↦ omega (arith, spans-fields .within (UnknownBit 0) w .0)
+    | inl (inr (l, q)) ↦ let z : _≡_ {A = ℕ} 0 1 = cc in omega arith
+    | inr (l, q) ↦ let z : _≡_ {A = ℕ} 0 1 = cc in omega arith
+  ]
 
   sheet-gives : Gives s (sheet-at s) (sheet-end s) (Fault s) (run (whole sheet) 0 s)
   sheet-gives = gives-as s (gives-whole s sheet spans-sheet) (λ e. (to-fault, from-fault))
@@ -326,7 +360,7 @@ module _ (s : List ℕ) where
     pub item-read-there : (length (x .items) ≡ items-on s) × ((k : ℕ) → k < items-on s → (item-place s (suc k) ≤ length s)
         × (run (item .reading) (item-place s k) (drop (item-place s k) s)
         ≡ got (getD (x .items) k no-item) (item-place s (suc k)) (drop (item-place s (suc k)) s)))
-    unfolding item-place yard-number-end sheet-end
+    unfolding item-place yard-number-end lags-end sheet-end
     item-read-there = let q : x ≡ (sheet-at s) = cc (faultless-got none) in rw q (
       length-up-to (items-on s) _,
       λ k l.

@@ -5,8 +5,8 @@ use Rattle.formats.specs.Formats.{Format, Test, byte, tested, passes-all, keyed
 use Rattle.formats.proofs.Laws.{Lawful, both-true, counted-lawful, whole-written-read, whole-read-written}
 use Rattle.formats.proofs.Maps.{OptionalLaws, FieldsLaws, with-map-lawful}
 use Rattle.parts.specs.Parts.{measures}
-use Rattle.parts.proofs.Laws.{number-laws, measure-laws, item-lawful, precedence-lawful, lag-laws}
-use Rattle.sheet.specs.Sheet.{Sheet, list-of, item-list, precedence-list, yard-number, sheet-fields, sheet}
+use Rattle.parts.proofs.Laws.{number-laws, byte-number-laws, measure-laws, item-lawful, precedence-lawful, lag-laws}
+use Rattle.sheet.specs.Sheet.{Sheet, list-of, item-list, precedence-list, yard-number, walkway, sheet-fields, sheet}
 
 module _ {P A : Type 0} (part : Format A) (tests : P → A → List Test) (next : P → A → P) (φ : Lawful part) where
   empty-list : (xs : List A) → eqb (length xs) 0 ≡ true → [] ≡ xs
@@ -28,8 +28,8 @@ module _ {P A : Type 0} (part : Format A) (tests : P → A → List Test) (next 
   }
 
 pub sheet-fields-laws : FieldsLaws sheet-fields
-unfolding sheet-fields measures item-list precedence-list yard-number
-sheet-fields-laws = search (number-laws, measure-laws, list-laws, item-lawful, precedence-lawful, lag-laws) depth 24
+unfolding sheet-fields measures item-list precedence-list yard-number walkway
+sheet-fields-laws = search (number-laws, byte-number-laws, measure-laws, list-laws, item-lawful, precedence-lawful, lag-laws) depth 24
 
 pub sheet-lawful : Lawful sheet
 unfolding sheet sheet-fields measures

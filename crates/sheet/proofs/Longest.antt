@@ -1,4 +1,4 @@
--- "The longest sheet is 351 bytes": no valid sheet is longer, and one has that length.
+-- "The longest sheet is 352 bytes": no valid sheet is longer, and one has that length.
 use Rattle.prelude.specs.Names.{_≡_, refl, sym, _∙_, true, false, cond, List, [], _∷_, _++_, ℕ, zero, suc, _+_, _*_, _≤_, arith, eqb, leb, length}
 use Rattle.prelude.specs.Names.{length-append, replicate, leb-true, eqb-true}
 use native.Mathlib.Nat.{mul-le-mul-left}
@@ -8,9 +8,9 @@ use Rattle.formats.proofs.Laws.{both-true}
 use Rattle.parts.specs.declared.Size.{Size}
 use Rattle.parts.specs.Precedences.{Arc}
 use Rattle.parts.specs.Parts.{measures, item, precedence}
-use Rattle.parts.proofs.Laws.{number-most, measure-most, item-most, lags-most}
-use Rattle.sheet.specs.Sheet.{Sheet, max-items, max-precedences, longest-sheet, list-of, item-list, precedence-list, yard-number, sheet-fields}
-use Rattle.sheet.specs.Sheet.{sheet}
+use Rattle.parts.proofs.Laws.{number-most, byte-number-most, measure-most, item-most, lags-most}
+use Rattle.sheet.specs.Sheet.{Sheet, max-items, max-precedences, longest-sheet, list-of, item-list, precedence-list, yard-number, walkway}
+use Rattle.sheet.specs.Sheet.{sheet-fields, sheet}
 use Rattle.sheet.proofs.Valid.{sheet-valid}
 use Rattle.sheet.specs.Computing.{sheet-computing}
 
@@ -29,7 +29,7 @@ module _ {A : Type 0} (part : Format A) (k : ℕ) (most : (x : A) → length (pa
       [ true ↦ omega arith | false ↦ omega (arith, row-most xs, mul-le-mul-left k l) ]
 
 pub sheet-most : (x : Sheet) → sheet .valid x ≡ true → length (sheet .bytes x) ≤ longest-sheet
-unfolding sheet sheet-fields measures item-list precedence-list yard-number precedence converted pair
+unfolding sheet sheet-fields measures item-list precedence-list yard-number walkway precedence converted pair
     with-map map-byte keyed tested byte fields fields-bytes
 sheet-most x v =
     let (i, r) = both-true (leb (length (x .items)) max-items) _ (sym (sheet-valid x) ∙ v) in
@@ -47,9 +47,10 @@ sheet-most x v =
       lags-most (length (x .precedences)) (x .lags),
       eqb-true (length (x .lags)) _ g,
       leb-true (length (x .precedences)) _ o,
+      byte-number-most (x .walkway),
     ))
 
--- such a sheet: ten items with three written measures each, a precedence for every two of them, a yard number, and a lag above 0
+-- such a sheet: ten items with three written measures each, a precedence for every two of them, a yard number, a lag above 0, and a walkway
 abbrev two : Size
 two = record { width = 2; depth = 2; shifts = 2 }
 
@@ -70,6 +71,7 @@ longest = record {
   precedences = all-before 0 max-items;
   yard-number = 1;
   lags = 1 ∷ replicate 89 0;
+  walkway = 1;
 }
 
 pub longest-valid : sheet .valid longest ≡ true

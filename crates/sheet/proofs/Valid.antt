@@ -11,8 +11,8 @@ use Rattle.parts.specs.declared.Previous.the-variants.{Nothing, Was}
 use Rattle.parts.specs.Sizes.{size-in-range, all-in-range}
 use Rattle.parts.specs.Precedences.{Arc, unlagged, all-allowed}
 use Rattle.parts.specs.Parts.{measures, item, precedence, precedence-tests}
-use Rattle.parts.proofs.Laws.{not-ltb, number-valid, measure-valid, item-valid, precedence-valid, lag-valid}
-use Rattle.sheet.specs.Sheet.{Sheet, max-items, max-precedences, list-of, item-list, precedence-list, yard-number, sheet-fields, sheet}
+use Rattle.parts.proofs.Laws.{not-ltb, number-valid, byte-number-valid, measure-valid, item-valid, precedence-valid, lag-valid}
+use Rattle.sheet.specs.Sheet.{Sheet, max-items, max-precedences, list-of, item-list, precedence-list, yard-number, walkway, sheet-fields, sheet}
 
 -- a list has at most so many parts, each as its row asks
 pub list-valid : {P A : Type 0} (part : Format A) (tests : P → A → List Test) (next : P → A → P) (p : P) (limit : ℕ) (xs : List A)
@@ -40,11 +40,12 @@ and-left-comm false b c = sym (and-false b)
 pub sheet-valid : (x : Sheet) → sheet .valid x
     ≡ (leb (length (x .items)) max-items && (leb (length (x .precedences)) max-precedences && (eqb (length (x .lags)) (length (x .precedences))
     && (size-in-range (x .container) && (all-in-range (x .items) && all-allowed (length (x .items)) Nothing (x .precedences))))))
-unfolding sheet sheet-fields measures item-list precedence-list yard-number fields-valid size-in-range
+unfolding sheet sheet-fields measures item-list precedence-list yard-number walkway fields-valid size-in-range
 sheet-valid x =
     with-map-valid sheet-fields x
     ∙ simp (
       number-valid,
+      byte-number-valid,
       measure-valid,
       list-valid,
       items-valid,

@@ -6,7 +6,7 @@ use Rattle.formats.specs.Formats.{up-to}
 use Rattle.parts.specs.declared.Size.{Size}
 use Rattle.parts.specs.declared.Item.{Item}
 use Rattle.sheet.specs.Places.{two-if, byte-at, word-at, precedence-at, has, items-on, item-place, precedences-on, precedence-place}
-use Rattle.sheet.specs.Places.{precedences-end, yard-number-end}
+use Rattle.sheet.specs.Places.{precedences-end, yard-number-end, lags-end}
 use Rattle.sheet.specs.Sheet.{Sheet}
 
 module _ (s : List ℕ) where
@@ -28,7 +28,7 @@ module _ (s : List ℕ) where
   abbrev pub lags-at : List ℕ
   lags-at = up-to (precedences-on s) (λ i. cond (has s 64) (byte-at s (yard-number-end s + i)) 0)
 
-  -- the yard number: "left out means 0"
+  -- the yard number and the walkway: "left out means 0"
   abbrev pub sheet-at : Sheet
   sheet-at = record {
     container = size-at 0;
@@ -36,4 +36,5 @@ module _ (s : List ℕ) where
     precedences = up-to (precedences-on s) (λ i. precedence-at s (precedence-place s i));
     yard-number = cond (has s 32) (word-at s (precedences-end s)) 0;
     lags = lags-at;
+    walkway = cond (has s 128) (byte-at s (lags-end s)) 0;
   }

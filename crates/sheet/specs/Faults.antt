@@ -9,7 +9,7 @@ use Rattle.formats.specs.Fields.{is-set}
 use Rattle.parts.specs.Sizes.{max-measure}
 use Rattle.sheet.specs.Sheet.{max-items, max-precedences}
 use Rattle.sheet.specs.Places.{two-if, byte-at, word-at, has, container-end, items-on, item-place, items-end, precedences-on, precedence-place}
-use Rattle.sheet.specs.Places.{precedences-end, yard-number-end, sheet-end}
+use Rattle.sheet.specs.Places.{precedences-end, yard-number-end, lags-end, sheet-end}
 
 module _ (s : List ℕ) where
   -- a measure is at p, of the hall or piece whose map byte is at m: width, depth or shifts
@@ -33,16 +33,17 @@ module _ (s : List ℕ) where
   pub data Fault : Refusal → Type 0 where
     -- 1: "it ends before a byte that is due, the first map byte included"; place: "length of the sheet"
     ends-early : length s < sheet-end s → Fault (EndsEarly (length s))
-    -- 2: "a bit stands that has no meaning"; place: "of the map byte". The sheet's has bits 0 to 6, a piece's 0 to 2
-    unknown-bit : 0 < length s → 128 ≤ byte-at s 0 → Fault (UnknownBit 0)
+    -- 2: "a bit stands that has no meaning"; place: "of the map byte". The sheet's has bits 0 to 7, so no byte meets its line; a piece's has 0 to 2
+    unknown-bit : 0 < length s → 256 ≤ byte-at s 0 → Fault (UnknownBit 0)
     item-unknown-bit : (k : ℕ) → k < items-on s → item-place s k < length s → 8 ≤ byte-at s (item-place s k)
         → Fault (UnknownBit (item-place s k))
-    -- 3: "a written measure of 0 or 1, or yard number 0"; place: "of the field"
+    -- 3: "a written measure of 0 or 1, or yard number 0"; "3 covers a written width of 0"; place: "of the field"
     container-measure : (p : ℕ) → MeasureAt 0 p → p + 2 ≤ length s → word-at s p ≤ 1 → Fault (WrittenDefault p)
     item-measure : (k : ℕ) → k < items-on s → (p : ℕ) → MeasureAt (item-place s k) p → p + 2 ≤ length s → word-at s p ≤ 1
         → Fault (WrittenDefault p)
     yard-number : has s 32 ≡ true → precedences-end s + 2 ≤ length s → word-at s (precedences-end s) ≡ 0
         → Fault (WrittenDefault (precedences-end s))
+    walkway : has s 128 ≡ true → lags-end s < length s → byte-at s (lags-end s) ≡ 0 → Fault (WrittenDefault (lags-end s))
     -- 4: "count 0, over 10 pieces, over 90 orders"; place: "of the count"
     item-count : has s 8 ≡ true → container-end s < length s → Miscounts max-items (container-end s) → Fault (BadCount (container-end s))
     precedence-count : has s 16 ≡ true → items-end s < length s → Miscounts max-precedences (items-end s)
@@ -56,7 +57,7 @@ module _ (s : List ℕ) where
     -- 7: "bytes after the last field"; place: "of the first such byte"
     trailing-bytes : sheet-end s < length s → Fault (TrailingBytes (sheet-end s))
     -- 11: "a lag field in which no lag is above 0, an empty field included, at its first byte's place, after its bytes are read"
-    no-lag : has s 64 ≡ true → sheet-end s ≤ length s → ((i : ℕ) → i < precedences-on s → byte-at s (yard-number-end s + i) ≡ 0)
+    no-lag : has s 64 ≡ true → lags-end s ≤ length s → ((i : ℕ) → i < precedences-on s → byte-at s (yard-number-end s + i) ≡ 0)
         → Fault (NoLag (yard-number-end s))
     -- 12: "a written measure above 4,095, at the field's place"
     container-too-large : (p : ℕ) → MeasureAt 0 p → p + 2 ≤ length s → max-measure < word-at s p → Fault (TooLarge p)

@@ -64,6 +64,10 @@ module _ (s : List ℕ) where
   unfoldable pub yard-number-end : ℕ
   yard-number-end = precedences-end + two-if (has 32)
 
-  -- the place after the last field: lags are "one byte for each order"
+  -- the place after the lags, "one byte for each order": of the walkway, where it is written
+  unfoldable pub lags-end : ℕ
+  lags-end = yard-number-end + cond (has 64) precedences-on 0
+
+  -- the place after the last field: the walkway is "one byte .. last on the sheet"
   unfoldable pub sheet-end : ℕ
-  sheet-end = yard-number-end + cond (has 64) precedences-on 0
+  sheet-end = lags-end + cond (has 128) 1 0

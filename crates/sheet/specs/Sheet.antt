@@ -1,4 +1,4 @@
--- The sheet (document 01, "Sheet bytes"; the lags are from document 02, #101).
+-- The sheet (document 01, "Sheet bytes"; from document 02: the lags, #101; the walkway, #105).
 use Rattle.prelude.specs.Names.{ℕ, List, [], eqb, length}
 use Rattle.formats.specs.Formats.{Format, Test, counted}
 use Rattle.formats.specs.Fields.{Optional, Fields, made, field, with-map}
@@ -6,7 +6,7 @@ use Rattle.parts.specs.declared.Size.{Size}
 use Rattle.parts.specs.declared.Item.{Item}
 use Rattle.parts.specs.declared.Previous.the-variants.{Nothing, Was}
 use Rattle.parts.specs.Precedences.{Arc, unlagged}
-use Rattle.parts.specs.Parts.{number, measures, item, precedence, precedence-tests, lag-list}
+use Rattle.parts.specs.Parts.{number, byte-number, measures, item, precedence, precedence-tests, lag-list}
 
 -- what a sheet says
 pub record Sheet : Type 0 where
@@ -15,6 +15,7 @@ pub record Sheet : Type 0 where
   pub precedences : List Arc
   pub yard-number : ℕ
   pub lags : List ℕ
+  pub walkway : ℕ
 
 -- "10 pieces, 90 orders and 270 turns are limits belonging to the sheet"
 abbrev pub max-items : ℕ
@@ -46,20 +47,25 @@ precedence-list n = list-of precedence (precedence-tests n) (λ _ a. Was (unlagg
 unfoldable pub yard-number : Optional ℕ
 yard-number = number 0
 
--- the fields by rising bit: 0, 1, 2 the hall's measures; 3 pieces; 4 orders; 5 the yard number; 6 the lags, one for each order
-unfoldable pub sheet-fields : Fields Sheet 7
+-- the walkway: "one byte, 1 to 255, last on the sheet; left out means 0"; "3 covers a written width of 0"
+unfoldable pub walkway : Optional ℕ
+walkway = byte-number
+
+-- the fields by rising bit: 0, 1, 2 the hall's measures; 3 pieces; 4 orders; 5 the yard number; 6 the lags, one for each order; 7 the walkway
+unfoldable pub sheet-fields : Fields Sheet 8
 sheet-fields =
     measures (λ s. s .container) λ container.
     field (λ s. s .items) item-list λ items.
     field (λ s. s .precedences) (precedence-list (length items)) λ precedences.
     field (λ s. s .yard-number) yard-number λ yard-number.
     field (λ s. s .lags) (lag-list (length precedences)) λ lags.
-    made (record { container = container; items = items; precedences = precedences; yard-number = yard-number; lags = lags })
+    field (λ s. s .walkway) walkway λ walkway.
+    made (record { container = container; items = items; precedences = precedences; yard-number = yard-number; lags = lags; walkway = walkway })
 
 -- "A map byte comes first, then only the fields whose bit stands"
 unfoldable pub sheet : Format Sheet
 sheet = with-map sheet-fields
 
--- "The longest sheet is 351 bytes"
+-- "The longest sheet is 352 bytes"
 abbrev pub longest-sheet : ℕ
-longest-sheet = 351
+longest-sheet = 352
