@@ -73,8 +73,5 @@ pub fn ends_ahead(item: Placed, other: Placed, axis: u8, gap: u8) -> bool
 pub fn spacing_on(walkway: u8, axis: u8) -> u8
     ensures { λ r. ⌜ r ≡ spacing-on walkway axis ⌝ }
 {
-    match axis {
-        2 => 0,
-        _ => walkway,
-    }
+    if axis == 2 { 0 } else { walkway }
 }
