@@ -10,9 +10,9 @@ use Rattle.opening.specs.Layout.{Measures, LaidOut, LargeIf, LargeItem, 
 use Rattle.opening.proofs.Lags.{stepped-out}
 
 -- an item above the container's measure is one of the problem's
-pub large-item : {p : Problem} {t : List ℕ} → LaidOut (wide p) t → LargeIf t true → LargeItem p
+pub large-item : (p : Problem) {t : List ℕ} → LaidOut (wide p) t → LargeIf t true → LargeItem p
 unfolding wide
-large-item {p} l (a, u, ha, hu, h) =
+large-item p l (a, u, ha, hu, h) =
     let own : u < p .items = elim (decLt u (p .items)) [ yes q ↦ q | no q ↦ absurd (omega (arith, l .size a u ha hu, wide-past p a u (omega arith))) ] in
     (a, u, ha, own, omega (arith, l .size a u ha hu, l .capacity a ha, wide-size p a u own))
 
