@@ -44,5 +44,4 @@ module _ (p : Problem) (limited : p .items ≤ 10) (path : List Branch) {k : Dom
       plain = rw (s .is) (path-untouched p sound path forks)
 
       start-is : (a u : ℕ) → a < 3 → u < p .items → start-at t a u ≡ starts p k a u
-      unfolding starts
-      start-is a u ha hu = omega (arith, total-is a u ha hu, wide-ending p limited k plain a u ha hu, size-is a u ha hu)
+      start-is a u ha hu = unfold starts in omega (arith, total-is a u ha hu, wide-ending p limited k plain a u ha hu, size-is a u ha hu)
