@@ -40,6 +40,7 @@ with-shifts i l = record {
   precedences = i .precedences;
   «precedence_count» = i .«precedence_count»;
   «yard_number» = i .«yard_number»;
+  walkway = i .walkway;
 }
 
 module _ (i : Instance) (l : ℕ) where
@@ -52,7 +53,13 @@ module _ (i : Instance) (l : ℕ) where
   pub shortened-problem : problem-of (with-shifts i l) ≡ shortened (problem-of i) l
   unfolding problem-of
   shortened-problem =
-      ap (λ (m : ℕ → ℕ). record { items = problem-of i .items; size = problem-of i .size; capacity = m; precedences = problem-of i .precedences })
+      ap (λ (m : ℕ → ℕ). record {
+        items = problem-of i .items;
+        size = problem-of i .size;
+        capacity = m;
+        walkway = problem-of i .walkway;
+        precedences = problem-of i .precedences;
+      })
       (fun-ext measures)
 
   -- and is valid: a length up to its shifts is a measure

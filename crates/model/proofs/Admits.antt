@@ -13,7 +13,7 @@ use Rattle.model.proofs.Slots.{proper-sym, proper-wide, index-of-small}
 use Rattle.model.proofs.Domains.{gone-is}
 use Rattle.model.proofs.Without.{without-well-formed, without-other, fix-before-well-formed}
 use Rattle.model.proofs.Ends.{ends-asym}
-use Rattle.model.proofs.Gap.{ahead-before}
+use Rattle.model.proofs.Gap.{order-before}
 
 -- seen from the other item, the packing realises the converse
 realises-converse : (p : Problem) (q : Positions) (x a u v : ℕ) → Realises p q (converse x) a v u → Realises p q x a u v
@@ -91,5 +91,5 @@ opening-admits p sound q feasible =
     (λ o m j (w, α). (
       fix-before-well-formed j time _ _ w,
       fix-before-admits p sound q j w α (sound .named o m)
-          (ahead-before p q time _ _ _ (feasible .ordered o m)),
+          (order-before p q _ _ _ (feasible .ordered o m)),
     )) .1

@@ -1,7 +1,7 @@
 -- The earliest finish is right: one induction over the lengths, by the runs of the shortened problems.
 use Rattle.prelude.specs.Names.{_≡_, refl, sym, ap, _∙_, subst, ℕ, zero, suc, _+_, _-_, _≤_, _<_, min, decLt, eq-or-lt-of-le, ⊎-elim}
 use Rattle.prelude.specs.Names.{le-refl, le-trans, le-of-suc-le-suc, zero-add, arith}
-use Rattle.model.specs.Problem.{Problem, Positions, Feasible, EndsBefore, EndsAhead, time}
+use Rattle.model.specs.Problem.{Problem, Positions, Feasible, EndsBefore, EndsAhead, spacing, time}
 use Rattle.model.specs.Admits.{Sound}
 use Rattle.model.specs.Machine.{Status, running, failed, succeeded, steps}
 use Rattle.model.specs.Search.{opening, status}
@@ -18,7 +18,7 @@ shortened-sound p l σ = record { limited = σ .limited; positive = σ .positive
 
 -- what fits in less time fits in more
 pub fits-longer : (p : Problem) (l : ℕ) → l ≤ p .capacity time → (q : Positions) → Feasible (shortened p l) q → Feasible p q
-unfolding EndsBefore EndsAhead
+unfolding EndsBefore EndsAhead spacing
 fits-longer p l h q f = record {
   inside = λ a u la lu. le-trans (f .inside a u la lu) (below-three (λ a. shortened p l .capacity a ≤ p .capacity a)
       (le-refl _) (le-refl _) h a la);

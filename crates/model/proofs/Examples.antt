@@ -12,7 +12,7 @@ use Rattle.model.specs.Search.{infeasible}
 use Rattle.model.specs.Calls.{budget-spent, no-packing, packing}
 use Rattle.model.specs.Run.{run-end}
 use Rattle.model.specs.Earliest.{Finish, earliest-finish}
-use Rattle.model.specs.Trials.{Triple, trial, problem, xyt, unit, with-budget, trial-right}
+use Rattle.model.specs.Trials.{Triple, TrialCall, Trial, trial, trial-with, problem, xyt, unit, with-budget, trial-right}
 use Rattle.model.specs.Admits.{Sound}
 use Rattle.model.proofs.Feasible.{all-all}
 use Rattle.model.proofs.Theorems.{infeasible-exactly}
@@ -139,6 +139,60 @@ lagged = problem (trial (xyt 2 1 4) (unit ∷ unit ∷ []) (order 0 1 2 ∷ []) 
 pub lag-missed : (feasible lagged (at-starts (xyt 0 0 0 ∷ xyt 0 0 3 ∷ [])) ≡ true) × (feasible lagged (at-starts (xyt 0 0 0 ∷ xyt 1 0 2 ∷ [])) ≡ false)
 unfolding trial-right
 lag-missed = (refl, refl)
+
+-- A walkway of 1. Two items of 4×1×1 need a width of 4 + 1 + 4: 8 is enough for them where they may touch
+abbrev four-wide : List Triple
+four-wide = xyt 4 1 1 ∷ xyt 4 1 1 ∷ []
+
+pub touching : trial-right (trial (xyt 8 1 1) four-wide [] (with-budget 9 (packing (xyt 0 0 0 ∷ xyt 4 0 0 ∷ [])) 2 ∷ [])) ≡ true
+unfolding trial-right
+touching = refl
+
+pub walkway-missing : trial-right (trial-with 1 (xyt 8 1 1) four-wide [] (with-budget 9 no-packing 1 ∷ [])) ≡ true
+unfolding trial-right
+walkway-missing = refl
+
+pub walkway-kept : trial-right (trial-with 1 (xyt 9 1 1) four-wide [] (with-budget 9 (packing (xyt 0 0 0 ∷ xyt 5 0 0 ∷ [])) 2 ∷ [])) ≡ true
+unfolding trial-right
+walkway-kept = refl
+
+-- "a walkway between neighbours": three items of 1×1×1 in a row have two of them, also on y
+pub walkways-in-a-row :
+    trial-right (trial-with 2 (xyt 1 7 1) (unit ∷ unit ∷ unit ∷ []) []
+    (with-budget 9 (packing (xyt 0 0 0 ∷ xyt 0 3 0 ∷ xyt 0 6 0 ∷ [])) 4 ∷ [])) ≡ true
+unfolding trial-right
+walkways-in-a-row = refl
+
+pub row-too-long : trial-right (trial-with 2 (xyt 1 6 1) (unit ∷ unit ∷ unit ∷ []) [] (with-budget 9 no-packing 3 ∷ [])) ≡ true
+unfolding trial-right
+row-too-long = refl
+
+-- "nor between pieces apart in time": one after the other they stand in the same place
+pub walkway-not-in-time : trial-right (trial-with 1 (xyt 8 1 2) four-wide [] (with-budget 9 (packing (xyt 0 0 0 ∷ xyt 0 0 1 ∷ [])) 2 ∷ [])) ≡ true
+unfolding trial-right
+walkway-not-in-time = refl
+
+-- Walkway and lag. In a hall of 5×1×4 stand items of 2×1×2, 2×1×2 and 5×1×1; order 0, 2 with lag 1. Items 0 and 1 must stand side by side, which takes 2, the
+-- walkway and 2; item 2 waits for 0 and its lag. A walkway of 2 is one too wide
+abbrev side-by-side : ℕ → List TrialCall → Trial
+side-by-side walkway = trial-with walkway (xyt 5 1 4) (xyt 2 1 2 ∷ xyt 2 1 2 ∷ xyt 5 1 1 ∷ []) (order 0 2 1 ∷ [])
+
+pub walkway-and-lag : trial-right (side-by-side 1 (with-budget 9 (packing (xyt 0 0 0 ∷ xyt 3 0 0 ∷ xyt 0 0 3 ∷ [])) 2 ∷ [])) ≡ true
+unfolding trial-right
+walkway-and-lag = refl
+
+pub walkway-too-wide : trial-right (side-by-side 2 (with-budget 9 no-packing 1 ∷ [])) ≡ true
+unfolding trial-right
+walkway-too-wide = refl
+
+-- fit asks for it on x or on y, one of them is enough; corner to corner is closer than the walkway on both
+abbrev square : Problem
+square = problem (trial-with 1 (xyt 3 3 1) (unit ∷ unit ∷ []) [] [])
+
+pub walkway-on-one-axis : (feasible square (at-starts (xyt 0 0 0 ∷ xyt 2 0 0 ∷ [])) ≡ true) × (feasible square (at-starts (xyt 0 2 0 ∷ xyt 1 0 0 ∷ [])) ≡ true)
+    × (feasible square (at-starts (xyt 0 0 0 ∷ xyt 1 1 0 ∷ [])) ≡ false)
+unfolding trial-right
+walkway-on-one-axis = (refl, refl, refl)
 
 -- Pairs by number: "the sequence (0,1), (0,2), (1,2), (0,3), up to (8,9)" has the numbers 0, 1, 2, 3, up to 44
 abbrev items : ℕ → ℕ → Pair

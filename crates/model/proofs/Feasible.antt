@@ -14,7 +14,7 @@ all-all m n f = (
 
 module _ (p : Problem) (q : Positions) where
   apart-exactly : (u v : ℕ) → (apart-on-some-axis p q u v ≡ true) ↔ ((a : ℕ) × (a < 3) × (EndsBefore p q a u v ⊎ EndsBefore p q a v u))
-  unfolding apart-on-some-axis ends-before EndsBefore
+  unfolding apart-on-some-axis ends-before ends-ahead EndsBefore EndsAhead
   apart-exactly u v = (
     λ e.
         let (a, l, d) = some-at 3 (λ a. ends-before p q a u v || ends-before p q a v u) e in

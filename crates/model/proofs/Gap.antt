@@ -1,8 +1,9 @@
--- What lies between two items, and the precedences of a packing: a feasible packing keeps it wherever one item is before the other, and a packing that
--- keeps it keeps every lag. A lag in "before" itself would not do: "before" is transitive, and what follows from two precedences has no lag of its own.
+-- What lies between two items, and the walkway and precedences of a packing: a feasible packing keeps it wherever one item is before the other, and a
+-- packing that keeps it keeps the walkway and every lag. The walkway is in "before" itself, the same for every pair of an axis. A lag there would not do:
+-- "before" is transitive, and what follows from two precedences has no lag of its own.
 use Rattle.prelude.specs.Names.{true, false, cond, _&&_, List, [], _∷_, List·Memᴰ, List·Memᴰ·head, List·Memᴰ·tail, List·Memᴰ·not-nil}
-use Rattle.prelude.specs.Names.{List·Memᴰ·cases-cons, _⊎_, inl, inr, _≡_, refl, ℕ, _+_, _-_, _≤_, zero-le, arith, eqb, eqb-true, eq-eqb}
-use Rattle.model.specs.Problem.{Problem, Precedence, Positions, EndsBefore, EndsAhead, Feasible, time, lag-between, gap}
+use Rattle.prelude.specs.Names.{List·Memᴰ·cases-cons, _⊎_, inl, inr, _≡_, refl, ℕ, _+_, _-_, _≤_, zero-le, le-refl, arith, eqb, eqb-true, eq-eqb}
+use Rattle.model.specs.Problem.{Problem, Precedence, Positions, EndsBefore, EndsAhead, Feasible, time, spacing, lag-between, gap}
 use Rattle.model.specs.Admits.{Sound}
 use Rattle.model.proofs.Below.{and-intro, and-both}
 
@@ -31,18 +32,31 @@ lag-bound (o ∷ l) u v c f =
     ]) refl in
     omega (arith, one, lag-bound l u v c (λ x m. f x (List·Memᴰ·tail m)))
 
-pub gap-bound : (p : Problem) (a u v c : ℕ)
+-- so is what lies between, where it is also no less than the spacing
+gap-bound : (p : Problem) (a u v c : ℕ) → spacing p a ≤ c
     → ((o : Precedence) → List·Memᴰ o (p .precedences) → a ≡ time → o .predecessor ≡ u → o .successor ≡ v → o .lag ≤ c) → gap p a u v ≤ c
-unfolding gap
-gap-bound p a u v c f = (elim (eqb a time) as (λ b. eqb a time ≡ b → cond b (lag-between (p .precedences) u v) 0 ≤ c) [
-  | true ↦ λ t. lag-bound (p .precedences) u v c (λ o m. f o m (eqb-true a time t))
-  | false ↦ λ t. zero-le
-]) refl
+unfolding gap spacing
+gap-bound p a u v c h f = (elim (eqb a time) as (λ b. eqb a time ≡ b → cond b 0 (p .walkway) ≤ c → cond b (lag-between (p .precedences) u v) (p .walkway) ≤ c) [
+  | true ↦ λ t l. lag-bound (p .precedences) u v c (λ o m. f o m (eqb-true a time t))
+  | false ↦ λ t l. l
+]) refl h
 
--- nothing lies between items of which one is not there
-pub gap-past : (p : Problem) → Sound p → (a u v : ℕ) → (p .items ≤ u) ⊎ (p .items ≤ v) → gap p a u v ≤ 0
-gap-past p sound a u v h = gap-bound p a u v 0 (λ o m t e d. let s = sound .named o m in
-    absurd (elim h [ inl l ↦ omega arith | inr l ↦ omega arith ]))
+-- it is no less than the spacing
+pub spacing-gap : (p : Problem) (a u v : ℕ) → spacing p a ≤ gap p a u v
+unfolding gap spacing
+spacing-gap p a u v = elim (eqb a time) as (λ b. cond b 0 (p .walkway) ≤ cond b (lag-between (p .precedences) u v) (p .walkway)) [
+  | true ↦ zero-le
+  | false ↦ le-refl _
+]
+
+-- and that is all that lies between items of which one is not there
+pub gap-past : (p : Problem) → Sound p → (a u v : ℕ) → (p .items ≤ u) ⊎ (p .items ≤ v) → gap p a u v ≡ spacing p a
+gap-past p sound a u v h = omega (
+  arith,
+  spacing-gap p a u v,
+  gap-bound p a u v (spacing p a) (le-refl _) (λ o m t e d. let s = sound .named o m in
+      absurd (elim h [ inl l ↦ omega arith | inr l ↦ omega arith ])),
+)
 
 module _ (p : Problem) (q : Positions) where
   -- who ends further ahead ends ahead, and before
@@ -50,9 +64,13 @@ module _ (p : Problem) (q : Positions) where
   unfolding EndsAhead
   ahead-less a u v l e = omega arith
 
-  pub ahead-before : (a u v g : ℕ) → EndsAhead p q a g u v → EndsBefore p q a u v
-  unfolding EndsAhead EndsBefore
-  ahead-before a u v g e = omega arith
+  pub ahead-before : (a u v : ℕ) → EndsAhead p q a (gap p a u v) u v → EndsBefore p q a u v
+  unfolding EndsBefore
+  ahead-before a u v = ahead-less a u v (spacing-gap p a u v)
+
+  pub order-before : (u v g : ℕ) → EndsAhead p q time g u v → EndsBefore p q time u v
+  unfolding EndsBefore spacing
+  order-before u v g = ahead-less time u v zero-le
 
   -- a feasible packing keeps what lies between any two of which one is before the other
   pub gap-kept : Feasible p q → (a u v : ℕ) → EndsBefore p q a u v → EndsAhead p q a (gap p a u v) u v
@@ -60,6 +78,6 @@ module _ (p : Problem) (q : Positions) where
   gap-kept feasible a u v e =
       omega (
         arith,
-        gap-bound p a u v (q a v - (q a u + p .size a u)) (λ o m t d f. let k = feasible .ordered o m in
+        gap-bound p a u v (q a v - (q a u + p .size a u)) (omega arith) (λ o m t d f. let k = feasible .ordered o m in
             rw (← d, ← f, t) (omega arith)),
       )

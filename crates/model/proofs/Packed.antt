@@ -48,7 +48,7 @@ module _ (p : Problem) (k : Domains) (rest : AtRest p k) (consistent : inconsist
       (greatest-ending-step p k a (before-transitive p k consistent a ha (rest-obeyed p k rest)) (before-irreflexive p k consistent a ha) u v hu hv b)
 
   starts-before : (a u v : ℕ) → a < 3 → u < p .items → v < p .items → fixed-before k a u v ≡ true → EndsBefore p (starts p k) a u v
-  starts-before a u v ha hu hv b = ahead-before p (starts p k) a u v (gap p a u v) (starts-ahead a u v ha hu hv b)
+  starts-before a u v ha hu hv b = ahead-before p (starts p k) a u v (starts-ahead a u v ha hu hv b)
 
   separated-apart : (u v : ℕ) → u < p .items → v < p .items → separated k u v ≡ true
       → (a : ℕ) × (a < 3) × (EndsBefore p (starts p k) a u v ⊎ EndsBefore p (starts p k) a v u)

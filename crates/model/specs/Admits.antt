@@ -10,7 +10,7 @@ pub record Sound (p : Problem) : Type 0 where
   pub positive : (a u : ℕ) → a < 3 → u < p .items → 1 ≤ p .size a u
   pub named : (o : Precedence) → List·Memᴰ o (p .precedences) → Proper (p .items) time (o .predecessor) (o .successor)
 
--- neither ends at or before the other's start
+-- neither is before the other
 unfoldable pub Overlaps : Problem → Positions → ℕ → ℕ → ℕ → Type 0
 Overlaps p q a u v = (EndsBefore p q a u v → ⊥) × (EndsBefore p q a v u → ⊥)
 

@@ -1,6 +1,6 @@
 -- To compute with a problem and its search: `unfolding search-computing` opens all that a feasible packing, the rules, propagation and the search go
 -- through.
-use Rattle.model.specs.Problem.{ends-before, ends-ahead, gap, inside-test, apart-on-some-axis, apart-test, ordered-test, feasible}
+use Rattle.model.specs.Problem.{spacing, ends-ahead, ends-before, gap, inside-test, apart-on-some-axis, apart-test, ordered-test, feasible}
 use Rattle.model.specs.Pairs.{pair-number, pair-of}
 use Rattle.model.specs.Domains.{domain, overlap-bit, before-bit, after-bit, index, index-of, may-overlap, may-before}
 use Rattle.model.specs.Domains.{remove-overlap, remove-before, fixed-before, fixed-overlap, fix-before, fix-overlap}
@@ -12,7 +12,7 @@ use Rattle.model.specs.Branching.{branched, path-domains, starts, plan}
 use Rattle.model.specs.Run.{look, step-count}
 
 unfoldable pub search-computing : Unit {0}
-unfolding ends-before ends-ahead gap inside-test apart-on-some-axis apart-test ordered-test feasible
+unfolding spacing ends-ahead ends-before gap inside-test apart-on-some-axis apart-test ordered-test feasible
     pair-number pair-of domain overlap-bit before-bit after-bit index index-of may-overlap may-before
     remove-overlap remove-before fixed-before fixed-overlap fix-before fix-overlap
     joined ending starting greatest-ending greatest-starting rule1 rule2 rule3 rule4 rule5 asks-overlap asks-before

@@ -13,6 +13,7 @@ shortened p l = record {
   items = p .items;
   size = p .size;
   capacity = λ a. cond (ltb a time) (p .capacity a) l;
+  walkway = p .walkway;
   precedences = p .precedences;
 }
 

@@ -10,8 +10,8 @@ abbrev pub listed : ℕ → List ℕ → Bool
 listed u [] = false
 listed u (x ∷ l) = eqb u x || listed u l
 
--- "its total the sum of measures"; "on t a chain total adds the lag between neighbours that have an order": the total where a chain that ends in u, of
--- the total `front`, goes on with one that starts in v, of the total `back`
+-- "its total the sum of measures"; "on t a chain total adds the lag between neighbours that have an order", "on x and y a chain counts a walkway": the total
+-- where a chain that ends in u, of the total `front`, goes on with one that starts in v, of the total `back`
 unfoldable pub joined : Problem → ℕ → ℕ → ℕ → ℕ → ℕ → ℕ
 joined p a u v front back = front + gap p a u v + back
 
@@ -65,7 +65,7 @@ module _ (p : Problem) (k : Domains) (a u v : ℕ) where
       && some-below (p .items) (λ y. (fixed-overlap k a u y && fixed-overlap k a y v) && not (may-overlap k a x y)))
 
   -- 5, for u before v: "If the greatest chain ending in u and the greatest starting in v add up to more than the hall"; "rule 5's sum adds" the lag
-  -- "between u and v"
+  -- "between u and v", and on x and y "one" walkway, whether or not anything is known of the two
   unfoldable pub rule5 : Bool
   rule5 = ltb (p .capacity a) (joined p a u v (greatest-ending p k a u) (greatest-starting p k a v))
 

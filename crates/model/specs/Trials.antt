@@ -17,10 +17,11 @@ pub record TrialCall : Type 0 where
   pub answer : Answer (List Triple)
   pub steps : ℕ
 
--- a container, items and precedences, and the calls made one after the other
+-- a container, items, walkway and precedences, and the calls made one after the other
 pub record Trial : Type 0 where
   pub container : Triple
   pub items : List Triple
+  pub walkway : ℕ
   pub precedences : List Precedence
   pub calls : List TrialCall
 
@@ -29,6 +30,7 @@ problem c = record {
   items = length (c .items);
   size = λ a u. getD (getD (c .items) u []) a 0;
   capacity = λ a. getD (c .container) a 0;
+  walkway = c .walkway;
   precedences = c .precedences;
 }
 
@@ -72,8 +74,13 @@ xyt x y t = x ∷ y ∷ t ∷ []
 abbrev pub with-budget : ℕ → Answer (List Triple) → ℕ → TrialCall
 with-budget b a m = record { budget = b; answer = a; steps = m }
 
+abbrev pub trial-with : ℕ → Triple → List Triple → List Precedence → List TrialCall → Trial
+trial-with walkway container items precedences calls =
+    record { container = container; items = items; walkway = walkway; precedences = precedences; calls = calls }
+
+-- without a walkway
 abbrev pub trial : Triple → List Triple → List Precedence → List TrialCall → Trial
-trial container items precedences calls = record { container = container; items = items; precedences = precedences; calls = calls }
+trial = trial-with 0
 
 abbrev pub unit : Triple
 unit = xyt 1 1 1

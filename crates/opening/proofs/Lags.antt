@@ -4,16 +4,15 @@ use Rattle.prelude.specs.Names.{_+_, _-_, _*_, _/_, _%_, _≤_, _<_, max, zero-
 use Rattle.prelude.specs.Names.{add-one, take-suc, length-set, eqb-true, eq-eqb, ltb-true, ltb-false}
 use Rattle.model.specs.Problem.{Problem, lag-between, gap, time}
 use Rattle.model.specs.Toward.{Direction, between}
-use Rattle.model.specs.Wide.{wide}
 use Rattle.model.proofs.Below.{and-intro, and-both, refuted}
 use Rattle.model.proofs.Toward.{by-direction}
 use Rattle.parts.specs.declared.Precedence.{Precedence}
-use Rattle.parts.specs.Sizes.{max-measure, no-precedence}
+use Rattle.parts.specs.Sizes.{no-precedence}
 use Rattle.instance.specs.Meaning.{precedence-of}
 use Rattle.nodes.proofs.Loops.{written}
 use Rattle.chains.specs.Totals.{Small, table-start, measure-at, gapped-at, step-at}
 use Rattle.chains.proofs.Relaxing.{table-start-is}
-use Rattle.opening.specs.Layout.{Measures, put-lag, with-precedences, LaidOut, RowStepped, Stepped, SteppedOut, LagsLaid}
+use Rattle.opening.specs.Layout.{max-spaced, Measures, put-lag, with-precedences, LaidOut, RowStepped, Stepped, SteppedOut, LagsLaid}
 use Rattle.model.specs.Problem as M
 
 cond-zero : (b : Bool) → _≡_ {A = ℕ} (cond b 0 0) 0
@@ -103,7 +102,6 @@ module _ {t s : List ℕ} (h : Stepped 60 t s) where
       (rw axis at (h .rows i z (omega (arith, table-start-is x d)) hz)) ∙ sym (h .other (60 + a * 10 + z) (omega arith))
 
   pub stepped-out : (p : Problem) → Measures t → LaidOut (with-precedences p []) t → SteppedOut (with-precedences p []) s
-  unfolding wide
   stepped-out p m out = record {
     laid = record {
       long = h .long ∙ out .long;
@@ -206,7 +204,7 @@ module _ (p : Problem) (o : M.Precedence) (l : List M.Precedence) where
       gap-more a y z ∙ rw q (omega arith)
 
   module _ (t : List ℕ) (out : SteppedOut before t) (hu : o .predecessor < 10) (hv : o .successor < 10)
-      (most-u : measure-at t 2 (o .predecessor) ≤ max-measure) (most-v : measure-at t 2 (o .successor) ≤ max-measure) (lag : o .lag ≤ 255) where
+      (most-u : measure-at t 2 (o .predecessor) ≤ max-spaced) (most-v : measure-at t 2 (o .successor) ≤ max-spaced) (lag : o .lag ≤ 255) where
     abbrev u : ℕ
     u = o .predecessor
 
@@ -269,7 +267,6 @@ module _ (p : Problem) (o : M.Precedence) (l : List M.Precedence) where
     ]
 
     pub lag-put : SteppedOut after s
-    unfolding wide
     lag-put = record {
       laid = record {
         long = put-lag-long t (out .laid .long) u v (o .lag) hu hv;
@@ -290,7 +287,7 @@ lag-last o (x ∷ l) u v = omega (arith, lag-last o l u v)
 
 laid-as : (p : Problem) (l m : List M.Precedence) {t : List ℕ} → ((u v : ℕ) → lag-between l u v ≡ lag-between m u v) → SteppedOut (with-precedences p l) t
     → SteppedOut (with-precedences p m) t
-unfolding wide gap
+unfolding gap
 laid-as p l m {t} same out = record {
   laid = record { long = out .laid .long; capacity = out .laid .capacity; size = out .laid .size; alone = out .laid .alone };
   small = out .small;
@@ -312,7 +309,7 @@ one-more os i h = rw (add-one, take-suc os i no-precedence h) (map-last (take i 
 
 -- the lags of the first i precedences are put, and then that of the next
 pub lags-next : (os : List Precedence) (i : ℕ) {t s : List ℕ} → i < length os → let o = getD os i no-precedence in
-    o .predecessor < 10 → o .successor < 10 → measure-at s 2 (o .predecessor) ≤ max-measure → measure-at s 2 (o .successor) ≤ max-measure
+    o .predecessor < 10 → o .successor < 10 → measure-at s 2 (o .predecessor) ≤ max-spaced → measure-at s 2 (o .successor) ≤ max-spaced
     → o .lag ≤ 255 → LagsLaid (take i os) t s
     → LagsLaid (take (i + 1) os) t (put-lag s (o .predecessor) (o .successor) (o .lag))
 lags-next os i {t} {s} more hu hv most-u most-v lag laid p out =

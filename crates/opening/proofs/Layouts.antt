@@ -1,10 +1,10 @@
 -- An instance's measures beside the totals of chains, item by item.
-use Rattle.prelude.specs.Names.{List, [], _≡_, refl, sym, _∙_, _≢_, ℕ, _+_, _*_, _%_, _≤_, _<_, decLt, arith, getD, set, length, length-set, replicate}
+use Rattle.prelude.specs.Names.{cond, List, [], _≡_, refl, sym, ap, _∙_, _≢_, ℕ, _+_, _*_, _%_, _≤_, _<_, decLt, arith, ltb, getD, set, length}
+use Rattle.prelude.specs.Names.{length-set, replicate, lt-ltb, le-ltb}
 use Rattle.model.proofs.Below.{below-three}
-use Rattle.model.specs.Problem.{Problem}
+use Rattle.model.specs.Problem.{Problem, spacing}
 use Rattle.model.specs.Wide.{wide}
 use Rattle.model.proofs.Toward.{by-direction}
-use Rattle.model.proofs.Wide.{wide-size, wide-past}
 use Rattle.parts.specs.Sizes.{max-measure, no-item}
 use Rattle.parts.specs.declared.Item.{Item}
 use Rattle.parts.specs.declared.Size.{Size}
@@ -12,7 +12,7 @@ use Rattle.instance.specs.declared.Instance.{Instance}
 use Rattle.instance.specs.Meaning.{measure-on, problem-of}
 use Rattle.nodes.proofs.Loops.{blank-at, written}
 use Rattle.chains.specs.Totals.{table, measure-at, capacity-at}
-use Rattle.opening.specs.Layout.{put, put-item, Measures, LaidOut}
+use Rattle.opening.specs.Layout.{with-walkway, put, put-item, max-spaced, Measures, LaidOut}
 
 -- A measure is put at its three places: what holds of it there, and of the other entries, holds of all
 put-at : (t : List ℕ) (i m : ℕ) → length t ≡ 696 → i < 30 → (P : ℕ → ℕ → Type 0) → ((j : ℕ) → j < 90 → j % 30 ≡ i → P j m)
@@ -35,46 +35,52 @@ module _ (t : List ℕ) (u : ℕ) (s : Size) (long : length t ≡ 696) (h : u < 
       (λ j. put-at t u (s .width) long (omega arith) (λ j v. (j < 90 → j % 30 ≢ 10 + u) → (j < 90 → j % 30 ≢ 20 + u) → P j v)
       (λ j hj e _ _. new 0 j (omega arith) hj (omega arith)) (λ j d e f. other j (λ l r. omega (arith, d l, e l, f l))) j) j)
 
--- the first n items of a list, in the container of t₀
-abbrev pub first-items : List Item → List ℕ → ℕ → Problem
-first-items items t₀ n = record { items = n; size = λ a u. measure-on a (getD items u no-item .size); capacity = capacity-at t₀; precedences = [] }
+-- the first n items of a list with a walkway, 0 past them, in the container of t₀
+abbrev pub first-items : List Item → ℕ → List ℕ → ℕ → Problem
+first-items items w t₀ n = record {
+  items = 10;
+  size = λ a u. cond (ltb u n) (measure-on a (with-walkway w (getD items u no-item .size))) 0;
+  capacity = capacity-at t₀;
+  walkway = 0;
+  precedences = [];
+}
 
-module _ (items : List Item) (t₀ t : List ℕ) (u : ℕ) (h : u < 10)
-    (out : LaidOut (first-items items t₀ u) t) where
+module _ (items : List Item) (w : ℕ) (t₀ t : List ℕ) (u : ℕ) (h : u < 10)
+    (out : LaidOut (first-items items w t₀ u) t) where
   abbrev s : Size
-  s = getD items u no-item .size
+  s = with-walkway w (getD items u no-item .size)
 
   abbrev q : Problem
-  q = first-items items t₀ (u + 1)
+  q = first-items items w t₀ (u + 1)
 
   -- in each of the three tables
-  next-size : (o a w : ℕ) → (o < 90) × (o % 30 ≡ 0) × (a < 3) × (w < 10) → getD t (o + a * 10 + w) 0 ≡ measure-at t a w
-      → getD (put-item t u s) (o + a * 10 + w) 0 ≡ wide q .size a w
-  next-size o a w (ho, whole, ha, hw) was =
-      item-at t u s (out .long) h (λ j v. j ≡ o + a * 10 + w → v ≡ wide q .size a w)
+  next-size : (o a z : ℕ) → (o < 90) × (o % 30 ≡ 0) × (a < 3) × (z < 10) → getD t (o + a * 10 + z) 0 ≡ measure-at t a z
+      → getD (put-item t u s) (o + a * 10 + z) 0 ≡ q .size a z
+  next-size o a z (ho, whole, ha, hz) was =
+      item-at t u s (out .long) h (λ j v. j ≡ o + a * 10 + z → v ≡ q .size a z)
       (λ b j hb hj e is.
       let ea : b ≡ a = omega arith in
-      let ew : w ≡ u = omega arith in
-      rw (ea, ew) (sym (wide-size q a u (omega arith))))
-      (λ j d is. rw is (was ∙ (out .size a w ha hw ∙ elim (decLt w u) [
-        | yes l ↦ wide-size (first-items items t₀ u) a w l ∙ sym (wide-size q a w (omega arith))
-        | no l ↦ let far : w ≢ u = λ e. d (omega arith) (omega arith) in
-            wide-past (first-items items t₀ u) a w (omega arith) ∙ sym (wide-past q a w (omega arith))
-      ]))) (o + a * 10 + w) refl
+      let ez : z ≡ u = omega arith in
+      rw (ea, ez, lt-ltb u (u + 1) (omega arith)) refl)
+      (λ j d is. rw is (was ∙ (out .size a z ha hz ∙ elim (decLt z u) [
+        | yes l ↦ rw (lt-ltb z u l, lt-ltb z (u + 1) (omega arith)) refl
+        | no l ↦ let far : z ≢ u = λ e. d (omega arith) (omega arith) in
+            rw (le-ltb z u (omega arith), le-ltb z (u + 1) (omega arith)) refl
+      ]))) (o + a * 10 + z) refl
 
   pub laid-next : LaidOut q (put-item t u s)
   laid-next = record {
     long = simp length-set (out .long);
     capacity = λ a ha. item-at t u s (out .long) h (λ j v. j ≡ 90 + a → v ≡ capacity-at t₀ a) (λ b j hb hj e is. absurd (omega arith))
         (λ j d is. rw is (out .capacity a ha)) (90 + a) refl;
-    size = λ a w ha hw. next-size 60 a w (omega arith) refl;
-    alone = λ x a w d ha hw.
-        by-direction (λ x. table (put-item t u s) x a w ≡ wide q .size a w) (next-size 30 a w (omega arith) (out .alone 1 a w (omega arith) ha hw))
-        (next-size 0 a w (omega arith) (out .alone 2 a w (omega arith) ha hw)) x d ∙ sym (next-size 60 a w (omega arith) refl);
+    size = λ a z ha hz. next-size 60 a z (omega arith) refl;
+    alone = λ x a z d ha hz.
+        by-direction (λ x. table (put-item t u s) x a z ≡ q .size a z) (next-size 30 a z (omega arith) (out .alone 1 a z (omega arith) ha hz))
+        (next-size 0 a z (omega arith) (out .alone 2 a z (omega arith) ha hz)) x d ∙ sym (next-size 60 a z (omega arith) refl);
   }
 
-  pub measures-next : ((a : ℕ) → a < 3 → measure-on a s ≤ max-measure) → Measures t → Measures (put-item t u s)
-  measures-next most m = item-at t u s (out .long) h (λ j v. v ≤ max-measure) (λ a j ha hj e. most a ha) (λ j d. m j)
+  pub measures-next : ((a : ℕ) → a < 3 → measure-on a s ≤ max-spaced) → Measures t → Measures (put-item t u s)
+  measures-next most m = item-at t u s (out .long) h (λ j v. v ≤ max-spaced) (λ a j ha hj e. most a ha) (λ j d. m j)
 
 -- the container alone, no items yet
 abbrev pub no-items : Size → List ℕ
@@ -90,26 +96,40 @@ module _ (c : Size) where
   no-items-zero : (j : ℕ) → j < 90 → getD (no-items c) j 0 ≡ 0
   no-items-zero = no-items-at (λ j v. j < 90 → v ≡ 0) (λ h. absurd (omega arith)) (λ h. absurd (omega arith)) (λ h. absurd (omega arith)) (λ j h. refl)
 
-  pub measures-none : ((a : ℕ) → a < 3 → measure-on a c ≤ max-measure) → Measures (no-items c)
-  measures-none most = no-items-at (λ j v. v ≤ max-measure) (most 0 (omega arith)) (most 1 (omega arith)) (most 2 (omega arith)) (λ j. omega arith)
+  pub measures-none : ((a : ℕ) → a < 3 → measure-on a c ≤ max-spaced) → Measures (no-items c)
+  measures-none most = no-items-at (λ j v. v ≤ max-spaced) (most 0 (omega arith)) (most 1 (omega arith)) (most 2 (omega arith)) (λ j. omega arith)
 
-  pub laid-none : (items : List Item) → LaidOut (first-items items (no-items c) 0) (no-items c)
-  laid-none items = record {
+  pub laid-none : (items : List Item) (w : ℕ) → LaidOut (first-items items w (no-items c) 0) (no-items c)
+  laid-none items w = record {
     long = refl;
     capacity = λ a ha. refl;
-    size = λ a u ha hu. no-items-zero (60 + a * 10 + u) (omega arith) ∙ sym (wide-past (first-items items (no-items c) 0) a u (omega arith));
+    size = λ a u ha hu. no-items-zero (60 + a * 10 + u) (omega arith) ∙ rw (le-ltb u 0 (omega arith)) refl;
     alone = λ x a u d ha hu.
         by-direction (λ x. table (no-items c) x a u ≡ 0) (no-items-zero (30 + a * 10 + u) (omega arith)) (no-items-zero (0 + a * 10 + u) (omega arith)) x d
         ∙ sym (no-items-zero (60 + a * 10 + u) (omega arith));
   }
 
+-- the walkway as the model has it: on x and y, and not on t
+module _ (i : Instance) (a : ℕ) (ha : a < 3) (s : Size) where
+  pub walkway-on : measure-on a (with-walkway (i .walkway) s) ≡ measure-on a s + spacing (problem-of i) a
+  unfolding problem-of spacing
+  walkway-on = below-three (λ a. measure-on a (with-walkway (i .walkway) s) ≡ measure-on a s + spacing (problem-of i) a) refl refl (omega arith) a ha
+
+  -- so it makes a measure longer by no more than the greatest walkway
+  pub walkway-most : i .walkway ≤ 255 → measure-on a s ≤ max-measure → measure-on a (with-walkway (i .walkway) s) ≤ max-spaced
+  walkway-most h = below-three (λ a. measure-on a s ≤ max-measure → measure-on a (with-walkway (i .walkway) s) ≤ max-spaced)
+      (λ l. omega arith) (λ l. omega arith) (λ l. omega arith) a ha
+
 -- all of them
-pub laid-all : (i : Instance) (u : ℕ) {t : List ℕ} → u ≡ i .«item_count» → LaidOut (first-items (i .items) (no-items (i .container)) u) t
-    → LaidOut (problem-of i) t
+pub laid-all : (i : Instance) (u : ℕ) {t : List ℕ} → u ≡ i .«item_count»
+    → LaidOut (first-items (i .items) (i .walkway) (no-items (with-walkway (i .walkway) (i .container))) u) t
+    → LaidOut (wide (problem-of i)) t
 unfolding problem-of wide
 laid-all i u e out = record {
   long = out .long;
-  capacity = λ a ha. out .capacity a ha ∙ below-three (λ a. capacity-at (no-items (i .container)) a ≡ measure-on a (i .container)) refl refl refl a ha;
-  size = λ a w ha hw. rw e at (out .size a w ha hw);
+  capacity = λ a ha. out .capacity a ha
+      ∙ below-three (λ a. capacity-at (no-items (with-walkway (i .walkway) (i .container))) a ≡ measure-on a (with-walkway (i .walkway) (i .container)))
+      refl refl refl a ha ∙ walkway-on i a ha (i .container);
+  size = λ a z ha hz. (rw e at (out .size a z ha hz)) ∙ ap (λ m. cond (ltb z (i .«item_count»)) m 0) (walkway-on i a ha (getD (i .items) z no-item .size));
   alone = out .alone;
 }

@@ -1,7 +1,7 @@
 -- The root of the search: the opening domains ready to be propagated, or that they are inconsistent.
 use Rattle.prelude.specs.Names.{Bool, true, false, List, [], inl, inr, _≡_, refl, sym, _∙_, ap, ℕ, _+_, _*_, _<_, ℕ-discrete, arith, set}
 use Rattle.prelude.specs.Names.{replicate, ltb-true, lt-ltb}
-use Rattle.model.specs.Problem.{Problem}
+use Rattle.model.specs.Problem.{Problem, spacing}
 use Rattle.model.specs.Domains.{Domains, full-domains}
 use Rattle.model.specs.Rules.{joined}
 use Rattle.model.specs.Propagate.{propagate}
@@ -25,7 +25,7 @@ use Rattle.model.proofs.Propagate.{propagate-less, propagate-mono, between-prop
 use Rattle.model.proofs.Toward.{by-direction, under-sizes, under-cut, end-goal}
 use Rattle.model.proofs.Untouched.{goal-lawful}
 use Rattle.model.proofs.Gap.{gap-past}
-use Rattle.model.proofs.Wide.{wide-size, wide-past, wide-between}
+use Rattle.model.proofs.Wide.{wide-size, wide-past, wide-gap}
 use Rattle.domains.specs.Rows.{Laid}
 use Rattle.domains.specs.Queue.{Good}
 use Rattle.domains.specs.Narrowed.{Grown, Narrowed, Refuted}
@@ -111,14 +111,19 @@ module _ {p : Problem} (sound : Sound p) where
   unfixed-conflict none = root-conflict (λ e. none (filled-more (propagate p opening) opening (propagate-less p opening) (goal-filled e)))
 
   -- The measures of an instance, and the steps of its chains
-  module _ {t : List ℕ} (l : SteppedOut p t) where
+  module _ {t : List ℕ} (l : SteppedOut (wide p) t) where
     alone-size : (x a u : ℕ) → Direction x → a < 3 → u < 10 → table t x a u ≡ wide p .size a u
     alone-size x a u d ha hu = l .laid .alone x a u d ha hu ∙ l .laid .size a u ha hu
 
     past : Past t (p .items)
     past = record {
       total = λ x a u d ha lu hu. alone-size x a u d ha hu ∙ wide-past p a u lu;
-      gap = λ a u v s h. omega (arith, l .step 2 a u v (omega arith) (s .axis) (s .item-u) (s .item-v), gap-past p sound a u v h);
+      gap = λ a u v s h. omega (
+        arith,
+        l .step 2 a u v (omega arith) (s .axis) (s .item-u) (s .item-v),
+        wide-gap p a u v,
+        gap-past p sound a u v h,
+      );
     }
 
     -- the arrays are those of the widened problem
@@ -132,7 +137,7 @@ module _ {p : Problem} (sound : Sound p) where
         plain = λ x a v z d ha hv hz e. omega (
           arith,
           l .step x a v z d ha hv hz,
-          by-direction (λ x. between x p a v z ≡ 0) (l .plain a z v ha hz hv e) (l .plain a v z ha hv hz e) x d,
+          by-direction (λ x. between x (wide p) a v z ≡ 0) (l .plain a z v ha hz hv e) (l .plain a v z ha hv hz e) x d,
         );
       }
 
@@ -142,16 +147,16 @@ module _ {p : Problem} (sound : Sound p) where
         ten = refl;
         capacity = λ a ha. sym (l .laid .capacity a ha);
         size = λ a u ha hu. sym (l .laid .size a u ha hu);
-        step = λ x a v z d ha hv hz. omega (arith, wide-between p a v z x d, l .step x a v z d ha hv hz, l .laid .size a z ha hz);
+        step = λ x a v z d ha hv hz. omega (arith, l .step x a v z d ha hv hz, l .laid .size a z ha hz);
       }
 
       -- the goal has the pairs cut that are too long
       root-asked : inconsistent p (propagate p opening) ≡ false → PairsAsked t (propagate p opening)
-      unfolding joined
+      unfolding joined wide
       root-asked consistent = record {
         all = λ a u v s too.
             let i = too-inside root-tabled past s too in
-            let size : (x w : ℕ) → Direction x → w < p .items → table t x a w ≡ p .size a w =
+            let size : (x w : ℕ) → Direction x → w < p .items → table t x a w ≡ p .size a w + spacing p a =
             λ x w d hw. alone-size x a w d (s .axis) (omega (arith, sound .limited)) ∙ wide-size p a w hw in
             under-cut p (propagate p opening) (goal consistent) (λ x. p .size) (under-sizes p (propagate p opening)) a u v i
             (omega (
@@ -161,6 +166,7 @@ module _ {p : Problem} (sound : Sound p) where
               size 2 u (omega arith) (i .item-u),
               size 1 v (omega arith) (i .item-v),
               l .step 2 a u v (omega arith) (s .axis) (s .item-u) (s .item-v),
+              wide-gap p a u v,
             ));
         filled = goal-filled consistent;
       }

@@ -10,6 +10,10 @@ use Rattle.instance.specs.Meaning.{precedence-of}
 use Rattle.chains.specs.Totals.{Small, table-start, table, measure-at, capacity-at, gapped-at, step-at}
 use Rattle.model.specs.Problem as M
 
+-- measures with the walkway behind them: on x and y
+abbrev pub with-walkway : ℕ → Size → Size
+with-walkway w s = record { width = s .width + w; depth = s .depth + w; shifts = s .shifts }
+
 -- a measure at its place, and as the total of both chains of the item alone
 abbrev pub put : List ℕ → ℕ → ℕ → List ℕ
 put t i m = set (set (set t i m) (30 + i) m) (60 + i) m
@@ -17,15 +21,19 @@ put t i m = set (set (set t i m) (30 + i) m) (60 + i) m
 abbrev pub put-item : List ℕ → ℕ → Size → List ℕ
 put-item t u s = put (put (put t u (s .width)) (10 + u) (s .depth)) (20 + u) (s .shifts)
 
--- no number is above the greatest measure
-abbrev pub Measures : List ℕ → Type 0
-Measures t = (i : ℕ) → getD t i 0 ≤ max-measure
+-- the greatest measure with the greatest walkway
+abbrev pub max-spaced : ℕ
+max-spaced = max-measure + 255
 
--- the measures of a problem, 0 past its items, with chains of one item each
+-- no number is above that
+abbrev pub Measures : List ℕ → Type 0
+Measures t = (i : ℕ) → getD t i 0 ≤ max-spaced
+
+-- the measures of a problem of ten items, with chains of one item each
 pub record LaidOut (p : Problem) (t : List ℕ) : Type 0 where
   pub long : length t ≡ 696
   pub capacity : (a : ℕ) → a < 3 → capacity-at t a ≡ p .capacity a
-  pub size : (a u : ℕ) → a < 3 → u < 10 → measure-at t a u ≡ wide p .size a u
+  pub size : (a u : ℕ) → a < 3 → u < 10 → measure-at t a u ≡ p .size a u
   pub alone : (x a u : ℕ) → Direction x → a < 3 → u < 10 → table t x a u ≡ measure-at t a u
 
 -- "A piece above the hall's measure", or none
@@ -59,9 +67,9 @@ pub record SteppedOut (p : Problem) (t : List ℕ) : Type 0 where
   pub plain : (a u v : ℕ) → a < 3 → u < 10 → v < 10 → gapped-at t a ≡ 0 → gap p a u v ≡ 0
   pub step : (x a v z : ℕ) → Direction x → a < 3 → v < 10 → z < 10 → step-at t (table-start x) a v z ≡ between x p a v z + measure-at t a z
 
--- the same problem with other precedences
+-- a problem's measures with other precedences and no walkway
 abbrev pub with-precedences : Problem → List M.Precedence → Problem
-with-precedences p l = record { items = p .items; size = p .size; capacity = p .capacity; precedences = l }
+with-precedences p l = record { items = p .items; size = p .size; capacity = p .capacity; walkway = 0; precedences = l }
 
 -- from t to s the lags of precedences are put: what was laid out of a problem without any is laid out with them
 abbrev pub LagsLaid : List Precedence → List ℕ → List ℕ → Type 0
@@ -71,7 +79,7 @@ LagsLaid os t s = (p : Problem) → SteppedOut (with-precedences p []) t → Ste
 abbrev pub LargeItem : Problem → Type 0
 LargeItem p = (a : ℕ) × (u : ℕ) × (a < 3) × (u < p .items) × (p .capacity a < p .size a u)
 
--- all of a problem is laid out and each item alone fits; or one does not
+-- all of a problem is laid out, as the one of ten items, and each item alone fits; or one does not
 abbrev pub FitsIf : Problem → List ℕ → Bool → Type 0
-FitsIf p t true = SteppedOut p t × LargeIf t false
+FitsIf p t true = SteppedOut (wide p) t × LargeIf t false
 FitsIf p t false = LargeItem p

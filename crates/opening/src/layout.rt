@@ -10,7 +10,9 @@ ghost use Rattle.parts.specs.Sizes.{max-measure};
 ghost use Rattle.parts.specs.declared.Previous.{Previous};
 ghost use Rattle.instance.specs.Valid.{valid};
 ghost use Rattle.instance.specs.Meaning.{problem-of};
-ghost use Rattle.opening.specs.Layout.{put, put-item, Measures, LaidOut, LargeIf, RowStepped, Stepped, put-lag, LagsLaid, FitsIf};
+ghost use Rattle.model.specs.Wide.{wide};
+ghost use Rattle.opening.specs.Layout.{with-walkway, put, put-item, max-spaced, Measures, LaidOut, LargeIf};
+ghost use Rattle.opening.specs.Layout.{RowStepped, Stepped, put-lag, LagsLaid, FitsIf};
 use chains::totals::CAPACITY;
 use chains::totals::GAPPED;
 use chains::totals::SIZES;
@@ -21,6 +23,21 @@ use domains::ROWS;
 use instance::Instance;
 use parts::Precedence;
 use parts::Size;
+
+// Measures with the walkway behind them, on x and y.
+fn with_walkway(size: Size, walkway: u8) -> Size
+    requires { ⌜ (size .width ≤ max-measure) × (size .depth ≤ max-measure) ⌝ }
+    ensures { λ r. ⌜ (r ≡ with-walkway walkway size) × (walkway ≤ 255) ⌝ }
+{
+    let width = size.width + walkway as u16;
+    let depth = size.depth + walkway as u16;
+    let shifts = size.shifts;
+    Size {
+        width,
+        depth,
+        shifts,
+    }
+}
 
 // A measure at its place, and as the totals of the item alone.
 fn put_size(t: &mut [u16; TOTALS], i: usize, size: u16)
@@ -42,21 +59,25 @@ fn put_item(t: &mut [u16; TOTALS], u: usize, size: Size)
     put_size(t, 20 + u, size.shifts);
 }
 
-// The measures of an instance, 0 past its items, with chains of one item each.
+// The measures of an instance with its walkway, 0 past its items, with chains of one item each. The container has one walkway more than there are between
+// its walls: the one behind the last item.
 fn put_items(t: &mut [u16; TOTALS], instance: Instance)
     requires { ⌜ (now t ≡ replicate 696 0) × (valid instance ≡ true) ⌝ }
-    ensures { λ _. ⌜ LaidOut (problem-of instance) (now (t .exit)) × Measures (now (t .exit)) ⌝ }
+    ensures { λ _. ⌜ LaidOut (wide (problem-of instance)) (now (t .exit)) × Measures (now (t .exit)) ⌝ }
 {
     let n = instance.item_count;
     let items = instance.items;
+    let walkway = instance.walkway;
     let container = instance.container;
-    t[CAPACITY] = container.width;
-    t[CAPACITY + 1] = container.depth;
-    t[CAPACITY + 2] = container.shifts;
+    let capacity = with_walkway(container, walkway);
+    t[CAPACITY] = capacity.width;
+    t[CAPACITY + 1] = capacity.depth;
+    t[CAPACITY + 2] = capacity.shifts;
     let mut u: usize = 0;
     while u < n {
         let item = items[u];
-        put_item(t, u, item.size);
+        let size = item.size;
+        put_item(t, u, with_walkway(size, walkway));
         u = u + 1;
     }
 }
@@ -102,7 +123,7 @@ fn put_steps(t: &mut [u16; TOTALS])
 
 // The lag of two items on t, from either end, where it is the greatest of theirs so far.
 fn put_lag(t: &mut [u16; TOTALS], u: usize, v: usize, lag: u8)
-    requires { ⌜ (length (now t) ≡ 696) × (u < 10) × (v < 10) × (getD (now t) (80 + u) 0 ≤ max-measure) × (getD (now t) (80 + v) 0 ≤ max-measure) ⌝ }
+    requires { ⌜ (length (now t) ≡ 696) × (u < 10) × (v < 10) × (getD (now t) (80 + u) 0 ≤ max-spaced) × (getD (now t) (80 + v) 0 ≤ max-spaced) ⌝ }
     ensures { λ _. ⌜ (now (t .exit) ≡ put-lag (now (t .entry)) u v lag) × (lag ≤ 255) ⌝ }
 {
     let ends = STEPS + (20 + u) * 10 + v;
@@ -129,7 +150,7 @@ fn put_lags(t: &mut [u16; TOTALS], precedences: [Precedence; Instance::MAX_PRECE
     }
 }
 
-// Lays an instance out, in an array of zeros: its measures with the steps of its chains. The answer is false where an item is above the container's
+// Lays an instance out, in an array of zeros: its measures, walkway included, with the steps of its chains. The answer is false where an item is above the container's
 // measure.
 pub fn lay_out(t: &mut [u16; TOTALS], instance: Instance) -> bool
     requires { ⌜ (now t ≡ replicate 696 0) × (valid instance ≡ true) ⌝ }

@@ -7,7 +7,7 @@ use lib.Signed.{mag}
 use mir.Syntax.{w32}
 use mir.Val.{SFits, toZ, ofZ}
 use mir.ValLaws.{toZ-ofZ}
-use Rattle.model.specs.Problem.{Problem, Positions, EndsBefore}
+use Rattle.model.specs.Problem.{Problem, Positions, EndsAhead, EndsBefore, spacing}
 use Rattle.packing.specs.Clearance.{greater-of, from-end-to-start, clearance-between, Gap, PartedByMove, LeastMove, Overlap}
 
 -- how far an integer is above 0, and how far below
@@ -124,27 +124,32 @@ module _ (p : Problem) (q : Positions) (a : ℕ) where
     gap-clearance g (inl e) = same-integer _ _ (omega (arith, measured u v))
     gap-clearance g (inr e) = same-integer _ _ (omega (arith, measured u v))
 
-    -- 0 or above exactly where one item ends at or before the other's start on the axis
-    pub clearance-apart : (pos 0 ≤ℤ clearance-between p q a u v) ↔ (EndsBefore p q a u v ⊎ EndsBefore p q a v u)
-    unfolding EndsBefore
-    clearance-apart = (
+    -- g or above exactly where one item ends at least g before the other's start on the axis
+    pub clearance-ahead : (g : ℕ) → (pos g ≤ℤ clearance-between p q a u v) ↔ (EndsAhead p q a g u v ⊎ EndsAhead p q a g v u)
+    unfolding EndsAhead
+    clearance-ahead g = (
       (λ w.
           let k = simp order-exactly at w in let m = measured u v in
           by-lt (q a v + end v) (q a u + end u) (λ h. inr (omega arith)) (λ h. inl (omega arith))),
       ⊎-elim (λ w. simp order-exactly (omega (arith, measured u v))) (λ w. simp order-exactly (omega (arith, measured u v))),
     )
 
+    -- so they are apart on x or y exactly where it is the walkway or above, and on t where it is 0 or above
+    pub clearance-apart : (pos (spacing p a) ≤ℤ clearance-between p q a u v) ↔ (EndsBefore p q a u v ⊎ EndsBefore p q a v u)
+    unfolding EndsBefore
+    clearance-apart = clearance-ahead (spacing p a)
+
     overlap-of : (d : ℕ) → clearance-between p q a u v ≡ negsuc d → Overlap p q a u v (suc d)
     overlap-of d e =
         let m = rw e at (measured u v) in
-        record { not-apart = λ w. (rw e at (clearance-apart .1 w)) .le; of-second = least-move u v d m; of-first = least-move v u d (omega arith) }
+        record { not-apart = λ w. (rw e at (clearance-ahead 0 .1 w)) .le; of-second = least-move u v d m; of-first = least-move v u d (omega arith) }
 
     -- "below 0 the overlap, told as the least move on that axis that parts them, with a minus", and the other way round
     pub clearance-overlap : (d : ℕ) → (clearance-between p q a u v ≡ negℤ (pos (suc d))) ↔ Overlap p q a u v (suc d)
     clearance-overlap d = (overlap-of d, from (clearance-between p q a u v) refl)
       where
         from : (z : ℤ) → clearance-between p q a u v ≡ z → Overlap p q a u v (suc d) → z ≡ negsuc d
-        from (pos g) e o = absurd (o .not-apart (clearance-apart .0 (rw e (simp order-exactly (omega arith)))))
+        from (pos g) e o = absurd (o .not-apart (clearance-ahead 0 .0 (rw e (simp order-exactly (omega arith)))))
         from (negsuc h) e o =
             let own = overlap-of h e .of-second in
             let (m, s, t) = o .of-second .parts in

@@ -3,7 +3,7 @@ use Rattle.prelude.specs.Names.{Bool, true, false, _&&_, _||_, or-comm, or-true
 use Rattle.prelude.specs.Names.{ap, _∙_, ℕ, zero, suc, _+_, _≤_, _<_, add-one, arith, decLt, leb, eqb, length, getD, take, take-suc, eq-eqb, ne-eqb}
 use mathlib.Core.Path.{fun-ext}
 use Rattle.model.specs.Below.{some-below, all-below, all-in}
-use Rattle.model.specs.Problem.{Problem, Positions, ends-before, ends-ahead, inside-test, apart-on-some-axis, apart-test, ordered-test, time}
+use Rattle.model.specs.Problem.{Problem, Positions, spacing, ends-before, ends-ahead, inside-test, apart-on-some-axis, apart-test, ordered-test, time}
 use Rattle.model.proofs.Below.{all-at, all-of, all-cons, some-of, fails, or-left, or-right}
 use Rattle.model.proofs.Order.{implies-eq}
 use Rattle.parts.specs.declared.Precedence.{Precedence}
@@ -14,7 +14,7 @@ use Rattle.instance.specs.declared.Packing.{Packing}
 use Rattle.instance.specs.declared.Position.{Position}
 use Rattle.instance.specs.Valid.{precedences-of}
 use Rattle.instance.specs.Meaning.{precedence-of, measure-on, start, problem-of, positions-of}
-use Rattle.packing.specs.Parts.{within, inside-on, apart-from-lower, placed-at, end-of, precedence-kept, all-kept}
+use Rattle.packing.specs.Parts.{within, inside-on, apart-from-lower, placed-at, spacing-on, end-of, precedence-kept, all-kept}
 use Rattle.packing.specs.declared.axes.Placed.{Placed}
 use Rattle.model.specs.Problem as M
 
@@ -108,23 +108,24 @@ module _ (items : List Item) (positions : List Position) where
   kept-loop os (suc m) h =
       rw (take-suc os m no-precedence, kept-last) (sym (both-pass (precedence-kept items positions _) (sym (kept-loop os m (omega arith)))))
 
--- two items are parted on an axis
-unfoldable pub parted-on : Placed → Placed → ℕ → Bool
-parted-on x y a = leb (end-of a x) (start a (y .position)) || leb (end-of a y) (start a (x .position))
+-- two items are parted on an axis, with a walkway
+unfoldable pub parted-on : ℕ → Placed → Placed → ℕ → Bool
+parted-on w x y a =
+    leb (end-of a x + spacing-on w a) (start a (y .position)) || leb (end-of a y + spacing-on w a) (start a (x .position))
 
-module _ (x y : Placed) (a : ℕ) {t : Bool} (e : t ≡ leb (end-of a x) (start a (y .position))) where
-  pub parted-left : t ≡ true → parted-on x y a ≡ true
+module _ (w : ℕ) (x y : Placed) (a : ℕ) {g : ℕ} (space : g ≡ spacing-on w a) {t : Bool} (e : t ≡ leb (end-of a x + g) (start a (y .position))) where
+  pub parted-left : t ≡ true → parted-on w x y a ≡ true
   unfolding parted-on
-  parted-left h = rw (← e, h)
+  parted-left h = rw (← space, ← e, h)
 
-  module _ {s : Bool} (d : s ≡ leb (end-of a y) (start a (x .position))) where
-    pub parted-right : s ≡ true → parted-on x y a ≡ true
+  module _ {s : Bool} (d : s ≡ leb (end-of a y + g) (start a (x .position))) where
+    pub parted-right : s ≡ true → parted-on w x y a ≡ true
     unfolding parted-on
-    parted-right h = rw (← d, h, or-true)
+    parted-right h = rw (← space, ← d, h, or-true)
 
-    pub parted-more : Failed (parted-on x y) 3 a → a < 3 → t ≡ false → s ≡ false → Failed (parted-on x y) 3 (a + 1)
+    pub parted-more : Failed (parted-on w x y) 3 a → a < 3 → t ≡ false → s ≡ false → Failed (parted-on w x y) 3 (a + 1)
     unfolding parted-on
-    parted-more f l h k = record { within = omega arith; fail = rw (add-one, some-below, ← e, ← d, h, k) (f .fail) }
+    parted-more f l h k = record { within = omega arith; fail = rw (add-one, some-below, ← space, ← e, ← d, h, k) (f .fail) }
 
 module _ (i : Instance) (q : Packing) where
   pub inside-by : (a : ℕ) {limit : ℕ} → limit ≡ measure-on a (i .container)
@@ -137,14 +138,14 @@ module _ (i : Instance) (q : Packing) where
   apart-by = apart-loop _ _
 
   module _ (u v : ℕ) {x y : Placed} (e : x ≡ placed-at (i .items) (q .positions) u) (f : y ≡ placed-at (i .items) (q .positions) v) where
-    parted-by : apart-on-some-axis (problem-of i) (positions-of q) u v ≡ some-below 3 (parted-on x y)
-    unfolding apart-on-some-axis ends-before parted-on end-of problem-of positions-of
+    parted-by : apart-on-some-axis (problem-of i) (positions-of q) u v ≡ some-below 3 (parted-on (i .walkway) x y)
+    unfolding apart-on-some-axis ends-before ends-ahead spacing parted-on end-of problem-of positions-of
     parted-by = rw (e, f)
 
-    pub parted : {a : ℕ} → a < 3 → parted-on x y a ≡ true → true ≡ apart-on-some-axis (problem-of i) (positions-of q) u v
-    parted {a} l h = sym (parted-by ∙ some-of 3 (parted-on x y) a l h)
+    pub parted : {a : ℕ} → a < 3 → parted-on (i .walkway) x y a ≡ true → true ≡ apart-on-some-axis (problem-of i) (positions-of q) u v
+    parted {a} l h = sym (parted-by ∙ some-of 3 (parted-on (i .walkway) x y) a l h)
 
-    pub not-parted : {a : ℕ} → Failed (parted-on x y) 3 a → 3 ≤ a → false ≡ apart-on-some-axis (problem-of i) (positions-of q) u v
+    pub not-parted : {a : ℕ} → Failed (parted-on (i .walkway) x y) 3 a → 3 ≤ a → false ≡ apart-on-some-axis (problem-of i) (positions-of q) u v
     not-parted {a} d l = let n : a ≡ 3 = omega arith in rw (parted-by, ← (rw n at (d .fail)))
 
   pub ordered-by : ordered-test (problem-of i) (positions-of q) ≡ all-kept (i .items) (q .positions) (precedences-of i)

@@ -1,6 +1,7 @@
--- The clearance of two items on an axis, and what is answered (document 01, "Fit" and the refusals 9, 5, 8).
+-- The clearance of two items on an axis, and what is answered (document 01, "Fit" and the refusals 9, 5, 8). A walkway changes nothing here: the clearance is
+-- the plain distance of starts and ends.
 use Rattle.prelude.specs.Names.{Bool, true, false, cond, _&&_, _⊎_, inl, inr, _↔_, _≡_, ℕ, _+_, _≤_, _<_, ltb, ℤ, pos, natAbs, _+ℤ_, _-ℤ_, ltZ, _≤ℤ_}
-use Rattle.model.specs.Problem.{Problem, Positions, EndsBefore}
+use Rattle.model.specs.Problem.{Problem, Positions, EndsAhead}
 use Rattle.refusal.specs.declared.Refusal.{Refusal}
 use Rattle.refusal.specs.declared.Refusal.the-variants.{BadItem, BadArgument, InvalidInstance}
 use Rattle.refusal.specs.Numbers.{number-of, place-of}
@@ -63,7 +64,7 @@ pub record Answers (i : Instance) (q : Packing) (u v a : ℕ) (r : ClearanceAnsw
 unfoldable pub Gap : Problem → Positions → ℕ → ℕ → ℕ → ℕ → Type 0
 Gap p q a u v g = (q a u + p .size a u + g ≡ q a v) ⊎ (q a v + p .size a v + g ≡ q a u)
 
--- v, moved on the axis by m modules, below 0 towards the origin and past it, is apart from u
+-- v, moved on the axis by m modules, below 0 towards the origin and past it, starts at or after u's end or ends at or before its start
 unfoldable pub PartedByMove : Problem → Positions → ℕ → ℕ → ℕ → ℤ → Type 0
 PartedByMove p q a u v m = (pos (q a u + p .size a u) ≤ℤ (pos (q a v) +ℤ m)) ⊎ (((pos (q a v) +ℤ m) +ℤ pos (p .size a v)) ≤ℤ pos (q a u))
 
@@ -74,6 +75,6 @@ pub record LeastMove (p : Problem) (q : Positions) (a u v d : ℕ) : Type 0 wher
 
 -- "below 0 the overlap, told as the least move on that axis that parts them, with a minus": of v, and of u
 pub record Overlap (p : Problem) (q : Positions) (a u v d : ℕ) : Type 0 where
-  pub not-apart : (EndsBefore p q a u v ⊎ EndsBefore p q a v u) → ⊥
+  pub not-apart : (EndsAhead p q a 0 u v ⊎ EndsAhead p q a 0 v u) → ⊥
   pub of-second : LeastMove p q a u v d
   pub of-first : LeastMove p q a v u d

@@ -1,5 +1,5 @@
 -- Parts of the test of a packing, each the work of one loop.
-use Rattle.prelude.specs.Names.{Bool, true, _&&_, List, [], _∷_, ℕ, _+_, _<_, leb, getD}
+use Rattle.prelude.specs.Names.{Bool, true, cond, _&&_, List, [], _∷_, ℕ, _+_, _<_, leb, eqb, getD}
 use Rattle.model.specs.Below.{all-below}
 use Rattle.model.specs.Problem.{Problem, Positions, apart-on-some-axis, time}
 use Rattle.parts.specs.declared.Item.{Item}
@@ -30,6 +30,10 @@ pub record Named (n m : ℕ) (os : List Precedence) : Type 0 where
 -- item u where a packing puts it
 abbrev pub placed-at : List Item → List Position → ℕ → Placed
 placed-at items positions u = record { size = getD items u no-item .size; position = getD positions u origin }
+
+-- "Apart on x or y then means that one ends at least the walkway before the other's start": how far, by axis; nothing on t
+abbrev pub spacing-on : ℕ → ℕ → ℕ
+spacing-on walkway a = cond (eqb a time) 0 walkway
 
 -- start plus measure
 unfoldable pub end-of : ℕ → Placed → ℕ

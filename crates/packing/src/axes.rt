@@ -4,7 +4,7 @@ ghost use mathlib.Core.Path.{_≡_};
 ghost use Prim.Native.Nat.{_<_, _+_};
 ghost use lib.Dec.{leb};
 ghost use Rattle.instance.specs.Meaning.{measure-on, start};
-ghost use Rattle.packing.specs.Parts.{placed-at, end-of};
+ghost use Rattle.packing.specs.Parts.{placed-at, end-of, spacing-on};
 use instance::Instance;
 use instance::Position;
 use parts::Item;
@@ -59,20 +59,19 @@ pub fn end_on(item: Placed, axis: u8) -> u32
     start_on(position, axis) as u32 + measure_on(size, axis) as u32
 }
 
-// One item ends at or before the other's start.
-pub fn ends_before(item: Placed, other: Placed, axis: u8) -> bool
-    ensures { λ r. ⌜ r ≡ leb (end-of axis item) (start axis (other .position)) ⌝ }
-{
-    let position = other.position;
-    end_on(item, axis) <= start_on(position, axis) as u32
-}
-
-// One item's end plus a lag is at or before the other's start.
-pub fn ends_ahead(item: Placed, other: Placed, axis: u8, lag: u8) -> bool
-    ensures { λ r. ⌜ r ≡ leb (end-of axis item + lag) (start axis (other .position)) ⌝ }
+// One item ends at least `gap` before the other's start.
+pub fn ends_ahead(item: Placed, other: Placed, axis: u8, gap: u8) -> bool
+    ensures { λ r. ⌜ r ≡ leb (end-of axis item + gap) (start axis (other .position)) ⌝ }
 {
     let position = other.position;
     let end = end_on(item, axis);
     let start = start_on(position, axis) as u32;
-    end + lag as u32 <= start
+    end + gap as u32 <= start
+}
+
+// How far from each other items are that are apart on an axis: the walkway on x and y, nothing on t.
+pub fn spacing_on(walkway: u8, axis: u8) -> u8
+    ensures { λ r. ⌜ r ≡ spacing-on walkway axis ⌝ }
+{
+    if axis == 2 { 0 } else { walkway }
 }

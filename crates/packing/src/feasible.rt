@@ -51,7 +51,7 @@ pub fn inside(instance: Instance, packing: Packing) -> bool
     true
 }
 
-// Two items are apart on some axis.
+// Two items are apart on some axis: on x and y by the walkway.
 fn apart_on_some_axis(instance: Instance, packing: Packing, u: usize, v: usize) -> bool
     requires { ⌜ (u < max-items) × (v < max-items) ⌝ }
     ensures { λ r. ⌜ r ≡ apart-on-some-axis (problem-of instance) (positions-of packing) u v ⌝ }
@@ -60,12 +60,14 @@ fn apart_on_some_axis(instance: Instance, packing: Packing, u: usize, v: usize) 
     let positions = packing.positions;
     let first = axes::placed_item(items, positions, u);
     let second = axes::placed_item(items, positions, v);
+    let walkway = instance.walkway;
     let mut axis: u8 = 0;
     while axis < 3 {
-        if axes::ends_before(first, second, axis) {
+        let space = axes::spacing_on(walkway, axis);
+        if axes::ends_ahead(first, second, axis, space) {
             return true;
         }
-        if axes::ends_before(second, first, axis) {
+        if axes::ends_ahead(second, first, axis, space) {
             return true;
         }
         axis = axis + 1;

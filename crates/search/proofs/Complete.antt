@@ -1,12 +1,12 @@
 -- The packing of a complete path.
-use Rattle.prelude.specs.Names.{List, _≡_, sym, ap₂, _∙_, ℕ, _-_, _≤_, _<_, arith, length}
+use Rattle.prelude.specs.Names.{List, _≡_, sym, _∙_, ℕ, _+_, _≤_, _<_, arith, length}
 use Rattle.model.proofs.GreatestChains.{greatest-ending-size}
 use Rattle.model.proofs.Wide.{wide-size, wide-ending}
 use Rattle.model.proofs.Outside.{path-untouched}
 use Rattle.model.specs.Admits.{Sound}
 use Rattle.model.specs.Branching.{Branch, starts, plan}
 use Rattle.model.specs.Domains.{Domains}
-use Rattle.model.specs.Problem.{Problem}
+use Rattle.model.specs.Problem.{Problem, spacing}
 use Rattle.model.specs.Relations.{Untouched}
 use Rattle.model.specs.Rules.{greatest-ending}
 use Rattle.model.specs.Run.{look}
@@ -19,9 +19,9 @@ use Rattle.chains.specs.Totals.{table, measure-at}
 use Rattle.search.proofs.Packing.{plan-is}
 use Rattle.model.specs.Search as S
 
--- the totals of a path's domains give its packing
+-- the totals of a path's domains give its packing: what total and measure have of the walkway behind the item goes out in the start
 module _ (p : Problem) (limited : p .items ≤ 10) (path : List Branch) {k : Domains} {rows t : List ℕ} (s : Seen p k rows t path) where
-  size-is : (a u : ℕ) → a < 3 → u < p .items → measure-at t a u ≡ p .size a u
+  size-is : (a u : ℕ) → a < 3 → u < p .items → measure-at t a u ≡ p .size a u + spacing p a
   unfolding wide
   size-is a u ha hu = sym (s .rested .measured .size a u ha (omega arith)) ∙ wide-size p a u hu
 
@@ -44,4 +44,5 @@ module _ (p : Problem) (limited : p .items ≤ 10) (path : List Branch) {k : Dom
       plain = rw (s .is) (path-untouched p sound path forks)
 
       start-is : (a u : ℕ) → a < 3 → u < p .items → start-at t a u ≡ starts p k a u
-      start-is a u ha hu = unfold starts in ap₂ _-_ (total-is a u ha hu ∙ wide-ending p limited k plain a u ha hu) (size-is a u ha hu)
+      unfolding starts
+      start-is a u ha hu = omega (arith, total-is a u ha hu, wide-ending p limited k plain a u ha hu, size-is a u ha hu)

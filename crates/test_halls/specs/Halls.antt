@@ -1,5 +1,5 @@
--- The starred rows of document 01's "Small halls" as one table: bytes, calls, and what they have to give; and rows for the lags of document 02, #101.
--- proofs/Halls shows it as a whole.
+-- The starred rows of document 01's "Small halls" as one table: bytes, calls, and what they have to give; and rows for the lags of document 02, #101,
+-- and its walkway, #105. proofs/Halls shows it as a whole.
 use Rattle.prelude.specs.Names.{Bool, false, _&&_, List, [], _∷_, ℕ, eqb}
 use Rattle.model.specs.Calls.{Answer, budget-spent, no-packing, packing}
 use Rattle.model.specs.Computing.{search-computing}
@@ -47,6 +47,10 @@ cube = 0x0f ∷ 0x02 ∷ 0x00 ∷ 0x02 ∷ 0x00 ∷ 0x02 ∷ 0x00 ∷ 0x02 ∷ 0
 abbrev pub waiting : ℕ → List ℕ
 waiting shifts = 0x5c ∷ shifts ∷ 0x00 ∷ 0x03 ∷ 0x00 ∷ 0x00 ∷ 0x00 ∷ 0x03 ∷ 0x00 ∷ 0x01 ∷ 0x00 ∷ 0x02 ∷ 0x01 ∷ 0x02 ∷ 0x01 ∷ 0x05 ∷ 0x00 ∷ []
 
+-- width×1×1; two of 4×1×1; a walkway of 1
+abbrev pub passage : ℕ → List ℕ
+passage width = 0x89 ∷ width ∷ 0x00 ∷ 0x02 ∷ 0x01 ∷ 0x04 ∷ 0x00 ∷ 0x01 ∷ 0x04 ∷ 0x00 ∷ 0x01 ∷ []
+
 unfoldable pub cases : List HallCase
 cases =
     -- "byte 00 alone: placed 1, no lines"
@@ -85,4 +89,14 @@ cases =
     ∷ hall-case (waiting 7) (once (packing (xyt 0 0 0 ∷ xyt 0 0 2 ∷ xyt 0 0 6 ∷ [])) 1)
     -- "On t a chain total adds the lag between neighbours that have an order": it is 7
     ∷ hall-case (waiting 6) (once no-packing 1)
+    -- the two without a walkway, in 8×1×1: "left out means 0 and pieces may touch"
+    ∷ hall-case (0x09 ∷ 0x08 ∷ 0x00 ∷ 0x02 ∷ 0x01 ∷ 0x04 ∷ 0x00 ∷ 0x01 ∷ 0x04 ∷ 0x00 ∷ []) (once (packing (xyt 0 0 0 ∷ xyt 4 0 0 ∷ [])) 2)
+    -- 02, #105: "one ends at least the walkway before the other's start"; "Nothing is needed at the walls"
+    ∷ hall-case (passage 9) (once (packing (xyt 0 0 0 ∷ xyt 5 0 0 ∷ [])) 2)
+    -- "rule 5's sum one between u and v": 4 + 1 + 4 is above 8
+    ∷ hall-case (passage 8) (once no-packing 1)
+    -- "3 covers a written width of 0"; a byte that is due; 11 of an empty field of lags "before anything that follows it"
+    ∷ hall-case (0x80 ∷ 0x00 ∷ []) (refusal 3 1)
+    ∷ hall-case (0x80 ∷ []) (refusal 1 1)
+    ∷ hall-case (0xc0 ∷ []) (refusal 11 1)
     ∷ []

@@ -1,4 +1,5 @@
-// Runs every row of document 01's table "Small halls", and halls with the lags of document 02, #101, and prints what the program prints for each.
+// Runs every row of document 01's table "Small halls", and halls with the lags and the walkway of document 02, #101 and #105, and prints what the program
+// prints for each.
 ghost use mathlib.Core.Path.{_≡_};
 ghost use Prim.Native.Nat.{_≤_};
 ghost use lib.ListN.{length};
@@ -102,6 +103,13 @@ fn waiting(shifts: u8) {
     run(&sheet);
 }
 
+// width×1×1; two of 4×1×1; a walkway of 1
+fn passage(width: u8) {
+    let mut sheet = *b"\x89\x00\x00\x02\x01\x04\x00\x01\x04\x00\x01";
+    sheet[1] = width;
+    run(&sheet);
+}
+
 fn main() {
     starred();
     // bytes 40; 00 00; 08 00. The first by 02, #101: "byte 40 alone is now refused 11 1"
@@ -114,4 +122,12 @@ fn main() {
     // 1×1×7 and 1×1×6
     waiting(7);
     waiting(6);
+    // the two of 4×1×1 without a walkway in 8×1×1, with it in 9×1×1 and 8×1×1
+    run(b"\x09\x08\x00\x02\x01\x04\x00\x01\x04\x00");
+    passage(9);
+    passage(8);
+    // bytes 80 00; 80; c0
+    run(b"\x80\x00");
+    run(b"\x80");
+    run(b"\xc0");
 }

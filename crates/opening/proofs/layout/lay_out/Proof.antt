@@ -10,7 +10,7 @@ use Rattle.opening.proofs.layout.lay_out.Tie as tie
 returns : tie.Need-returns
 returns c =
     let l = c .before in
-    large-item (l .before .before .put-items .ensures .0) (rw (c .if1 .taken) at (l .any-large .ensures))
+    large-item _ (l .before .before .put-items .ensures .0) (rw (c .if1 .taken) at (l .any-large .ensures))
 
 put-lags-requires : tie.Need-put-lags-requires
 put-lags-requires c κs =

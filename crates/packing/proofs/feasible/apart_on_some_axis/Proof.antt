@@ -4,14 +4,14 @@ use Rattle.packing.proofs.Loops.{Failed, parted-on, parted-left, parted
 use Rattle.packing.proofs.feasible.apart_on_some_axis.Tie as tie
 
 abbrev Inv-loop : tie.InvT-loop
-Inv-loop u v first second axis₀ axis = Failed (parted-on first second) 3 axis
+Inv-loop u v first second walkway axis₀ axis = Failed (parted-on walkway first second) 3 axis
 
 abbrev μ-loop : tie.MeasureT-loop
-μ-loop u v first second axis₀ axis = 3 - axis
+μ-loop u v first second walkway axis₀ axis = 3 - axis
 
 pub apart-on-some-axis-spec : {M : Type 1} → Rattle.packing.proofs.feasible.apart_on_some_axis.Statement.statement M
 apart-on-some-axis-spec = tie.close (tie.spec Inv-loop μ-loop (λ c κs. search needs) (λ c κs. search needs) (λ c. search needs)
-    (λ c κs. search needs) (λ c. search (parted, parted-left)) (λ c κs. search needs) (λ c. search (parted, parted-right)) (λ c. search needs)
-    (λ c. search needs) (λ c. parted-more _ _ _ (c .before .before .before .ends-before .ensures) (c .before .ends-before2 .ensures)
-    (c .before .before .before .before .before .loop .inv) (c .before .before .before .before .loop-test .taken) (c .before .before .if1 .left)
-    (c .if2 .left)) (λ c. search not-parted))
+    (λ c κs. search needs) (λ c κs. search needs) (λ c. search (parted, parted-left)) (λ c κs. search needs) (λ c. search (parted, parted-right))
+    (λ c. search needs) (λ c. search needs) (λ c. let e = c .before .before .before in let s = e .before in
+    parted-more _ _ _ _ (s .spacing-on .ensures) (e .ends-ahead .ensures) (c .before .ends-ahead2 .ensures) (s .before .before .loop .inv)
+    (s .before .loop-test .taken) (c .before .before .if1 .left) (c .if2 .left)) (λ c. search not-parted))
