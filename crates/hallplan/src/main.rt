@@ -1,7 +1,7 @@
 // Plans the sheet on standard input and prints the result.
 use instance::Instance;
 
-// "the program reads 352" bytes: one more than the longest sheet has.
+// "the program reads 353" bytes: one more than the longest sheet has.
 const SHEET_ROOM: usize = Instance::MAX_BYTES + 1;
 
 fn main() {

@@ -176,7 +176,7 @@ fn is_rest_zero(instance: Instance) -> bool
     precedences_zero_from(precedences, instance.precedence_count)
 }
 
-// An instance, with a word on the entries past its counts.
+// An instance, with a word on the entries past its counts; its walkway is printed where it is above 0.
 pub fn read_instance(instance: Instance) {
     word(b"read");
     let container = instance.container;
@@ -191,6 +191,10 @@ pub fn read_instance(instance: Instance) {
     precedences_below(precedences, instance.precedence_count);
     word(b" yard");
     number(instance.yard_number as usize);
+    if instance.walkway != 0 {
+        word(b" walkway");
+        number(instance.walkway as usize);
+    }
     if is_rest_zero(instance) {
         word(b" rest zero");
         return;

@@ -34,7 +34,7 @@ position-in s at = record { x = word-at s at; y = word-at s (at + 2); t = word-a
 abbrev pub precedence-in : List ℕ → ℕ → Precedence
 precedence-in s at = record { predecessor = byte-at s at; successor = byte-at s (at + 1); lag = byte-at s (at + 2) }
 
--- 354 bytes: the container, the count of items in 8 bytes, ten items, the count of precedences in 8 bytes, ninety of them, the yard number
+-- 355 bytes: the container, the count of items in 8 bytes, ten items, the count of precedences in 8 bytes, ninety of them, the yard number, the walkway
 unfoldable pub instance-in : List ℕ → Instance
 instance-in s = record {
   container = size-in s 0;
@@ -43,6 +43,7 @@ instance-in s = record {
   «precedence_count» = number-at s 74;
   precedences = tabulate max-precedences (λ i. precedence-in s (82 + 3 * i));
   «yard_number» = word-at s 352;
+  walkway = byte-at s 354;
 }
 
 -- 60 bytes: x, y, t of each of ten items

@@ -14,7 +14,7 @@ use parts::Precedence;
 use parts::Size;
 
 // How many bytes an instance has, and a packing.
-pub const INSTANCE_BYTES: usize = 354;
+pub const INSTANCE_BYTES: usize = 355;
 
 pub const PACKING_BYTES: usize = 60;
 
@@ -136,6 +136,7 @@ pub fn instance_in(s: &[u8]) -> Instance
     let precedence_count = number_at(s, 74);
     let precedences = precedences_in(s);
     let yard_number = word_at(s, 352);
+    let walkway = byte_at(s, 354);
     Instance {
         container,
         items,
@@ -143,6 +144,7 @@ pub fn instance_in(s: &[u8]) -> Instance
         precedences,
         precedence_count,
         yard_number,
+        walkway,
     }
 }
 

@@ -6,9 +6,9 @@ use Rattle.formats.specs.Formats.{Format, Test, byte, tested, keyed, row-bytes,
 use Rattle.formats.specs.Fields.{flag, flags, optional-bytes, fields-bytes, fields, map-byte, with-map}
 use Rattle.formats.proofs.Stores.{stores, joined, stores-joined}
 use Rattle.parts.specs.Precedences.{lag-of}
-use Rattle.parts.specs.Parts.{number, count-bytes, count-flag, measures, size-fields, lag-list}
+use Rattle.parts.specs.Parts.{number, byte-number, count-bytes, count-flag, measures, size-fields, lag-list}
 use Rattle.parts.proofs.Writers.{precedences-length}
-use Rattle.sheet.specs.Sheet.{list-of, item-list, precedence-list, yard-number, sheet-fields, sheet}
+use Rattle.sheet.specs.Sheet.{list-of, item-list, precedence-list, yard-number, walkway, sheet-fields, sheet}
 use Rattle.instance.specs.declared.Instance.{Instance}
 use Rattle.instance.specs.Valid.{valid, precedences-of}
 use Rattle.instance.specs.Sheets.{sheet-of, encode}
@@ -19,7 +19,7 @@ use Rattle.writer.specs.Lists.{items-bytes, precedences-bytes, lags-byte
 -- a counted row's bytes are its count's, left out for none, and its parts'
 list-bytes : {P A : Type 0} (part : Format A) (tests : P → A → List Test) (next : P → A → P) (p : P) (limit : ℕ) (xs : List A)
     → optional-bytes (list-of part tests next p limit) xs ≡ count-bytes (length xs) ++ row-bytes (part .bytes) xs
-unfolding optional-bytes list-of counted keyed count tested byte row row-bytes count-bytes
+unfolding optional-bytes list-of counted keyed count tested byte row row-bytes byte-number
 list-bytes part tests next p limit [] = refl
 list-bytes part tests next p limit (x ∷ xs) = rw (ne-eqb (suc (length xs)) 0 (λ z. omega arith))
 
@@ -29,13 +29,14 @@ Lengths i = length (encode i)
     ≡ 1 + (length (fields-bytes size-fields (i .container))
     + (length (items-bytes (i .«item_count») (i .items))
     + (length (count-bytes (i .«precedence_count»)) + 2 * i .«precedence_count»
-    + (length (optional-bytes (number 0) (i .«yard_number»)) + length (lags-bytes (i .«precedence_count») (i .precedences))))))
+    + (length (optional-bytes (number 0) (i .«yard_number»))
+    + (length (lags-bytes (i .«precedence_count») (i .precedences)) + length (optional-bytes byte-number (i .walkway)))))))
 
 module _ (i : Instance) (h : valid i ≡ true) (full : Full i) where
   pub map-flags : flags sheet-fields (sheet-of i)
       ≡ flags size-fields (i .container) + 8 * (count-flag (i .«item_count») + 2 * count-flag (i .«precedence_count»)) + 32 * flag (number 0) (i .«yard_number»)
-      + 64 * flag (lag-list (i .«precedence_count»)) (map lag-of (precedences-of i))
-  unfolding flags flag sheet-fields size-fields measures item-list precedence-list yard-number list-of
+      + 64 * flag (lag-list (i .«precedence_count»)) (map lag-of (precedences-of i)) + 128 * flag byte-number (i .walkway)
+  unfolding flags flag sheet-fields size-fields measures item-list precedence-list yard-number walkway list-of byte-number
   map-flags = simp (length-map, items-counted i h full, precedences-counted i h full) (omega arith)
 
   -- the fields after the map byte
@@ -46,11 +47,12 @@ module _ (i : Instance) (h : valid i ≡ true) (full : Full i) where
       ∷ precedences-bytes (i .«precedence_count») (i .precedences)
       ∷ optional-bytes (number 0) (i .«yard_number»)
       ∷ lags-bytes (i .«precedence_count») (i .precedences)
+      ∷ optional-bytes byte-number (i .walkway)
       ∷ []
 
   encode-is : encode i ≡ flags sheet-fields (sheet-of i) ∷ joined field-runs
   unfolding encode sheet with-map map-byte keyed tested byte fields fields-bytes sheet-fields size-fields measures
-      item-list precedence-list yard-number
+      item-list precedence-list yard-number walkway
   encode-is = simp (list-bytes, length-map, items-counted i h full, precedences-counted i h full, append-assoc, append-nil)
 
   pub precedences-bytes-length : let m = i .«precedence_count» in length (precedences-bytes m (i .precedences)) ≡ length (count-bytes m) + 2 * m

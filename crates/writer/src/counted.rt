@@ -18,7 +18,7 @@ pub fn items_len(items: [Item; Instance::MAX_ITEMS], n: usize) -> usize
     requires { ⌜ n ≤ max-items ⌝ }
     ensures { λ r. ⌜ (r ≡ length (items-bytes n items)) × (r ≤ 71) ⌝ }
 {
-    let mut sum = parts::write::count_len(n);
+    let mut sum = parts::write::byte_len(n);
     let mut i: usize = 0;
     while i < n {
         sum = sum + parts::write::item_len(items[i]);
@@ -32,7 +32,7 @@ pub fn write_items(out: &mut [u8], at: usize, items: [Item; Instance::MAX_ITEMS]
     ensures { λ r. ⌜ r ≡ at + length (items-bytes n items) ⌝ }
     ensures { λ _. ⌜ now (out .exit) ≡ sets (now (out .entry)) at (items-bytes n items) ⌝ }
 {
-    let mut k = parts::write::write_count(out, at, n);
+    let mut k = parts::write::write_byte(out, at, n);
     let mut i: usize = 0;
     while i < n {
         k = parts::write::write_item(out, k, items[i]);
@@ -46,7 +46,7 @@ pub fn precedences_len(m: usize) -> usize
     requires { ⌜ m ≤ max-precedences ⌝ }
     ensures { λ r. ⌜ (r ≡ length (count-bytes m) + 2 * m) × (r ≤ 181) ⌝ }
 {
-    parts::write::count_len(m) + 2 * m
+    parts::write::byte_len(m) + 2 * m
 }
 
 pub fn write_precedences(
@@ -59,7 +59,7 @@ pub fn write_precedences(
     ensures { λ r. ⌜ r ≡ at + (length (count-bytes m) + 2 * m) ⌝ }
     ensures { λ _. ⌜ now (out .exit) ≡ sets (now (out .entry)) at (precedences-bytes m precedences) ⌝ }
 {
-    let mut k = parts::write::write_count(out, at, m);
+    let mut k = parts::write::write_byte(out, at, m);
     let mut i: usize = 0;
     while i < m {
         k = parts::write::write_precedence(out, k, precedences[i]);

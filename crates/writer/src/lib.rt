@@ -27,12 +27,13 @@ fn map_of(instance: Instance) -> u8
 {
     let container = instance.container;
     let precedences = instance.precedences;
-    let counts = parts::write::flag_of_count(instance.item_count)
-        + 2 * parts::write::flag_of_count(instance.precedence_count);
+    let counts = parts::write::flag_of_byte(instance.item_count)
+        + 2 * parts::write::flag_of_byte(instance.precedence_count);
     parts::write::size_flags_of(container)
         + 8 * counts
         + 32 * parts::write::flag_of(0, instance.yard_number)
         + 64 * counted::flag_of_lags(precedences, instance.precedence_count)
+        + 128 * parts::write::flag_of_byte(parts::index(instance.walkway))
 }
 
 // The length of the sheet.
@@ -49,6 +50,7 @@ fn sheet_len(instance: Instance) -> usize
         + counted::precedences_len(instance.precedence_count)
         + parts::write::field_len(0, instance.yard_number)
         + counted::lags_len(precedences, instance.precedence_count)
+        + parts::write::byte_len(parts::index(instance.walkway))
 }
 
 // The whole sheet, at the front of the room.
@@ -65,7 +67,8 @@ fn write_sheet(out: &mut [u8], instance: Instance) -> usize
     let b = counted::write_items(out, a, items, instance.item_count);
     let c = counted::write_precedences(out, b, precedences, instance.precedence_count);
     let d = parts::write::write_field(out, c, 0, instance.yard_number);
-    counted::write_lags(out, d, precedences, instance.precedence_count)
+    let e = counted::write_lags(out, d, precedences, instance.precedence_count);
+    parts::write::write_byte(out, e, parts::index(instance.walkway))
 }
 
 // Writes the sheet into the lent room, if it is an instance and the room is long enough.

@@ -9,5 +9,6 @@ pub map-of-spec : {M : Type 1} → Rattle.writer.proofs.map_of.Statemen
 map-of-spec = tie.close (tie.spec (λ c κs. search needs) (λ c κs. search needs) (λ c. search needs) (λ c. search needs) (λ c κs. search needs)
     (λ c. search needs) (λ c. search needs) (λ c κs. search needs) (λ c. search needs) (λ c. search needs)
     (λ c κs. valid-says _ (c .before .before .before .before .before .before .pre) .precedences-few) (λ c. search needs) (λ c. search needs)
-    (λ c. let s = c .before .before .before .before .before .before .before in
-    omega (arith, map-flags (s .args .instance) (s .pre) (search length-mapped))))
+    (λ c κs. search needs) (λ c κs. search needs) (λ c. search needs) (λ c. search needs)
+    (λ c. let s = c .before .before .before .before .before .before .before .before .before in
+    omega (arith, map-flags (s .args .instance) (s .pre) (search length-mapped), rw (c .before .index .ensures) at (c .flag-of-byte3 .ensures .0))))

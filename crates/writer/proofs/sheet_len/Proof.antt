@@ -10,9 +10,11 @@ sheet-len-spec = tie.close (tie.spec (λ c κs. search needs) (λ c. search need
     (λ c κs. valid-says _ (c .before .before .before .before .pre) .items-few) (λ c. search needs)
     (λ c κs. valid-says _ (c .before .before .before .before .before .pre) .precedences-few) (λ c. search needs) (λ c κs. search needs)
     (λ c. search needs) (λ c κs. valid-says _ (c .before .before .before .before .before .before .before .pre) .precedences-few) (λ c. search needs)
-    (λ c. let s = c .before .before .before .before .before .before .before .before in
+    (λ c κs. search needs) (λ c κs. search needs) (λ c. search needs)
+    (λ c. let s = c .before .before .before .before .before .before .before .before .before .before in
     omega (
       arith,
       encode-length (s .args .instance) (s .pre) (search length-mapped),
       encode-most (s .args .instance) (s .pre) (search length-mapped),
+      rw (c .before .index .ensures) at (c .byte-len .ensures .0),
     )))

@@ -19,6 +19,6 @@ write-items-spec = tie.close (tie.spec Inv-loop μ-loop
     (λ c κs. row-fits (c .before .before .before .loop .inv) no-item (search)) (λ c. search needs) (λ c. search needs)
     (λ c. let w = c .before .before .write-item in
     row-more (c .before .before .before .before .before .before .loop .inv) no-item (c .before .before .before .before .before .loop-test .taken)
-    (w .ensures .0) (w .ensures .1) (w .kept .0)) (λ c. c .before .loop .inv .same ∙ c .before .before .before .before .write-count .kept .0)
-    (λ c. let w = c .before .before .before .before .write-count in let a = c .before .before .before .before .before .before .before .args in
+    (w .ensures .0) (w .ensures .1) (w .kept .0)) (λ c. c .before .loop .inv .same ∙ c .before .before .before .before .write-byte .kept .0)
+    (λ c. let w = c .before .before .before .before .write-byte in let a = c .before .before .before .before .before .before .before .args in
     row-written (c .before .loop .inv) (c .loop-test .left) (a .out .now) (a .at) (w .ensures .0) (w .ensures .1)))

@@ -24,8 +24,8 @@ write-precedences-spec = tie.close (tie.spec Inv-loop μ-loop (λ c κs. omega (
     (λ c. search needs) (λ c. search needs) (λ c. let w = c .before .before .write-precedence in
     row-more (c .before .before .before .before .before .before .loop .inv) no-precedence
     (c .before .before .before .before .before .loop-test .taken) (rw precedence-bytes (w .ensures .0)) (w .ensures .1) (w .kept .0))
-    (λ c. c .before .loop .inv .same ∙ c .before .before .before .before .write-count .kept .0)
-    (λ c. let w = c .before .before .before .before .write-count in let r = c .before .loop .inv in
+    (λ c. c .before .loop .inv .same ∙ c .before .before .before .before .write-byte .kept .0)
+    (λ c. let w = c .before .before .before .before .write-byte in let r = c .before .loop .inv in
     let a = c .before .before .before .before .before .before .before .args in
     let e = rw (row-held (precedence .bytes) arc-of) at (row-written r (c .loop-test .left) (a .out .now) (a .at) (w .ensures .0) (w .ensures .1)) in
     (rw (length-append, precedences-many (a .t3) (a .m) (r .there)) at (e .0), e .1)))
