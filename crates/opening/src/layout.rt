@@ -150,8 +150,8 @@ fn put_lags(t: &mut [u16; TOTALS], precedences: [Precedence; Instance::MAX_PRECE
     }
 }
 
-// Lays an instance out, in an array of zeros: its measures, walkway included, with the steps of its chains. The answer is false where an item is above the container's
-// measure.
+// Lays an instance out, in an array of zeros: its measures, walkway included, with the steps of its chains. The answer is false where an item is above the
+// container's measure.
 pub fn lay_out(t: &mut [u16; TOTALS], instance: Instance) -> bool
     requires { ⌜ (now t ≡ replicate 696 0) × (valid instance ≡ true) ⌝ }
     ensures { λ r. ⌜ FitsIf (problem-of instance) (now (t .exit)) r ⌝ }
