@@ -413,7 +413,9 @@ pub fn walkway_fields(report: &mut Report, random: &mut Random, instance: &Insta
         whole.push(width);
         reading(report, if width == 0 { "walkways of 0" } else { "walkways above 0" }, &whole);
         rewriting(report, random, &whole);
-        records(report, &whole);
+        if random.one_in(4) {
+            records(report, &whole);
+        }
         let mut longer = whole.clone();
         longer.extend((0..random.between(1, 2)).map(|_| random.pick(&[0, 1, width, 255])));
         reading(report, "walkways with bytes after them", &longer);
@@ -443,14 +445,14 @@ pub fn near_a_walkway(report: &mut Report, random: &mut Random, instance: &Insta
     let axis = random.below(2);
     for on in 0..3 {
         let (start, length) = (random.below(3) as u32, items[first][on]);
-        let gap = |random: &mut Random, walkway: u32| random.pick(&[0, walkway.saturating_sub(1), walkway, walkway, walkway + 1]);
+        let gap = |random: &mut Random, walkway: u32| random.pick(&[0, walkway.saturating_sub(1), walkway.saturating_sub(1), walkway, walkway + 1]);
         positions[first][on] = start;
         positions[second][on] = match on {
             _ if on == axis => start + length + gap(random, walkway),
-            packing::TIME if random.one_in(5) => start + length,
+            packing::TIME if random.one_in(8) => start + length,
             packing::TIME => start + random.below(length as usize) as u32,
-            _ if random.one_in(2) => start + random.below(length as usize) as u32,
-            _ => start + length + gap(random, walkway),
+            _ if random.one_in(3) => start + length + gap(random, walkway),
+            _ => start + random.below(length as usize) as u32,
         };
         let end = (0..2).map(|item| positions[item][on] + items[item][on]).max().expect("two items");
         container[on] = end + random.below(2) as u32;
