@@ -1,7 +1,8 @@
 /* The casting hall planner, called on bytes: how many pieces a sheet has, whether a plan fits it, the search for a plan, and the shortest time in
  * which there is one.
  *
- * A sheet is the bytes of document 01, "Sheet bytes", with the lags of document 02 (README.md has one byte by byte). A plan is
+ * A sheet is the bytes of document 01, "Sheet bytes", with the lags and the walkway of document 02 (README.md has one byte by byte). Pieces
+ * in the same shift stand at least the walkway apart on x or on y; without one they may touch. A plan is
  * x, y, t for each piece of the sheet, 2 bytes each, low byte first: HALLPLAN_PIECE_BYTES for each piece. A note is
  * HALLPLAN_NOTE_BYTES bytes: a search opens with all of them 0, and each later call gets the note that the last one left. Steps
  * are HALLPLAN_STEP_BYTES bytes, low byte first.
@@ -30,7 +31,7 @@ extern "C" {
 /* No sheet has more pieces, a greater measure or more bytes, and no plan more bytes. */
 #define HALLPLAN_MAX_PIECES 10
 #define HALLPLAN_MAX_MEASURE 4095
-#define HALLPLAN_MAX_SHEET_BYTES 351
+#define HALLPLAN_MAX_SHEET_BYTES 352
 #define HALLPLAN_MAX_PLAN_BYTES (HALLPLAN_MAX_PIECES * HALLPLAN_PIECE_BYTES)
 
 /* A thread with this much stack can call any of the functions. It is measured (tests/stack), not proved. */
@@ -49,8 +50,8 @@ extern "C" {
  * sheet's own refusals, 1 to 7, 11 and 12, come first; where a sheet has several faults, it is the first one's. */
 #define HALLPLAN_REFUSED 100
 #define HALLPLAN_SHEET_ENDS_EARLY 1     /* it ends before a byte that is due */
-#define HALLPLAN_SHEET_UNKNOWN_BIT 2    /* a map byte has a bit without a meaning */
-#define HALLPLAN_SHEET_WRITTEN_DEFAULT 3 /* a measure of 0 or 1, or the yard number 0, is written */
+#define HALLPLAN_SHEET_UNKNOWN_BIT 2    /* a piece's map byte has a bit without a meaning */
+#define HALLPLAN_SHEET_WRITTEN_DEFAULT 3 /* a measure of 0 or 1, the yard number 0 or the walkway 0 is written */
 #define HALLPLAN_SHEET_BAD_COUNT 4      /* count 0, over 10 pieces, over 90 orders */
 #define HALLPLAN_SHEET_BAD_ORDER 5      /* an order names a piece not on the sheet, or one piece twice */
 #define HALLPLAN_SHEET_ORDERS_UNSORTED 6 /* an order is not above the one before it */

@@ -1,5 +1,5 @@
-/* Check, pieces, search and finish as a C client calls them: every row of document 01's "Small halls", sheets with lags and measures about
- * 4,095, alone and as lists of calls with refused calls among them; earliest finishes under each allowance; wrong lengths; damaged notes.
+/* Check, pieces, search and finish as a C client calls them: every row of document 01's "Small halls", sheets with lags, measures about
+ * 4,095 and walkways, alone and as lists of calls with refused calls among them; earliest finishes under each allowance; wrong lengths; damaged notes.
  * The buffers are compared whole, with a guard byte on each side. */
 #include "hallplan.h"
 
@@ -8,7 +8,7 @@
 
 #define GUARD 0xA5
 #define MOST_PIECES 5
-#define MOST_STEPS 3
+#define MOST_STEPS 4
 #define MOST_LENGTHS 4095
 #define ALL_ALLOWANCES 300
 
@@ -36,7 +36,10 @@ struct row {
 /* Three of 1x1x1 in so many shifts: orders 0,1 0,2 1,2 with lags 1, 5, 0; and the order 0,1 with lag 1. */
 #define LAGS_1_5_0(shifts) "\x5C" shifts "\x00\x03\x00\x00\x00\x03\x00\x01\x00\x02\x01\x02\x01\x05\x00"
 #define LAG_1(shifts) "\x5C" shifts "\x00\x03\x00\x00\x00\x01\x00\x01\x01"
-#define LONGEST_SHEET 351
+/* Two of 4x1x1 in a hall of so many modules; with its walkway, and with two shifts. Three of 1x1x1 in a row, with a walkway of 1. */
+#define FOURS(map, hall) map hall "\x02\x01\x04\x00\x01\x04\x00"
+#define ROW(modules) "\x89" modules "\x00\x03\x00\x00\x00\x01"
+#define LONGEST_SHEET 352
 /* 4,095 is FF 0F, 4,096 is 00 10. */
 #define MOST "\xFF\x0F"
 #define MOST_3 MOST MOST MOST
@@ -86,6 +89,30 @@ static const struct row rows[] = {
     {"4096 after a written 1", BYTES("\x03\x01\x00\x00\x10"), 0, REFUSED(3)},
     {"4096 before a written 1", BYTES("\x03\x00\x10\x01\x00"), 0, REFUSED(12)},
     {"4096 before a bad count", BYTES("\x09\x00\x10\x00"), 0, REFUSED(12)},
+    /* 4 + 4 touch in 8; a walkway of 1 takes 9, or two shifts, in which no walkway is needed */
+    {"8x1x1; two of 4x1x1", BYTES(FOURS("\x09", "\x08\x00")), 2, HALLPLAN_PLACED, 2, {"", "0", "0"}, {0, 0, 0, 4, 0, 0}},
+    {"the same, walkway 1", BYTES(FOURS("\x89", "\x08\x00") "\x01"), 2, HALLPLAN_NONE, 1, {"", ""}, {0}},
+    {"9x1x1; walkway 1", BYTES(FOURS("\x89", "\x09\x00") "\x01"), 2, HALLPLAN_PLACED, 2, {"", "0", "0"}, {0, 0, 0, 5, 0, 0}},
+    {"9x1x1; walkway 2", BYTES(FOURS("\x89", "\x09\x00") "\x02"), 2, HALLPLAN_NONE, 1, {"", ""}, {0}},
+    {"8x1x2; walkway 1", BYTES(FOURS("\x8D", "\x08\x00\x02\x00") "\x01"), 2, HALLPLAN_PLACED, 2, {"", "0", "0"}, {0, 0, 0, 0, 0, 1}},
+    {"1x2x2; walkway 255", BYTES("\x8E\x02\x00\x02\x00\x02\x00\x00\xFF"), 2, HALLPLAN_PLACED, 2, {"", "0", "0"}, {0, 0, 0, 0, 0, 1}},
+    {"202x1x1; two of 1x1x1; walkway 200", BYTES("\x89\xCA\x00\x02\x00\x00\xC8"), 2, HALLPLAN_PLACED, 2, {"", "0", "0"}, {0, 0, 0, 201, 0, 0}},
+    {"201x1x1; two of 1x1x1; walkway 200", BYTES("\x89\xC9\x00\x02\x00\x00\xC8"), 2, HALLPLAN_NONE, 1, {"", ""}, {0}},
+    {"256x1x1; two of 1x1x1; walkway 255", BYTES("\x89\x00\x01\x02\x00\x00\xFF"), 2, HALLPLAN_NONE, 1, {"", ""}, {0}},
+    /* 3 + 2 modules: a turn for each pair; in 4 each way of the first pair leaves no place for 2 */
+    {"5x1x1; three of 1x1x1; walkway 1", BYTES(ROW("\x05")), 3, HALLPLAN_PLACED, 4, {"", "0", "00", "000", "000"}, {0, 0, 0, 2, 0, 0, 4, 0, 0}},
+    {"4x1x1; three of 1x1x1; walkway 1", BYTES(ROW("\x04")), 3, HALLPLAN_NONE, 3, {"", "0", "1", ""}, {0}},
+    /* with the order 0,1 and lag 1: 2 goes beside 0 */
+    {"3x1x3; lag 1, walkway 1", BYTES("\xDD\x03\x00\x03\x00\x03\x00\x00\x00\x01\x00\x01\x01\x01"), 3, HALLPLAN_PLACED, 4, {"", "0", "00", "000", "000"},
+     {0, 0, 0, 0, 0, 2, 2, 0, 0}},
+    {"4x3x1; 4x3x1; walkway 255", BYTES("\x8B\x04\x00\x03\x00\x01\x03\x04\x00\x03\x00\xFF"), 1, HALLPLAN_PLACED, 1, {"", ""}, {0, 0, 0}},
+    {"a walkway alone", BYTES("\x80\x05"), 0, HALLPLAN_PLACED, 1, {"", ""}, {0}},
+    {"a walkway that is missing", BYTES("\x80"), 0, REFUSED(1)},
+    {"a walkway of 0", BYTES("\x80\x00"), 0, REFUSED(3)},
+    {"a walkway of 0 and a byte", BYTES("\x80\x00\x05"), 0, REFUSED(3)},
+    {"a walkway and a byte", BYTES("\x80\x05\x05"), 0, REFUSED(7)},
+    {"an empty lag field and a walkway", BYTES("\xC0\x05"), 0, REFUSED(11)},
+    {"bit 7 of a piece", BYTES("\x88\x01\x80\x05"), 0, REFUSED(2)},
 };
 
 static int failed;
@@ -248,6 +275,27 @@ static void checks_with_lags(void)
     }
 }
 
+/* Check with a walkway of 3: two cubes of 2 in a hall of 9, one at 0, 0, 0, in either sequence. */
+static void checks_with_walkway(void)
+{
+    static const uint8_t sheet[] = "\x8F\x09\x00\x09\x00\x09\x00\x02\x07\x02\x00\x02\x00\x02\x00\x07\x02\x00\x02\x00\x02\x00\x03";
+    static const struct {
+        uint8_t start[3];
+        uint32_t want;
+    } plans[] = {{{5, 0, 0}, HALLPLAN_YES}, {{4, 0, 0}, HALLPLAN_NO}, {{0, 5, 0}, HALLPLAN_YES}, {{0, 4, 0}, HALLPLAN_NO}, {{4, 4, 1}, HALLPLAN_NO},
+                 {{5, 4, 1}, HALLPLAN_YES}, {{4, 5, 1}, HALLPLAN_YES}, {{2, 2, 2}, HALLPLAN_YES}, {{0, 0, 2}, HALLPLAN_YES}, {{0, 0, 1}, HALLPLAN_NO},
+                 {{7, 7, 7}, HALLPLAN_YES}, {{8, 0, 0}, HALLPLAN_NO}};
+    for (size_t k = 0; k < sizeof plans / sizeof plans[0]; k++) {
+        for (size_t piece = 0; piece < 2; piece++) {
+            uint8_t plan[2 * HALLPLAN_PIECE_BYTES] = {0};
+            for (size_t axis = 0; axis < 3; axis++) {
+                plan[HALLPLAN_PIECE_BYTES * piece + 2 * axis] = plans[k].start[axis];
+            }
+            EXPECT("walkway", hallplan_check(sheet, sizeof sheet - 1, plan, sizeof plan), plans[k].want);
+        }
+    }
+}
+
 /* A start is no measure: a piece of 4,095 shifts at 65,535 or 61,441 is outside, though its end is small in 16 bits. */
 static void checks_far(void)
 {
@@ -270,13 +318,13 @@ static void one_too_large(uint8_t *sheet, size_t place)
     EXPECT("4095", hallplan_pieces(sheet, LONGEST_SHEET), 10);
 }
 
-/* The longest sheet: its pieces, and 1 wherever it is cut; a byte more; each measure above 4,095; lags of 0, whole, cut, and with a byte
- * after them. */
+/* The longest sheet: its pieces, and 1 wherever it is cut; a byte more; each measure above 4,095; a walkway of 0; lags of 0, whole, cut, and
+ * with a walkway and a byte after them. */
 static void longest_sheet(void)
 {
     uint8_t sheet[LONGEST_SHEET + 1];
     size_t at = 0;
-    sheet[at++] = 0x7F;
+    sheet[at++] = 0xFF;
     memcpy(sheet + at, MOST_3, 6);
     at += 6;
     sheet[at++] = 10;
@@ -296,11 +344,11 @@ static void longest_sheet(void)
     }
     memset(sheet + at, 0xFF, 2);
     at += 2;
-    memset(sheet + at, 0xFF, 90);
-    sheet[at + 90] = 0;
+    memset(sheet + at, 0xFF, 91);
+    sheet[at + 91] = 0;
     EXPECT("HALLPLAN_MAX_SHEET_BYTES", HALLPLAN_MAX_SHEET_BYTES, LONGEST_SHEET);
     EXPECT("HALLPLAN_MAX_MEASURE", HALLPLAN_MAX_MEASURE, 4095);
-    EXPECT("the longest sheet", (uint32_t)at + 90, LONGEST_SHEET);
+    EXPECT("the longest sheet", (uint32_t)at + 91, LONGEST_SHEET);
     EXPECT("the longest sheet", hallplan_pieces(sheet, LONGEST_SHEET), 10);
     EXPECT("a byte more", hallplan_pieces(sheet, LONGEST_SHEET + 1), HALLPLAN_REFUSED + 7);
     for (size_t len = 0; len < LONGEST_SHEET; len++) {
@@ -311,16 +359,24 @@ static void longest_sheet(void)
             one_too_large(sheet, start + 2 * axis);
         }
     }
+    sheet[LONGEST_SHEET - 1] = 0;
+    EXPECT("a walkway of 0", hallplan_pieces(sheet, LONGEST_SHEET), HALLPLAN_REFUSED + 3);
+    EXPECT("a walkway of 0 and a byte", hallplan_pieces(sheet, LONGEST_SHEET + 1), HALLPLAN_REFUSED + 3);
+    sheet[LONGEST_SHEET - 1] = 1;
+    EXPECT("a walkway of 1", hallplan_pieces(sheet, LONGEST_SHEET), 10);
     memset(sheet + at, 0, 90);
     for (size_t len = at; len <= LONGEST_SHEET + 1; len++) {
-        EXPECT("lags of 0", hallplan_pieces(sheet, len), HALLPLAN_REFUSED + (len < LONGEST_SHEET ? 1 : 11));
+        EXPECT("lags of 0", hallplan_pieces(sheet, len), HALLPLAN_REFUSED + (len < at + 90 ? 1 : 11));
     }
-    sheet[LONGEST_SHEET - 1] = 1;
+    sheet[LONGEST_SHEET - 2] = 1;
     EXPECT("the last lag alone", hallplan_pieces(sheet, LONGEST_SHEET), 10);
+    sheet[0] = 0x7F;
+    EXPECT("without the walkway", hallplan_pieces(sheet, LONGEST_SHEET - 1), 10);
+    EXPECT("a walkway without its bit", hallplan_pieces(sheet, LONGEST_SHEET), HALLPLAN_REFUSED + 7);
 }
 
 /* Pieces: the number of pieces in each row of the table, or the row's refusal; sheets for 5 and 6, which no row has; 10 pieces, the
- * most, and 11; yard numbers above 4,095; 1 wherever the printed example and the sheets with lags are cut. */
+ * most, and 11; yard numbers above 4,095; 1 wherever the printed example and the sheets with lags or a walkway are cut. */
 static void pieces(void)
 {
     EXPECT("HALLPLAN_SHEET_TOO_LARGE", HALLPLAN_SHEET_TOO_LARGE, 12);
@@ -346,8 +402,8 @@ static void pieces(void)
         EXPECT(sheets[k].name, hallplan_pieces((const uint8_t *)sheets[k].sheet, sheets[k].len), sheets[k].want);
     }
     for (size_t r = 0; r < sizeof rows / sizeof rows[0]; r++) {
-        int lags = rows[r].sheet[0] >> 6 & 1 && rows[r].answer < HALLPLAN_REFUSED;
-        for (size_t len = 0; (r == 1 || lags) && len < rows[r].len; len++) {
+        int later = sheet_of(&rows[r])[0] >= 0x40 && rows[r].answer < HALLPLAN_REFUSED;
+        for (size_t len = 0; (r == 1 || later) && len < rows[r].len; len++) {
             EXPECT("cut", hallplan_pieces(sheet_of(&rows[r]), len), HALLPLAN_REFUSED + 1);
         }
     }
@@ -419,6 +475,13 @@ static const struct finish_row finish_rows[] = {
     {"1x1x4095; 2x1x1", BYTES("\x0C" MOST "\x01\x01\x02\x00"), 1, 4095, HALLPLAN_NONE, {0}, {0}},
     {"1x1x4095; 1x1x255, 1x1x3840; order 0,1", BYTES(FILLED("\x00")), 2, 4095, HALLPLAN_PLACED, {0}, {0, 0, 0, 0, 0, 255}},
     {"1x1x4095; 1x1x255, 1x1x3841; order 0,1", BYTES(FILLED("\x01")), 2, 4095, HALLPLAN_NONE, {0}, {0}},
+    {"8x1x9; two of 4x1x1", BYTES(FOURS("\x0D", "\x08\x00\x09\x00")), 2, 1, HALLPLAN_PLACED, {2}, {0, 0, 0, 4, 0, 0}},
+    {"the same, walkway 1", BYTES(FOURS("\x8D", "\x08\x00\x09\x00") "\x01"), 2, 2, HALLPLAN_PLACED, {1, 2}, {0, 0, 0, 0, 0, 1}},
+    {"9x1x9; walkway 1", BYTES(FOURS("\x8D", "\x09\x00\x09\x00") "\x01"), 2, 1, HALLPLAN_PLACED, {2}, {0, 0, 0, 5, 0, 0}},
+    {"8x1x1; walkway 1", BYTES(FOURS("\x89", "\x08\x00") "\x01"), 2, 1, HALLPLAN_NONE, {1}, {0}},
+    {"2x2x5; two of 1x1x1; walkway 1", BYTES("\x8F\x02\x00\x02\x00\x05\x00" UNITS_2 "\x01"), 2, 2, HALLPLAN_PLACED, {1, 2}, {0, 0, 0, 0, 0, 1}},
+    {"3x1x4; three of 1x1x1; walkway 1", BYTES("\x8D\x03\x00\x04\x00" UNITS_3 "\x01"), 3, 2, HALLPLAN_PLACED, {3, 5}, {0, 0, 0, 2, 0, 0, 2, 0, 1}},
+    {"no pieces, 9 shifts, walkway 255", BYTES("\x84\x09\x00\xFF"), 0, 1, HALLPLAN_PLACED, {0}, {0}},
 };
 
 static struct finish_lent nothing_finished(void)
@@ -518,6 +581,7 @@ int main(void)
     small_hall_in_parts();
     checks();
     checks_with_lags();
+    checks_with_walkway();
     checks_far();
     pieces();
     longest_sheet();

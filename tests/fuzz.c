@@ -14,7 +14,7 @@
 #define GUARD 0xA5
 #define MOST_ALLOWANCE 200
 #define NUMBERS 13
-#define LONGEST_SHEET 351
+#define LONGEST_SHEET 352
 #define NO_LAG (HALLPLAN_REFUSED + 11)
 #define TOO_LARGE (HALLPLAN_REFUSED + 12)
 #define GREATEST_MEASURE 4095
@@ -114,12 +114,18 @@ static void put_lags(struct bytes *b, unsigned orders)
     }
 }
 
+/* A walkway: mostly small, now and then any, or 0. */
+static void put_walkway(struct bytes *b)
+{
+    put(b, below(12) == 0 ? 0 : below(3) ? 1 + below(3) : 1 + below(255));
+}
+
 /* A sheet that mostly reads, now and then one of the longest: the number of its pieces, and whether a measure is above the greatest. */
 static unsigned make_sheet(struct bytes *sheet, int *above)
 {
-    static const unsigned maps[] = {0x0F, 0x1F, 0x2F, 0x3F, 0x5F, 0x7F};
+    static const unsigned maps[] = {0x0F, 0x1F, 0x2F, 0x3F, 0x5F, 0x7F, 0x8F, 0x9F, 0xDF};
     int full = below(64) == 0;
-    unsigned map = full ? 0x7F : below(8) ? maps[below(6)] : below(128), pieces = map >> 3 & 1 ? full ? 10 : 1 + below(10) : 0;
+    unsigned map = full ? 0xFF : below(8) ? maps[below(9)] : below(256), pieces = map >> 3 & 1 ? full ? 10 : 1 + below(10) : 0;
     unsigned bound = 1 + below(6), orders = 0;
     sheet->len = 0;
     put(sheet, map);
@@ -141,6 +147,9 @@ static unsigned make_sheet(struct bytes *sheet, int *above)
     }
     if (map >> 6 & 1) {
         put_lags(sheet, orders);
+    }
+    if (map >> 7 & 1) {
+        put_walkway(sheet);
     }
     must(!full || sheet->len == LONGEST_SHEET, "the longest sheet");
     return pieces;
@@ -429,6 +438,31 @@ static void finish_case(const struct bytes *sheet, unsigned pieces)
     finish(sheet, &lent, below(below(2) ? 12 : MOST_ALLOWANCE + 1));
 }
 
+/* The sheet, which is whole and has a walkway, beside the same without it: 3 or an earlier fault where it is 0, else the same number; a plan that
+ * fits fits without it too; and where the sheet without it has none in a few steps, none is found with it. */
+static void without_walkway(const struct bytes *sheet, const struct bytes *plan, uint32_t checked)
+{
+    struct bytes without = *sheet;
+    without.at[0] ^= 0x80;
+    without.len--;
+    uint32_t plain = check(&without, plan);
+    if (plain > HALLPLAN_REFUSED && plain != HALLPLAN_REFUSED + 8) {
+        must(checked == plain, "an earlier fault than the walkway's");
+        return;
+    }
+    if (sheet->at[sheet->len - 1] == 0) {
+        must(checked == HALLPLAN_REFUSED + 3, "3 for a walkway of 0");
+        return;
+    }
+    must(plain <= HALLPLAN_YES ? checked <= plain : checked == plain, "a plan fits only with the walkway");
+    if (plain <= HALLPLAN_YES) {
+        uint8_t note[HALLPLAN_NOTE_BYTES] = {0}, again[HALLPLAN_NOTE_BYTES] = {0}, steps[HALLPLAN_STEP_BYTES], found[HALLPLAN_MAX_PLAN_BYTES];
+        uint32_t answer = hallplan_search(without.at, without.len, note, sizeof note, 50, steps, sizeof steps, found, plan->len);
+        uint32_t with = hallplan_search(sheet->at, sheet->len, again, sizeof again, 50, steps, sizeof steps, found, plan->len);
+        must(!(answer == HALLPLAN_NONE && with == HALLPLAN_PLACED), "placed only with the walkway");
+    }
+}
+
 static void one_case(void)
 {
     static struct bytes sheet;
@@ -446,6 +480,10 @@ static void one_case(void)
     make_plan(&lent.plan, pieces);
     uint32_t checked = check(&sheet, &lent.plan);
     must(!whole || (checked == TOO_LARGE) == above, "12 exactly where a measure is above 4,095");
+    /* orders without pieces are left out of the bytes, so that a walkway would be read as their count */
+    if (whole && sheet.at[0] >> 7 && (sheet.at[0] >> 3 & 3) != 2) {
+        without_walkway(&sheet, &lent.plan, checked);
+    }
     count_pieces(&sheet, &lent.plan, checked);
     make_note(&lent.note);
     make_random(&lent.steps, 8);

@@ -3,11 +3,12 @@ earliest finishes.
 
     python3 tests/make_vectors.py            writes both files
     python3 tests/make_vectors.py --check    says whether they are what it would write
-    python3 tests/make_vectors.py --before STDIN STDOUT    says which cases of an older pair of files are among those that it would write, in
-                                             their sequence and with their lines; each other one has to have a measure above 4,095
+    python3 tests/make_vectors.py --before STDIN STDOUT    says whether the cases of the pair of files from before request #105 are among
+                                             those that it would write, in their sequence and with their lines; only a first map byte
+                                             with bit 7 may have another line
 
-The expected lines come from tests/reference.py. The cases under "by hand" were worked out from document 01 and requests #101, #103 and
-#104: their lines stand here, and the reference has to agree with them.
+The expected lines come from tests/reference.py. The cases under "by hand" were worked out from document 01 and requests #101 and #103 to
+#105: their lines stand here, and the reference has to agree with them.
 
 A case is an op byte, the payload's length in 2 bytes, and the payload; numbers have the low byte first.
 
@@ -22,10 +23,10 @@ A case is an op byte, the payload's length in 2 bytes, and the payload; numbers 
     8 run         a sheet                                      what the program prints, and an empty line
     9 finish      instance, allowance (4)                      finish ANSWER LENGTH STEPS and ten positions, or refused ..
 
-An instance is 354 bytes: container (6), item count (8), ten items (6 each), precedence count (8), ninety
-precedences (3 each: u, v, lag), yard number (2). Positions are ten times x, y, t, 2 bytes each.
+An instance is 355 bytes: container (6), item count (8), ten items (6 each), precedence count (8), ninety
+precedences (3 each: u, v, lag), yard number (2), walkway (1). Positions are ten times x, y, t, 2 bytes each.
 A line `read` is WIDTH DEPTH SHIFTS items N and their measures, precedences M and for each U V, and `lag L` where L is above 0, yard
-NUMBER, rest zero or not zero: whether anything past the counts is other than 0.
+NUMBER, `walkway W` where W is above 0, rest zero or not zero: whether anything past the counts is other than 0.
 A write gets a room of that many bytes, all of them fill; its HEX is the room and the 4 fill bytes after it.
 The ANSWER of a finish is 0 spent, 1 placed, 2 none; its positions are x, y, t, ten times.
 """
@@ -39,7 +40,7 @@ READ, WRITE, RECORD, CHECK, CLEARANCE, REWRITE, VALID, RUN, FINISH = range(1, 10
 KINDS = ["", "read", "write", "record", "check", "clearance", "rewrite", "valid", "run", "finish"]
 GUARD = 4
 MOST_ROOM = 400
-MOST_STDIN = 1048576
+MOST_STDIN = 1572864
 MOST_PAYLOAD = 16384
 GREATEST = 2 ** 32 - 1
 ANSWERS = ["spent", "placed", "none"]
@@ -56,7 +57,7 @@ def order(entries):
     return (list(entries) + [0])[:3]
 
 
-def instance(container, items=(), precedences=(), yard=0):
+def instance(container, items=(), precedences=(), yard=0, walkway=0):
     """The instance with these entries, and 0 past them. A precedence is u, v or u, v, lag."""
     return {
         "container": list(container),
@@ -65,6 +66,7 @@ def instance(container, items=(), precedences=(), yard=0):
         "precedence_count": len(precedences),
         "precedences": [order(precedences[i] if i < len(precedences) else [0, 0]) for i in range(90)],
         "yard_number": yard,
+        "walkway": walkway,
     }
 
 
@@ -76,6 +78,7 @@ def copied(value):
         "precedence_count": value["precedence_count"],
         "precedences": [list(precedence) for precedence in value["precedences"]],
         "yard_number": value["yard_number"],
+        "walkway": value["walkway"],
     }
 
 
@@ -95,8 +98,8 @@ def instance_bytes(value):
     out += little(value["precedence_count"], 8)
     for u, v, lag in value["precedences"]:
         out += bytes([u, v, lag])
-    out += little(value["yard_number"], 2)
-    assert len(out) == 354
+    out += little(value["yard_number"], 2) + little(value["walkway"], 1)
+    assert len(out) == 355
     return out
 
 
@@ -127,7 +130,7 @@ def read_line(sheet):
     words += ["precedences", m]
     for u, v, lag in value["precedences"][:m]:
         words += [u, v] + (["lag", lag] if lag > 0 else [])
-    words += ["yard", value["yard_number"]]
+    words += ["yard", value["yard_number"]] + (["walkway", value["walkway"]] if value["walkway"] > 0 else [])
     rest = [entry for entries in value["items"][n:] + value["precedences"][m:] for entry in entries]
     words += ["rest", "not zero" if any(rest) else "zero"]
     return " ".join(str(word) for word in words)
@@ -164,7 +167,7 @@ def rewrite_line(sheet):
     value = reference.read(sheet)
     if is_refused(value):
         return refused(value)
-    answer = reference.write(value, 351)
+    answer = reference.write(value, 352)
     assert answer == sheet
     return "rewritten %d %s" % (len(answer), answer.hex())
 
@@ -247,9 +250,9 @@ READ_BY_HAND = [
     ("1D 02 00 02 00 02 01 02 00 00 01 01 00", "read 2 1 2 items 2 2 1 1 1 1 1 precedences 1 1 0 yard 0 rest zero"),
     # the map byte
     ("40", "refused 11 1"),
-    ("80", "refused 2 0"),
-    ("C0", "refused 2 0"),
-    ("FF", "refused 2 0"),
+    ("80", "refused 1 1"),
+    ("C0", "refused 11 1"),
+    ("FF", "refused 1 1"),
     ("41 02 00", "refused 11 3"),
     ("48 00", "refused 4 1"),
     # the container
@@ -391,7 +394,7 @@ def hand_read():
     add_read(LONGEST[:78] + b"\x5b" + LONGEST[79:], "refused 4 78")
     # long slices
     add_read(bytes(10000), "refused 7 1")
-    add_read(b"\xff" * 10000, "refused 2 0")
+    add_read(b"\xff" * 10000, "refused 12 1")
     add_read(LONGEST + bytes(739), "refused 7 261")
     add_read(EXAMPLE + b"\xff" * 987, "refused 7 13")
 
@@ -755,9 +758,9 @@ LAGS_BY_HAND = [
     ("78 02 00 00 01 00 01 05 00 03", "read 1 1 1 items 2 1 1 1 1 1 1 precedences 1 0 1 lag 3 yard 5 rest zero"),
     ("78 02 00 00 01 00 01 05 01 03", "read 1 1 1 items 2 1 1 1 1 1 1 precedences 1 0 1 lag 3 yard 261 rest zero"),
     ("78 02 00 00 01 00 01 05 00 03 00", "refused 7 10"),
-    # bit 7 has no meaning
-    ("C0 00", "refused 2 0"),
-    ("D8 02 00 00 01 00 01 01", "refused 2 0"),
+    # bit 7: the walkway comes after the lags
+    ("C0 00", "refused 11 1"),
+    ("D8 02 00 00 01 00 01 01", "refused 1 8"),
 ]
 
 
@@ -1066,8 +1069,8 @@ LIMIT_BY_HAND = [
     ("09 01 00 01 01 00 10", "refused 3 1"),
     ("08 02 01 01 00 01 00 10", "refused 3 3"),
     ("08 02 01 00 10 01 01 00", "refused 12 3"),
-    # 2
-    ("81 00 10", "refused 2 0"),
+    # before a walkway that is missing; 2
+    ("81 00 10", "refused 12 1"),
     ("09 00 10 01 08", "refused 12 1"),
     ("09 FF 0F 01 08", "refused 2 4"),
     ("08 01 09 00 10", "refused 2 2"),
@@ -1298,6 +1301,492 @@ def hand_limit_finish():
     spent(thirds, 2729 + 3 * 1365 + 3, 4094)
 
 
+# By hand: the walkway (request #105)
+
+EMPTY = "read 1 1 1 items 0 precedences 0"
+TWO_UNITS = " items 2 1 1 1 1 1 1 precedences"
+LONGEST_WITH_WALKWAY = b"\xff" + LONGEST_WITH_LAGS[1:] + b"\xff"
+FULL_WITH_WALKWAY = {**FULL_WITH_LAGS, "walkway": 255}
+# All fields: a hall of 3 x 4 x 5, pieces 2 x 1 x 1 and 1 x 1 x 3, order 0, 1, yard number 515, lag 6, walkway 7
+ALL_FIELDS = bytes.fromhex("FF 0300 0400 0500 02 01 0200 04 0300 01 0001 0302 06 07")
+
+WALKWAY_BY_HAND = [
+    # alone: missing, 0, the widths there are, and bytes after it
+    ("80", "refused 1 1"),
+    ("80 00", "refused 3 1"),
+    ("80 00 00", "refused 3 1"),
+    ("80 00 05", "refused 3 1"),
+    ("80 01", EMPTY + " yard 0 walkway 1 rest zero"),
+    ("80 02", EMPTY + " yard 0 walkway 2 rest zero"),
+    ("80 7F", EMPTY + " yard 0 walkway 127 rest zero"),
+    ("80 80", EMPTY + " yard 0 walkway 128 rest zero"),
+    ("80 FF", EMPTY + " yard 0 walkway 255 rest zero"),
+    ("80 01 00", "refused 7 2"),
+    ("80 05 01", "refused 7 2"),
+    ("80 FF FF FF", "refused 7 2"),
+    ("00 05", "refused 7 1"),
+    # after the hall: a measure of 0 or 1 gets 3 at its own place, and one above 4,095 gets 12, before it
+    ("81", "refused 1 1"),
+    ("81 02", "refused 1 2"),
+    ("81 02 00", "refused 1 3"),
+    ("81 02 00 00", "refused 3 3"),
+    ("81 02 00 05", "read 2 1 1 items 0 precedences 0 yard 0 walkway 5 rest zero"),
+    ("81 02 00 05 00", "refused 7 4"),
+    ("81 01 00 00", "refused 3 1"),
+    ("81 00 10 00", "refused 12 1"),
+    ("81 FF 0F 00", "refused 3 3"),
+    ("01 02 00 05", "refused 7 3"),
+    ("82 03 00 01", "read 1 3 1 items 0 precedences 0 yard 0 walkway 1 rest zero"),
+    ("84 04 00 09", "read 1 1 4 items 0 precedences 0 yard 0 walkway 9 rest zero"),
+    ("87 02 00 03 00 04 00", "refused 1 7"),
+    ("87 02 00 03 00 04 00 00", "refused 3 7"),
+    ("87 02 00 03 00 04 00 05", "read 2 3 4 items 0 precedences 0 yard 0 walkway 5 rest zero"),
+    # after the pieces; bit 7 of a piece's map still has no meaning
+    ("88", "refused 1 1"),
+    ("88 00", "refused 4 1"),
+    ("88 0B 05", "refused 4 1"),
+    ("88 01", "refused 1 2"),
+    ("88 01 00", "refused 1 3"),
+    ("88 01 00 00", "refused 3 3"),
+    ("88 01 00 01", "read 1 1 1 items 1 1 1 1 precedences 0 yard 0 walkway 1 rest zero"),
+    ("88 01 00 01 00", "refused 7 4"),
+    ("88 01 80 01", "refused 2 2"),
+    ("88 01 88 01", "refused 2 2"),
+    ("88 01 08 00", "refused 2 2"),
+    ("88 02 00 80 01", "refused 2 3"),
+    ("08 01 80", "refused 2 2"),
+    ("08 01 80 05", "refused 2 2"),
+    ("88 01 01 00 00 05", "refused 3 3"),
+    ("88 01 02 05 00 06", "read 1 1 1 items 1 1 5 1 precedences 0 yard 0 walkway 6 rest zero"),
+    # after the orders
+    ("90 00", "refused 4 1"),
+    ("90 01 00 01 05", "refused 5 2"),
+    ("98 02 00 00 01 00 01", "refused 1 7"),
+    ("98 02 00 00 01 00 01 00", "refused 3 7"),
+    ("98 02 00 00 01 00 01 05", "read 1 1 1" + TWO_UNITS + " 1 0 1 yard 0 walkway 5 rest zero"),
+    ("98 02 00 00 01 00 01 05 05", "refused 7 8"),
+    ("98 02 00 00 01 01 01 00", "refused 5 5"),
+    ("98 02 00 00 02 00 01 00 01 00", "refused 6 7"),
+    # after the yard number, whose own 0 comes first
+    ("A0", "refused 1 1"),
+    ("A0 05", "refused 1 2"),
+    ("A0 05 03", "refused 1 3"),
+    ("A0 00 00", "refused 3 1"),
+    ("A0 00 00 00", "refused 3 1"),
+    ("A0 05 00 00", "refused 3 3"),
+    ("A0 05 00 03", EMPTY + " yard 5 walkway 3 rest zero"),
+    ("A0 00 05 03", EMPTY + " yard 1280 walkway 3 rest zero"),
+    ("A0 05 00 03 00", "refused 7 4"),
+    ("B8 02 00 00 01 00 01 05 00 09", "read 1 1 1" + TWO_UNITS + " 1 0 1 yard 5 walkway 9 rest zero"),
+    ("B8 02 00 00 01 00 01 00 00 00", "refused 3 7"),
+    ("B8 02 00 00 01 00 01 05 00 00", "refused 3 9"),
+    # an empty lag field gets 11 before anything that follows it
+    ("C0", "refused 11 1"),
+    ("C0 00", "refused 11 1"),
+    ("C0 05", "refused 11 1"),
+    ("C0 05 05", "refused 11 1"),
+    ("C0 FF FF FF", "refused 11 1"),
+    ("C1 02 00", "refused 11 3"),
+    ("C1 02 00 05", "refused 11 3"),
+    ("C1 01 00 05", "refused 3 1"),
+    ("C8 01 00", "refused 11 3"),
+    ("C8 01 00 05", "refused 11 3"),
+    ("C8 01 80 05", "refused 2 2"),
+    ("E0 05", "refused 1 2"),
+    ("E0 00 00 05", "refused 3 1"),
+    ("E0 01 00", "refused 11 3"),
+    ("E0 01 00 00", "refused 11 3"),
+    ("E0 01 00 05", "refused 11 3"),
+    # one lag: a field of zeros is judged before the walkway is read
+    ("D8 02 00 00 01 00 01", "refused 1 7"),
+    ("D8 02 00 00 01 00 01 00", "refused 11 7"),
+    ("D8 02 00 00 01 00 01 00 00", "refused 11 7"),
+    ("D8 02 00 00 01 00 01 00 05", "refused 11 7"),
+    ("D8 02 00 00 01 00 01 03", "refused 1 8"),
+    ("D8 02 00 00 01 00 01 03 00", "refused 3 8"),
+    ("D8 02 00 00 01 00 01 03 00 00", "refused 3 8"),
+    ("D8 02 00 00 01 00 01 03 05", "read 1 1 1" + TWO_UNITS + " 1 0 1 lag 3 yard 0 walkway 5 rest zero"),
+    ("D8 02 00 00 01 00 01 05 03", "read 1 1 1" + TWO_UNITS + " 1 0 1 lag 5 yard 0 walkway 3 rest zero"),
+    ("D8 02 00 00 01 00 01 03 05 00", "refused 7 9"),
+    ("58 02 00 00 01 00 01 03 05", "refused 7 8"),
+    # two lags: what would be a walkway is the second
+    ("D8 02 00 00 02 00 01 01 00", "refused 1 9"),
+    ("D8 02 00 00 02 00 01 01 00 03", "refused 1 10"),
+    ("D8 02 00 00 02 00 01 01 00 03 05", "refused 1 11"),
+    ("D8 02 00 00 02 00 01 01 00 00 05", "refused 1 11"),
+    ("D8 02 00 00 02 00 01 01 00 00 00", "refused 11 9"),
+    ("D8 02 00 00 02 00 01 01 00 00 00 05", "refused 11 9"),
+    ("D8 02 00 00 02 00 01 01 00 03 05 00", "refused 3 11"),
+    ("D8 02 00 00 02 00 01 01 00 03 00 07", "read 1 1 1" + TWO_UNITS + " 2 0 1 lag 3 1 0 yard 0 walkway 7 rest zero"),
+    ("D8 02 00 00 02 00 01 01 00 00 03 07", "read 1 1 1" + TWO_UNITS + " 2 0 1 1 0 lag 3 yard 0 walkway 7 rest zero"),
+    # yard number, lag and walkway, in this sequence
+    ("F8 02 00 00 01 00 01 05 00 03", "refused 1 10"),
+    ("F8 02 00 00 01 00 01 05 00 03 00", "refused 3 10"),
+    ("F8 02 00 00 01 00 01 05 00 00 09", "refused 11 9"),
+    ("F8 02 00 00 01 00 01 00 00 00 00", "refused 3 7"),
+    ("F8 02 00 00 01 00 01 05 00 03 09", "read 1 1 1" + TWO_UNITS + " 1 0 1 lag 3 yard 5 walkway 9 rest zero"),
+    ("F8 02 00 00 01 00 01 05 00 03 09 09", "refused 7 11"),
+    ("FF", "refused 1 1"),
+]
+
+
+def hand_walkway_read():
+    for sheet, line in WALKWAY_BY_HAND:
+        add_read(bytes.fromhex(sheet), line)
+    # all fields: whole, cut at every length, with a byte more, with a last byte of 0, without each of the eight bits
+    sheet = ALL_FIELDS
+    whole = "read 3 4 5 items 2 2 1 1 1 1 3 precedences 1 0 1 lag 6 yard 515 walkway 7 rest zero"
+    add_read(sheet, whole)
+    add_rewrite(sheet, "rewritten %d %s" % (len(sheet), sheet.hex()))
+    for length in range(len(sheet)):
+        add_read(sheet[:length], "refused 1 %d" % length)
+    add_read(sheet + b"\7", "refused 7 %d" % len(sheet))
+    add_read(sheet[:-1] + b"\0", "refused 3 %d" % (len(sheet) - 1))
+    add_read(sheet[:-2] + b"\0\7", "refused 11 %d" % (len(sheet) - 2))
+    add_read(b"\x7f" + sheet[1:], "refused 7 %d" % (len(sheet) - 1))
+    add_read(b"\xbf" + sheet[1:], "refused 7 %d" % (len(sheet) - 1))
+    add_read(b"\xbf" + sheet[1:-2] + b"\7", whole.replace(" lag 6", ""))
+    add_read(b"\xdf" + sheet[1:-4] + sheet[-2:], whole.replace("yard 515", "yard 0"))
+    # without the bit of the orders their count is the yard number, 1, and the lag field that follows it is empty
+    add_read(b"\xef" + sheet[1:], "refused 11 %d" % (len(sheet) - 5))
+    # the longest sheet
+    sheet = LONGEST_WITH_WALKWAY
+    assert len(sheet) == 352
+    pairs = "".join(" %d %d lag %d" % (u, v, lag) for lag, (u, v) in enumerate(ALL_PAIRS, 1))
+    full = "read 4095 4095 4095 items 10" + " 4095" * 30 + " precedences 90"
+    add_read(sheet, full + pairs + " yard 65535 walkway 255 rest zero")
+    add_rewrite(sheet, "rewritten 352 " + sheet.hex())
+    add_read(sheet[:-1] + b"\1", full + pairs + " yard 65535 walkway 1 rest zero")
+    add_read(sheet[:-1] + b"\0", "refused 3 351")
+    add_read(sheet[:-1] + b"\0\0", "refused 3 351")
+    add_read(sheet + b"\0", "refused 7 352")
+    add_read(sheet + b"\xff", "refused 7 352")
+    add_read(sheet + bytes(1000), "refused 7 352")
+    for length in list(range(8)) + [79, 80, 258, 259, 260, 261, 262] + list(range(340, 352)):
+        add_read(sheet[:length], "refused 1 %d" % length)
+    add_read(b"\x7f" + sheet[1:], "refused 7 351")
+    add_read(sheet[:261] + bytes(90), "refused 11 261")
+    add_read(sheet[:261] + bytes(91), "refused 11 261")
+    add_read(sheet[:261] + bytes(90) + b"\xff", "refused 11 261")
+    # as long as the longest without: 261 bytes and the walkway
+    pairs = "".join(" %d %d" % pair for pair in ALL_PAIRS)
+    short = b"\xbf" + LONGEST[1:]
+    add_read(short, "refused 1 261")
+    add_read(short + b"\0", "refused 3 261")
+    add_read(short + b"\x80", full + pairs + " yard 65535 walkway 128 rest zero")
+    add_rewrite(short + b"\x80", "rewritten 262 " + short.hex() + "80")
+    add_read(short + b"\x80\0", "refused 7 262")
+    for k in (0, 9):
+        add_record(sheet, k, "record 0 0 07ff0fff0fff0f")
+    add_record(sheet, 10, "record 5 0")
+    add_record(sheet[:351], 0, "record 1 351")
+    add_record(sheet[:351] + b"\0", 9, "record 3 351")
+    add_record(sheet + b"\0", 9, "record 7 352")
+    add_record(ALL_FIELDS, 0, "record 0 0 010200")
+    add_record(ALL_FIELDS, 1, "record 0 0 040300")
+    add_record(ALL_FIELDS, 2, "record 5 0")
+    add_record(bytes.fromhex("88 01 00 01"), 0, "record 0 0 00")
+    add_record(bytes.fromhex("88 01 00 00"), 0, "record 3 3")
+    add_record(bytes.fromhex("88 01 00"), 0, "record 1 3")
+    add_record(bytes.fromhex("88 01 80 01"), 0, "record 2 2")
+    add_record(bytes.fromhex("C8 01 00 01"), 0, "record 11 3")
+    add_record(bytes.fromhex("80"), 0, "record 1 1")
+    add_record(bytes.fromhex("80 05"), 0, "record 5 0")
+    for sheet, line in (("80 01", "rewritten 2 8001"), ("80 00", "refused 3 1"), ("C0 05", "refused 11 1"), ("A0 05 00 03", "rewritten 4 a0050003")):
+        add_rewrite(bytes.fromhex(sheet), line)
+
+
+def hand_walkway_write():
+    # written exactly when it is above 0, last
+    empty = instance([1, 1, 1])
+    for walkway, text in ((1, "8001"), (127, "807f"), (128, "8080"), (255, "80ff")):
+        value = {**empty, "walkway": walkway}
+        add_write(value, 2, "written 2 " + text + filled(0))
+        add_write(value, 1, "refused 8 0 " + filled(1))
+        add_valid(value, "valid")
+    add_write({**empty, "walkway": 1}, 0, "refused 8 0 " + filled(0))
+    add_write({**empty, "walkway": 1}, 5, "written 2 8001" + filled(3))
+    add_write({**empty, "walkway": 1}, 5, "written 2 8001" + filled(3, "00"), fill=0)
+    add_write({**empty, "walkway": 0}, 1, "written 1 00" + filled(0))
+    add_write(instance([1, 1, 1], yard=515, walkway=4), 4, "written 4 a0030204" + filled(0))
+    add_write(instance([1, 1, 1], yard=515, walkway=4), 3, "refused 8 0 " + filled(3))
+    example = [2, 1, 2], [[2, 1, 1], [1, 1, 1]]
+    head = "0200020002010200000101" + "00"
+    for precedences, yard, walkway, text in (
+        ([(1, 0)], 0, 3, "9d" + head + "03"),
+        ([(1, 0, 5)], 0, 3, "dd" + head + "0503"),
+        ([(1, 0, 5)], 770, 3, "fd" + head + "02030503"),
+        ([(1, 0)], 770, 3, "bd" + head + "020303"),
+        ([(1, 0, 5)], 770, 0, "7d" + head + "020305"),
+    ):
+        value = instance(*example, precedences, yard, walkway)
+        length = len(text) // 2
+        add_write(value, length, "written %d " % length + text + filled(0))
+        add_write(value, length - 1, "refused 8 0 " + filled(length - 1))
+        add_write(value, length + 3, "written %d " % length + text + filled(3))
+        add_valid(value, "valid")
+    longest = LONGEST_WITH_WALKWAY.hex()
+    add_write(FULL_WITH_WALKWAY, 352, "written 352 " + longest + filled(0))
+    add_write(FULL_WITH_WALKWAY, 351, "refused 8 0 " + filled(351))
+    add_write(FULL_WITH_WALKWAY, 353, "written 352 " + longest + filled(1))
+    add_write(FULL_WITH_WALKWAY, 400, "written 352 " + longest + filled(48))
+    add_valid(FULL_WITH_WALKWAY, "valid")
+    # a walkway is no measure, and lags past the count do not stand beside it
+    past = instance([2, 1, 2], [[2, 1, 1], [1, 1, 1]], [(1, 0)], walkway=255)
+    past["items"][2:] = [[0, 4096, 65535] for _ in range(8)]
+    past["precedences"][1:] = [[0, 0, 255] for _ in range(89)]
+    add_write(past, 14, "written 14 9d" + head + "ff" + filled(0))
+    add_valid(past, "valid")
+    # 9, whatever the walkway
+    for number, value in enumerate(refused_values() + limit_values()):
+        if number % 9 == 0:
+            room, u, axis = (400, 0, 0) if number % 2 == 0 else (0, 65535, 3)
+            value = {**value, "walkway": [255, 1][number // 9 % 2]}
+            add_valid(value, "not valid")
+            add_write(value, room, "refused 9 0 " + filled(room))
+            add_check(value, packing(), "refused 9 0")
+            add_clearance(value, packing(), u, 0, axis, "refused 9 0")
+            add_finish(value, number, "refused 9 0")
+
+
+def hand_walkway_check():
+    def two(walkway, container, first, second, starts, line, precedences=()):
+        """Of the two in either sequence."""
+        add_check(instance(container, [first, second], precedences, walkway=walkway), packing(*starts), line)
+        if not precedences:
+            add_check(instance(container, [second, first], walkway=walkway), packing(*starts[::-1]), line)
+
+    # the first ends at 2 + start; on x and y the second starts at least the walkway after it, on t it may touch
+    cube, bar = [2, 2, 2], [3, 2, 2]
+    for walkway in (1, 3):
+        for axis in range(3):
+            need = walkway if axis < 2 else 0
+            for gap, line in ((need, "feasible"), (need + 1, "feasible"), (need - 1, "not feasible")):
+                other = [1, 1, 1]
+                other[axis] = 1 + 2 + gap
+                two(walkway, [9, 9, 9], cube, cube, ([1, 1, 1], other), line)
+    # less than the walkway on both, one less on each, and enough on one alone: either axis will do
+    for x, y, line in (
+        (2, 2, "not feasible"),
+        (4, 4, "not feasible"),
+        (4, 2, "not feasible"),
+        (2, 4, "not feasible"),
+        (5, 4, "feasible"),
+        (4, 5, "feasible"),
+        (5, 0, "feasible"),
+        (0, 5, "feasible"),
+        (5, 5, "feasible"),
+    ):
+        two(3, [9, 9, 9], cube, cube, ([0, 0, 0], [x, y, 0]), line)
+    # apart in time nothing is needed: in one place, touching, and closer than the walkway
+    for other, line in (
+        ([0, 0, 2], "feasible"),
+        ([0, 0, 7], "feasible"),
+        ([2, 0, 2], "feasible"),
+        ([1, 2, 2], "feasible"),
+        ([2, 2, 1], "not feasible"),
+        ([2, 0, 1], "not feasible"),
+        ([0, 4, 1], "not feasible"),
+        ([0, 5, 1], "feasible"),
+    ):
+        two(3, [9, 9, 9], cube, cube, ([0, 0, 0], other), line)
+    # nothing at the walls: one piece that fills the hall, and two with the passage between them alone
+    add_check(instance([4, 3, 2], [[4, 3, 2]], walkway=255), packing([0, 0, 0]), "feasible")
+    add_check(instance([4, 3, 2], [[4, 3, 2]], walkway=1), packing([0, 1, 0]), "not feasible")
+    add_check(instance([4, 3, 2], walkway=255), packing([9, 9, 9]), "feasible")
+    two(1, [9, 1, 1], [4, 1, 1], [4, 1, 1], ([0, 0, 0], [5, 0, 0]), "feasible")
+    two(1, [9, 1, 1], [4, 1, 1], [4, 1, 1], ([0, 0, 0], [4, 0, 0]), "not feasible")
+    two(1, [9, 1, 1], [4, 1, 1], [4, 1, 1], ([1, 0, 0], [5, 0, 0]), "not feasible")
+    two(1, [8, 1, 1], [4, 1, 1], [4, 1, 1], ([0, 0, 0], [4, 0, 0]), "not feasible")
+    two(1, [8, 1, 1], [4, 1, 1], [4, 1, 1], ([0, 0, 0], [5, 0, 0]), "not feasible")
+    two(0, [8, 1, 1], [4, 1, 1], [4, 1, 1], ([0, 0, 0], [4, 0, 0]), "feasible")
+    two(1, [8, 1, 2], [4, 1, 1], [4, 1, 1], ([0, 0, 0], [4, 0, 1]), "feasible")
+    two(2, [1, 8, 1], [1, 3, 1], [1, 3, 1], ([0, 0, 0], [0, 5, 0]), "feasible")
+    two(2, [1, 8, 1], [1, 3, 1], [1, 3, 1], ([0, 0, 0], [0, 4, 0]), "not feasible")
+    # other lengths than one another: 3 + 2 and 2 + 2
+    two(2, [9, 9, 9], bar, cube, ([0, 0, 0], [5, 0, 0]), "feasible")
+    two(2, [9, 9, 9], bar, cube, ([0, 0, 0], [4, 0, 0]), "not feasible")
+    two(2, [9, 9, 9], bar, cube, ([4, 0, 0], [0, 0, 0]), "feasible")
+    two(2, [9, 9, 9], bar, cube, ([3, 0, 0], [0, 0, 0]), "not feasible")
+    # 128 and 255: 1 + 128 and 1 + 255
+    for axis in (0, 1):
+        for walkway, start, line in ((128, 129, "feasible"), (128, 128, "not feasible"), (255, 256, "feasible"), (255, 255, "not feasible")):
+            other, container = [0, 0, 0], [1, 1, 1]
+            other[axis], container[axis] = start, 300
+            two(walkway, container, [1, 1, 1], [1, 1, 1], ([0, 0, 0], other), line)
+    # 1,920 + 255 + 1,920 = 4,095; and starts near 65,535, where sums are above it and everything is outside
+    two(255, [4095, 1, 1], [1920, 1, 1], [1920, 1, 1], ([0, 0, 0], [2175, 0, 0]), "feasible")
+    two(255, [4095, 1, 1], [1920, 1, 1], [1920, 1, 1], ([0, 0, 0], [2174, 0, 0]), "not feasible")
+    two(255, [4095, 1, 1], [1920, 1, 1], [1920, 1, 1], ([1, 0, 0], [2175, 0, 0]), "not feasible")
+    for first, second in ((65535, 0), (65281, 1), (65280, 65535), (65024, 0)):
+        two(255, [4095, 4095, 4095], [256, 1, 1], [1, 1, 1], ([first, 0, 0], [second, 0, 0]), "not feasible")
+    # with orders and lags: they are about time, the walkway is about the floor
+    order = [(0, 1, 2)]
+    two(3, [9, 9, 9], cube, cube, ([0, 0, 0], [0, 0, 4]), "feasible", order)
+    two(3, [9, 9, 9], cube, cube, ([0, 0, 0], [0, 0, 3]), "not feasible", order)
+    two(3, [9, 9, 9], cube, cube, ([0, 0, 0], [5, 0, 3]), "not feasible", order)
+    two(3, [9, 9, 9], cube, cube, ([0, 0, 0], [5, 0, 4]), "feasible", order)
+    # two of three stand closer than the walkway: those in different shifts may
+    three = instance([5, 1, 2], [[1, 1, 1], [1, 1, 1], [1, 1, 2]], walkway=1)
+    for starts, line in (
+        (([0, 0, 0], [1, 0, 1], [3, 0, 0]), "feasible"),
+        (([0, 0, 0], [2, 0, 1], [4, 0, 0]), "feasible"),
+        (([0, 0, 0], [2, 0, 1], [3, 0, 0]), "not feasible"),
+        (([0, 0, 0], [0, 0, 1], [1, 0, 0]), "not feasible"),
+        (([0, 0, 0], [2, 0, 0], [4, 0, 0]), "feasible"),
+        (([0, 0, 0], [1, 0, 0], [3, 0, 0]), "not feasible"),
+    ):
+        add_check(three, packing(*starts), line)
+    # ten in a line of 10 + 9; positions past the count are ignored
+    for axis in (0, 1):
+        container = [1, 1, 1]
+        container[axis] = 19
+        ten = instance(container, [[1, 1, 1]] * 10, walkway=1)
+        row = [[0, 0, 0] for _ in range(10)]
+        for piece in range(10):
+            row[piece][axis] = 2 * piece
+        add_check(ten, packing(*row), "feasible")
+        add_check(ten, packing(*row[::-1]), "feasible")
+        add_check({**ten, "walkway": 2}, packing(*row), "not feasible")
+        row[5][axis] = 9
+        add_check(ten, packing(*row), "not feasible")
+        add_check({**ten, "item_count": 5}, packing(*row), "feasible")
+        add_check({**ten, "item_count": 6}, packing(*row), "not feasible")
+
+
+def hand_walkway_clearance():
+    # the plain distance of starts and ends, as without one
+    for walkway in (1, 255):
+        value = instance([9, 9, 9], [[3, 3, 3], [5, 5, 5]], walkway=walkway)
+        for axis in range(3):
+            for start, line in ((6, "3"), (4, "1"), (3, "0"), (2, "-1"), (0, "-3")):
+                other = [7, 7, 7]
+                other[axis] = start
+                add_clearance(value, packing([0, 0, 0], other), axis % 2, 1 - axis % 2, axis, "clearance " + line)
+            add_clearance(value, packing([0, 0, 0], [7, 7, 7]), 1, 1, axis, "clearance -5")
+        add_clearance(value, packing(), 0, 2, 0, "refused 5 0")
+        add_clearance(value, packing(), 0, 1, 3, "refused 8 0")
+    far = instance([9, 9, 9], [[1, 1, 1], [4095] * 3], walkway=255)
+    add_clearance(far, packing([0, 0, 0], [65535] * 3), 0, 1, 0, "clearance 65534")
+    add_clearance(far, packing([65535] * 3, [0, 0, 0]), 1, 0, 1, "clearance 61440")
+
+
+def hand_walkway_run():
+    units = [[1, 1, 1]] * 10
+
+    def row(walkway, container, items, precedences, first, *starts):
+        text = first + "\n" + "".join("%d %d %d %d\n" % (piece, *start) for piece, start in enumerate(starts))
+        add_run(reference.encode(instance(container, items, precedences, walkway=walkway)), text)
+
+    for sheet, line in (
+        ("80", "refused 1 1"),
+        ("80 00", "refused 3 1"),
+        ("80 05", "placed 1"),
+        ("80 05 05", "refused 7 2"),
+        ("C0 05", "refused 11 1"),
+        ("FF", "refused 1 1"),
+        ("9D 02 00 02 00 02 01 02 00 00 01 01 00", "refused 1 13"),
+        ("9D 02 00 02 00 02 01 02 00 00 01 01 00 00", "refused 3 13"),
+    ):
+        add_run(bytes.fromhex(sheet), line + "\n")
+    add_run(bytes.fromhex("9D 02 00 02 00 02 01 02 00 00 01 01 00 FF"), "placed 1\n0 0 0 1\n1 0 0 0\n")
+    add_run(LONGEST_WITH_WALKWAY, "none 1\n")
+    # compare/src/table.rs says how these were worked out
+    four = [[4, 1, 1]] * 2
+    row(0, [8, 1, 1], four, [], "placed 2", [0, 0, 0], [4, 0, 0])
+    row(1, [8, 1, 1], four, [], "none 1")
+    row(1, [9, 1, 1], four, [], "placed 2", [0, 0, 0], [5, 0, 0])
+    row(2, [9, 1, 1], four, [], "none 1")
+    row(1, [8, 1, 2], four, [], "placed 2", [0, 0, 0], [0, 0, 1])
+    row(1, [8, 1, 2], four, [(1, 0)], "placed 1", [0, 0, 1], [0, 0, 0])
+    row(1, [8, 1, 1], four, [(1, 0)], "none 1")
+    row(1, [1, 8, 1], [[1, 4, 1]] * 2, [], "none 1")
+    row(1, [1, 9, 1], [[1, 4, 1]] * 2, [], "placed 2", [0, 0, 0], [0, 5, 0])
+    row(2, [2, 2, 2], units[:2], [], "placed 2", [0, 0, 0], [0, 0, 1])
+    row(1, [3, 3, 1], units[:2], [], "placed 3", [0, 0, 0], [2, 0, 0])
+    row(1, [2, 3, 1], units[:2], [], "placed 2", [0, 0, 0], [0, 2, 0])
+    row(1, [2, 1, 1], units[:3], [], "none 1")
+    row(1, [5, 1, 1], units[:3], [], "placed 4", [0, 0, 0], [2, 0, 0], [4, 0, 0])
+    row(1, [4, 1, 1], units[:3], [], "none 3")
+    row(1, [1, 5, 1], units[:3], [], "placed 4", [0, 0, 0], [0, 2, 0], [0, 4, 0])
+    row(1, [1, 4, 1], units[:3], [], "none 3")
+    row(2, [7, 1, 1], units[:3], [], "placed 4", [0, 0, 0], [3, 0, 0], [6, 0, 0])
+    row(2, [6, 1, 1], units[:3], [], "none 3")
+    # ten in a row of 10 + 9: each pair takes a turn, 45 of them, and the next step says placed
+    row(1, [19, 1, 1], units, [], "placed 46", *[[2 * piece, 0, 0] for piece in range(10)])
+    row(1, [1, 19, 1], units, [], "placed 46", *[[0, 2 * piece, 0] for piece in range(10)])
+    # nothing at the walls
+    row(255, [4, 3, 2], [[4, 3, 2]], [], "placed 1", [0, 0, 0])
+    row(255, [4, 3, 2], [[5, 3, 2]], [], "none 1")
+    # 128 and 255: 1 + 128 + 1 and 1 + 255 + 1; and 1,920 + 255 + 1,920 = 4,095
+    row(128, [130, 1, 1], units[:2], [], "placed 2", [0, 0, 0], [129, 0, 0])
+    row(128, [129, 1, 1], units[:2], [], "none 1")
+    row(255, [257, 1, 1], units[:2], [], "placed 2", [0, 0, 0], [256, 0, 0])
+    row(255, [256, 1, 1], units[:2], [], "none 1")
+    row(255, [1, 257, 1], units[:2], [], "placed 2", [0, 0, 0], [0, 256, 0])
+    row(255, [4095, 1, 1], [[1920, 1, 1]] * 2, [], "placed 2", [0, 0, 0], [2175, 0, 0])
+    row(255, [4095, 1, 1], [[1921, 1, 1], [1920, 1, 1]], [], "none 1")
+    # ten of 180 and 9 walkways of 255: 1,800 + 2,295 = 4,095; ten of 4,095 take 43,245
+    row(255, [4095, 1, 1], [[180, 1, 1]] * 10, [], "placed 46", *[[435 * piece, 0, 0] for piece in range(10)])
+    row(255, [4095] * 3, [[4095] * 3] * 10, [], "none 1")
+    # lags and a walkway
+    row(1, [8, 1, 4], four, [(0, 1, 2)], "placed 1", [0, 0, 0], [0, 0, 3])
+    row(1, [8, 1, 3], four, [(0, 1, 2)], "none 1")
+    row(1, [3, 1, 3], units[:3], [(0, 1, 1)], "placed 4", [0, 0, 0], [0, 0, 2], [2, 0, 0])
+    row(1, [2, 1, 3], units[:3], [(0, 1, 1)], "placed 1", [0, 0, 0], [0, 0, 2], [0, 0, 1])
+    row(1, [5, 1, 4], [[1, 1, 1], [1, 1, 4], [1, 1, 1]], [(0, 2, 2)], "placed 3", [0, 0, 0], [2, 0, 0], [4, 0, 3])
+    row(9, [1, 1, 7], units[:3], [(0, 1, 1), (0, 2, 5), (1, 2, 0)], "placed 1", [0, 0, 0], [0, 0, 2], [0, 0, 6])
+    row(9, [99, 99, 99], units[:3], [(0, 1, 1), (1, 2, 0), (2, 0, 0)], "none 1")
+
+
+def hand_walkway_finish():
+    units = [[1, 1, 1]] * 3
+
+    def spent(value, budgets):
+        for allowance, length in budgets:
+            add_finish(value, allowance, "finish 0 %d %d" % (length, allowance) + " 0" * 30)
+
+    def decided(value, answer, length, steps, *starts):
+        line = "finish %d %d %d" % (answer, length, steps)
+        line += "".join(" %d %d %d" % tuple(start) for start in packing(*starts))
+        for allowance in (steps, GREATEST):
+            add_finish(value, allowance, line)
+
+    # no pieces, and one that fills the floor: nothing is between pieces
+    decided(instance([1, 1, 9], walkway=255), 1, 1, 1)
+    decided(instance([3, 3, 9], [[3, 3, 2]], walkway=255), 1, 2, 2)
+    # two of 4 on a floor of 8: without a walkway beside one another in 2 shifts, with one after another in 4, each shorter length a step
+    four = [[4, 1, 2]] * 2
+    spent(instance([8, 1, 9], four), [(0, 0), (1, 1), (2, 1)])
+    decided(instance([8, 1, 9], four), 1, 2, 3, [0, 0, 0], [4, 0, 0])
+    with_1 = instance([8, 1, 9], four, walkway=1)
+    spent(with_1, [(0, 0), (1, 1), (3, 3), (4, 3)])
+    decided(with_1, 1, 4, 5, [0, 0, 0], [0, 0, 2])
+    decided(instance([9, 1, 9], four, walkway=1), 1, 2, 3, [0, 0, 0], [5, 0, 0])
+    spent(instance([8, 1, 3], four, walkway=1), [(2, 2)])
+    decided(instance([8, 1, 3], four, walkway=1), 2, 0, 3)
+    # 2 x 2, two units: one shift, and with a walkway two: the step that says none, then the turn on t and the step that says placed
+    decided(instance([2, 2, 5], units[:2], walkway=1), 1, 2, 3, [0, 0, 0], [0, 0, 1])
+    # 3 x 1, three units: as 2 x 1 without a walkway, 3 and 5 steps
+    spent(instance([3, 1, 4], units, walkway=1), [(2, 0), (3, 1), (7, 1)])
+    decided(instance([3, 1, 4], units, walkway=1), 1, 2, 8, [0, 0, 0], [2, 0, 0], [2, 0, 1])
+    decided(instance([3, 1, 1], units, walkway=1), 2, 0, 3)
+    # 2 x 1, three units: with a walkway one after another, as 1 x 1: 1, 3 and 4 steps
+    decided(instance([2, 1, 9], units, walkway=1), 1, 3, 8, [0, 0, 0], [0, 0, 1], [0, 0, 2])
+    # with a lag: 1 + 2 + 1 shifts
+    lag = instance([8, 1, 9], [[4, 1, 1]] * 2, [(0, 1, 2)], walkway=1)
+    spent(lag, [(3, 3)])
+    decided(lag, 1, 4, 4, [0, 0, 0], [0, 0, 3])
+    # 255: on 257 modules two stand side by side
+    decided(instance([257, 1, 9], units[:2], walkway=255), 1, 1, 2, [0, 0, 0], [256, 0, 0])
+    decided(instance([256, 1, 9], units[:2], walkway=255), 1, 2, 3, [0, 0, 0], [0, 0, 1])
+    # what is past the counts is no part of it
+    past = instance([8, 1, 9], four, [], 77, 1)
+    past["items"][2:] = [[0, 7, 65535] for _ in range(8)]
+    past["precedences"] = [[0, 1, 255] for _ in range(90)]
+    decided(past, 1, 4, 5, [0, 0, 0], [0, 0, 2])
+
+
 # Made: from a fixed seed
 
 
@@ -1337,7 +1826,10 @@ def lowered_value(value):
 
 
 def lowered(sheet):
-    """The sheet with the same done to the measures that reading meets; all other bytes as they are, and with them the other faults."""
+    """The sheet with the same done to the measures that reading meets; all other bytes as they are, and with them the other faults. A sheet with
+    bit 7 of the first byte is left as it was: before request #105 reading went no further, and met no measure."""
+    if sheet[:1] >= b"\x80":
+        return sheet
     answer = reference.read(sheet)
     while is_refused(answer) and answer[0] == 12:
         place = answer[1]
@@ -1637,6 +2129,103 @@ def made_limits(numbers):
         add_finish(value, numbers.below(4))
 
 
+def some_walkway(numbers):
+    return numbers.one_of([1, 1, 2, 3, 127, 128, 255, numbers.between(1, 255)])
+
+
+def with_walkway(numbers, value):
+    """The value with measures up to 4,095, a walkway, and lags in half the cases."""
+    value = lowered_value(value)
+    if numbers.below(2) == 0:
+        with_lags(numbers, value)
+    value["walkway"] = some_walkway(numbers)
+    return value
+
+
+def made_walkway_reads(numbers):
+    for _ in range(45):
+        sheet = reference.encode(with_walkway(numbers, some_instance(numbers)))
+        add_read(sheet)
+        add_rewrite(sheet)
+        add_record(sheet, numbers.below(11))
+        add_read(damaged(numbers, sheet))
+        add_read(damaged(numbers, damaged(numbers, sheet)))
+        add_read(sheet[:-1] + bytes(1 + numbers.below(2)))
+        add_read(numbers.one_of([sheet[:-1], sheet + bytes([numbers.below(3)]), bytes([sheet[0] ^ 128]) + sheet[1:], bytes([sheet[0] ^ 64]) + sheet[1:]]))
+    for _ in range(40):
+        add_read(bytes([numbers.between(128, 255)]) + bytes(numbers.one_of([0, 1, 2, 3, 5, 8, 255]) for _ in range(numbers.below(12))))
+
+
+def made_walkway_writes(numbers):
+    for _ in range(30):
+        value = with_anything_past(numbers, with_walkway(numbers, some_instance(numbers)))
+        value["walkway"] = numbers.one_of([0, value["walkway"], value["walkway"], value["walkway"]])
+        length = len(reference.encode(value))
+        add_write(value, numbers.one_of([length - 1, length, length, length + 1, 352, MOST_ROOM]), fill=numbers.below(256))
+        fault = copied(value)
+        fault["precedence_count"] = numbers.below(min(90, value["precedence_count"] + 2) + 1)
+        fault["item_count"] = numbers.one_of([value["item_count"], value["item_count"], numbers.below(13)])
+        add_valid(fault)
+        add_write(fault, 352, fill=numbers.below(256))
+
+
+def small_with_walkway(numbers, most):
+    """A small instance with a walkway, on a floor that has a passage or two to spare; in half the cases with lags."""
+    value = small_with_lags(numbers, most)
+    if numbers.below(2) == 0:
+        value = instance(value["container"], value["items"][: value["item_count"]])
+        value["container"][2] = numbers.one_of([1, 2, 2, 3])
+    walkway = numbers.one_of([1, 1, 2, 3, 200, 255])
+    value["walkway"] = walkway
+    for axis in (0, 1):
+        value["container"][axis] += numbers.one_of([0, walkway - 1, walkway, walkway, walkway + 1, 2 * walkway])
+    return value
+
+
+def made_walkway_checks(numbers):
+    for _ in range(36):
+        value = small_with_walkway(numbers, 5)
+        state, _, _, positions = reference.run(value, 100)
+        if state != reference.PLACED:
+            positions = packed(numbers, value, 60)
+        for i in range(value["item_count"], 10):
+            positions[i] = [numbers.below(65536) for _ in range(3)]
+        add_check(value, positions)
+        # another piece just the walkway after one, or one module less, in its shift
+        u, v = numbers.below(value["item_count"]), numbers.below(value["item_count"])
+        axis = numbers.below(2)
+        positions[v] = list(positions[u])
+        positions[v][axis] += value["items"][u][axis] + value["walkway"] - numbers.below(2)
+        add_check(value, positions)
+    for _ in range(10):
+        value = with_walkway(numbers, some_instance(numbers))
+        positions = packing(*[[some_number(numbers) - 1 for _ in range(3)] for _ in range(10)])
+        add_clearance(value, positions, numbers.below(11), numbers.below(11), numbers.below(4))
+
+
+def made_walkway_runs(numbers):
+    made = 0
+    while made < 70:
+        value = small_with_walkway(numbers, 5)
+        if reference.run(value, 60)[0] != reference.OPEN:
+            add_run(reference.encode(value))
+            made += 1
+
+
+def made_walkway_finishes(numbers):
+    made = 0
+    while made < 16:
+        value = small_with_walkway(numbers, 5)
+        value["container"][2] = max(1, value["container"][2] + numbers.one_of([-1, 0, 0, 1, 5]))
+        sums = sums_of_lengths(value, 200)
+        if sums is not None and len(sums) > 1:
+            made += 1
+            with_anything_past(numbers, value)
+            between, total = numbers.one_of(sums[:-1]), sums[-1]
+            for allowance in sorted({between - 1, between, total - 1, total, numbers.one_of([total + 1, GREATEST])}):
+                add_finish(value, allowance)
+
+
 # Beside an older pair of files
 
 
@@ -1655,32 +2244,47 @@ def cases_in(stdin, stdout):
     return found
 
 
-def is_above(op, payload):
-    """Whether reading meets a measure above 4,095, or a value has one up to its count."""
-    if op in (READ, REWRITE, RUN):
-        answer = reference.read(payload)
-        return is_refused(answer) and answer[0] == 12
-    if op == RECORD:
-        return reference.record(payload[8:], 0)[1][0] == 12
-    words = [int.from_bytes(payload[at : at + 2], "little") for at in range(0, 74, 2)]
-    count = int.from_bytes(payload[6:14], "little")
-    return max(words[:3] + words[7 : 7 + 3 * min(count, 10)]) > reference.MAX_MEASURE
+# How many bytes of an instance were there before the walkway, which is after them.
+BEFORE = 354
+
+
+def as_now(op, payload):
+    """The payload of an older case: an instance has walkway 0, all else is as it was."""
+    return payload if op in (READ, RECORD, REWRITE, RUN) else payload[:BEFORE] + b"\0" + payload[BEFORE:]
+
+
+def has_bit_7(op, payload):
+    """Whether the case is a sheet whose first map byte has bit 7."""
+    sheet = payload[8:] if op == RECORD else payload
+    return op in (READ, RECORD, REWRITE, RUN) and sheet[:1] >= b"\x80"
+
+
+def place_of(case, entries, at):
+    """The place after the next of the entries that is the case."""
+    try:
+        return entries.index(case, at) + 1
+    except ValueError:
+        sys.exit("not among the cases any more, with its line: %s %s %s" % (KINDS[case[0]], case[1].hex(), case[2:]))
 
 
 def compare_with(older):
-    """Counts what is left of the older cases, and what is new."""
+    """Counts what is left of the older cases, what has another line, and what is new."""
     newer = list(zip(*zip(*cases), lines))
-    kept, gone, at = 0, 0, 0
-    for case in older:
-        if is_above(*case[:2]):
-            gone += 1
-            continue
-        try:
-            at = newer.index(case, at) + 1
-        except ValueError:
-            sys.exit("not among the cases any more, with its line: %s %s %s" % (KINDS[case[0]], case[1].hex(), case[2]))
-        kept += 1
-    print("before %d, of these kept %d, gone for a measure above 4,095 %d; new or in their place %d" % (len(older), kept, gone, len(cases) - kept))
+    inputs = [case[:2] for case in newer]
+    at, moved = 0, {}
+    for op, payload, line in older:
+        if has_bit_7(op, payload):
+            at = place_of((op, payload), inputs, at)
+            if line.split() not in (["refused", "2", "0"], ["record", "2", "0"]) or newer[at - 1][2] == line:
+                sys.exit("bit 7: %s %s was %s and is %s" % (KINDS[op], payload.hex(), line, newer[at - 1][2]))
+            now = newer[at - 1][2].split()
+            now = now[0] if now[0] == "read" else " ".join(now[:2])
+            moved[now] = moved.get(now, 0) + 1
+        else:
+            at = place_of((op, as_now(op, payload), line), newer, at)
+    count = sum(moved.values())
+    print("before %d, of these with their lines %d, with bit 7 and another line %d; new %d" % (len(older), len(older) - count, count, len(cases) - len(older)))
+    print("in place of 2 0: " + ", ".join("%s %d" % pair for pair in sorted(moved.items())))
 
 
 # All of it
@@ -1702,6 +2306,12 @@ def main():
     hand_limit_check()
     hand_limit_run()
     hand_limit_finish()
+    hand_walkway_read()
+    hand_walkway_write()
+    hand_walkway_check()
+    hand_walkway_clearance()
+    hand_walkway_run()
+    hand_walkway_finish()
     by_hand = len(cases)
     made_reads(Numbers(1))
     made_records(Numbers(2))
@@ -1714,6 +2324,11 @@ def main():
     made_lag_runs(Numbers(9))
     made_finishes(Numbers(10))
     made_limits(Numbers(11))
+    made_walkway_reads(Numbers(12))
+    made_walkway_writes(Numbers(13))
+    made_walkway_checks(Numbers(14))
+    made_walkway_runs(Numbers(15))
+    made_walkway_finishes(Numbers(16))
     for number in (1, 2, 3, 4, 5, 6, 7, 11, 12):
         places = {line.split()[2] for line in lines if line.startswith("refused %d " % number)}
         assert len(places) >= 2, number

@@ -1,5 +1,5 @@
 """Instances, packings, item records, clearance, the search and the earliest finish, written plainly from document 01 and requests #101 to
-#104 of document 02 alone.
+#105 of document 02 alone.
 
 It shares nothing with the crates. tests/make_vectors.py takes the expected lines of crates/test_vectors from here.
 
@@ -10,6 +10,7 @@ An instance is a dict:
     precedence_count  a number
     precedences       ninety of [u, v, lag]
     yard_number       a number
+    walkway           a number
 Entries past the counts are no part of it. A packing is ten of [x, y, t]. Axes are x 0, y 1, t 2.
 A refusal is a tuple (number, place).
 """
@@ -83,9 +84,10 @@ def read_or_raise(sheet):
         "precedence_count": 0,
         "precedences": [[0, 0, 0] for _ in range(MAX_PRECEDENCES)],
         "yard_number": 0,
+        "walkway": 0,
     }
     records = []
-    standing = map_at(sheet, 0, 7)
+    standing = map_at(sheet, 0, 8)
     value["container"], place = measures_at(sheet, 1, standing)
     if 3 in standing:
         count = count_at(sheet, place, MAX_ITEMS)
@@ -126,6 +128,13 @@ def read_or_raise(sheet):
             place += 1
         if not any(sheet[field:place]):
             raise Refused(11, field)
+    if 7 in standing:
+        # #105: "Sheet bit 7 holds its width, one byte, 1 to 255, last on the sheet"; "3 covers a written width of 0"
+        walkway = byte_at(sheet, place)
+        if walkway == 0:
+            raise Refused(3, place)
+        value["walkway"] = walkway
+        place += 1
     if place < len(sheet):
         raise Refused(7, place)
     return value, records
@@ -211,6 +220,9 @@ def encode(value):
     if any(lags):
         bits += 64
         fields += lags
+    if value["walkway"] > 0:
+        bits += 128
+        fields += [value["walkway"]]
     return bytes([bits] + fields)
 
 
@@ -231,6 +243,11 @@ def end(value, positions, item, axis):
     return positions[item][axis] + value["items"][item][axis]
 
 
+def passage(value, axis):
+    """#105: "Apart on x or y then means that one ends at least the walkway before the other's start"; nothing of the kind on t."""
+    return value["walkway"] if axis in (0, 1) else 0
+
+
 def feasible(value, positions):
     items = range(value["item_count"])
     for axis in (0, 1, 2):
@@ -242,9 +259,9 @@ def feasible(value, positions):
             if u != v:
                 apart = False
                 for axis in (0, 1, 2):
-                    if end(value, positions, u, axis) <= positions[v][axis]:
+                    if end(value, positions, u, axis) + passage(value, axis) <= positions[v][axis]:
                         apart = True
-                    if end(value, positions, v, axis) <= positions[u][axis]:
+                    if end(value, positions, v, axis) + passage(value, axis) <= positions[u][axis]:
                         apart = True
                 if not apart:
                     return False
@@ -343,7 +360,8 @@ def lag_between(value, axis, u, v):
 
 
 def chain_total(value, axis, row):
-    total = sum(value["items"][piece][axis] for piece in row)
+    # #105: "On x and y a chain counts a walkway between neighbours"
+    total = sum(value["items"][piece][axis] for piece in row) + (len(row) - 1) * passage(value, axis)
     return total + sum(lag_between(value, axis, u, v) for u, v in zip(row, row[1:]))
 
 
@@ -370,8 +388,9 @@ def rule_5(value, struck, pieces):
     for axis in (0, 1, 2):
         ending, starting = greatest_totals(value, struck, axis, pieces)
         for u, v in rows_of(pieces, 2):
-            # #101: "rule 5's sum adds it between u and v"
-            if ending[u] + lag_between(value, axis, u, v) + starting[v] > value["container"][axis]:
+            # #101: "rule 5's sum adds it between u and v"; #105: "and rule 5's sum one between u and v"
+            between = lag_between(value, axis, u, v) + passage(value, axis)
+            if ending[u] + between + starting[v] > value["container"][axis]:
                 yield axis, (u, v)
 
 

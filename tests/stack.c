@@ -104,7 +104,7 @@ static void read_sheet(const char *hex)
 int main(void)
 {
     static const char *const words[] = {"spent", "placed", "none"};
-    char line[1024], name[64], hex[704], word[16];
+    char line[1024], name[64], hex[2 * HALLPLAN_MAX_SHEET_BYTES + 1], word[16];
     unsigned count;
     int wrong = 0, sheets = 0;
     size_t most = 0, most_finish = 0;
@@ -114,7 +114,7 @@ int main(void)
         return 2;
     }
     while (fgets(line, sizeof line, stdin) != NULL) {
-        if (line[0] == '#' || sscanf(line, "%63s %703s %15s %u", name, hex, word, &count) != 4) {
+        if (line[0] == '#' || sscanf(line, "%63s %704s %15s %u", name, hex, word, &count) != 4) {
             continue;
         }
         read_sheet(hex);

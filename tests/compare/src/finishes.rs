@@ -64,6 +64,27 @@ const ROWS: &[Row] = &[
     ([1, 1, 4095], &[[1, 1, 1921], [1, 1, 1920]], &[(0, 1)], &[255], &[1; 4095], None),
 ];
 
+/// Rows with a walkway, each with its width; worked out by hand. Where two items have no room beside one another, they stand one after the other,
+/// as if the hall had been narrower: two of 4 modules on 8 in 4 shifts, where each shorter length takes the step that says none, and the last one
+/// the turn on t and the step that says placed; on 9 modules they stand beside one another. Three units on 3 modules as above on 2 without a
+/// walkway, and on 2 as above on 1. With a lag of 2 between them, two of 4 modules take 1 + 2 + 1 shifts.
+const WALKWAY_ROWS: &[(u32, Row)] = &[
+    (255, ([1, 1, 9], &[], &[], &[], &[1], Some(&[]))),
+    (255, ([3, 3, 9], &[[3, 3, 2]], &[], &[], &[1, 1], Some(&[[0, 0, 0]]))),
+    (0, ([8, 1, 9], &[[4, 1, 2]; 2], &[], &[], &[1, 2], Some(&[[0, 0, 0], [4, 0, 0]]))),
+    (1, ([8, 1, 9], &[[4, 1, 2]; 2], &[], &[], &[1, 1, 1, 2], Some(&[[0, 0, 0], [0, 0, 2]]))),
+    (1, ([9, 1, 9], &[[4, 1, 2]; 2], &[], &[], &[1, 2], Some(&[[0, 0, 0], [5, 0, 0]]))),
+    (1, ([8, 1, 3], &[[4, 1, 2]; 2], &[], &[], &[1; 3], None)),
+    (1, ([2, 2, 5], &[UNIT; 2], &[], &[], &[1, 2], Some(&[[0, 0, 0], [0, 0, 1]]))),
+    (1, ([3, 1, 4], &[UNIT; 3], &[], &[], &[3, 5], Some(&[[0, 0, 0], [2, 0, 0], [2, 0, 1]]))),
+    (1, ([3, 1, 1], &[UNIT; 3], &[], &[], &[3], None)),
+    (1, ([2, 1, 9], &[UNIT; 3], &[], &[], &[1, 3, 4], Some(&[[0, 0, 0], [0, 0, 1], [0, 0, 2]]))),
+    (1, ([8, 1, 9], &[[4, 1, 1]; 2], &[(0, 1)], &[2], &[1; 4], Some(&[[0, 0, 0], [0, 0, 3]]))),
+    (255, ([257, 1, 9], &[UNIT; 2], &[], &[], &[2], Some(&[[0, 0, 0], [256, 0, 0]]))),
+    (255, ([256, 1, 9], &[UNIT; 2], &[], &[], &[1, 2], Some(&[[0, 0, 0], [0, 0, 1]]))),
+    (255, ([256, 1, 1], &[UNIT; 2], &[], &[], &[1], None)),
+];
+
 /// The searches of lengths 1, 2 and so on, as far as they were taken.
 struct Lengths {
     /// The steps up to the end of each length, 0 for length 0.
@@ -153,10 +174,10 @@ fn allowances_by_hand(lengths: &Lengths) -> Vec<u64> {
 }
 
 pub fn by_hand(report: &mut Report) {
-    for one in ROWS {
+    for (walkway, one) in ROWS.iter().map(|one| (0, one)).chain(WALKWAY_ROWS.iter().map(|(walkway, one)| (*walkway, one))) {
         let &(container, items, precedences, lags, _, _) = one;
         let instance =
-            Instance { container, items: items.to_vec(), precedences: precedences.to_vec(), lags: lags.to_vec(), yard_number: 0 };
+            Instance { container, items: items.to_vec(), precedences: precedences.to_vec(), lags: lags.to_vec(), yard_number: 0, walkway };
         let (sheet, lengths) = (sheet::encode(&instance), Lengths::of_row(one));
         for allowance in allowances_by_hand(&lengths) {
             let (length, steps, plan) = ([9; 2], [9; 4], vec![9; 6 * items.len()]);

@@ -1,4 +1,4 @@
-//! The bytes in which the crate `test_exports` takes a value: 354 of them. Numbers have the low byte first.
+//! The bytes in which the crate `test_exports` takes a value: 355 of them. Numbers have the low byte first.
 //!
 //! | place | bytes | what |
 //! |---|---|---|
@@ -8,11 +8,12 @@
 //! | 74 | 8 | the count of orders, any number |
 //! | 82 | 270 | ninety orders, 3 bytes each: u, v and the lag; order i at 82 + 3 i |
 //! | 352 | 2 | the yard number |
+//! | 354 | 1 | the walkway |
 
 use crate::reference::sheet::{MOST_ITEMS, MOST_PRECEDENCES};
 use crate::reference::value::Value;
 
-pub const VALUE_BYTES: usize = 354;
+pub const VALUE_BYTES: usize = 355;
 
 fn words(numbers: &[u32]) -> impl Iterator<Item = u8> + '_ {
     numbers.iter().flat_map(|&number| (number as u16).to_le_bytes())
@@ -26,6 +27,7 @@ pub fn value_bytes(value: &Value) -> Vec<u8> {
     bytes.extend(value.precedence_count.to_le_bytes());
     bytes.extend(value.precedences.iter().zip(&value.lags).flat_map(|(&(u, v), &lag)| [u as u8, v as u8, lag as u8]));
     bytes.extend(words(&[value.yard_number]));
+    bytes.push(value.walkway as u8);
     assert_eq!(bytes.len(), VALUE_BYTES);
     bytes
 }
@@ -50,5 +52,6 @@ pub fn value_of(bytes: &[u8]) -> Value {
         precedences: std::array::from_fn::<_, MOST_PRECEDENCES, _>(|i| (order(i)[0] as usize, order(i)[1] as usize)),
         lags: std::array::from_fn::<_, MOST_PRECEDENCES, _>(|i| order(i)[2] as u32),
         yard_number: number(&bytes[352..354]) as u32,
+        walkway: bytes[354] as u32,
     }
 }

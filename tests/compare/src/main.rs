@@ -102,7 +102,9 @@ fn all_cases(report: &mut Report, options: &Options, began: Instant) {
     table::rule_3(report);
     table::lags(report);
     table::greatest(report);
+    table::walkways(report);
     values::by_hand(report);
+    values::walkways_by_hand(report);
     if let Some(file) = &options.sheets {
         let text = std::fs::read_to_string(file).expect("the file of sheets");
         table::from_file(report, &text, options.most_steps);
@@ -116,6 +118,7 @@ fn all_cases(report: &mut Report, options: &Options, began: Instant) {
         report.context = "tiny halls".to_string();
         tiny::all(report, &mut random);
         tiny::with_lags(report, &mut random);
+        tiny::with_walkways(report, &mut random);
     }
     for case in 0.. {
         let due = options.whole && (report.counted(SMALL) < WHOLE_SMALL || report.counted(LARGE) < WHOLE_LARGE);

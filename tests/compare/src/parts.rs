@@ -238,6 +238,9 @@ pub fn checkpoints(report: &mut Report, random: &mut Random, sheet: &[u8], insta
     candidates.push(("notes off the run", off_run));
     let another = random::instance(random, items);
     candidates.push(("notes from another sheet", note_off_run(random, &another)));
+    if instance.walkway > 0 {
+        candidates.push(("notes from the sheet without its walkway", note_off_run(random, &Instance { walkway: 0, ..instance.clone() })));
+    }
     for (kind, note) in candidates {
         let budget = random.pick(budgets);
         let steps = [random.byte(); 4];
@@ -361,10 +364,10 @@ pub fn damaged_sheets(report: &mut Report, random: &mut Random, sheet: &[u8], da
     }
 }
 
-/// Lag fields on a sheet that has none: left out, cut, of zeros, with one lag, with bytes after them; and a bit without a meaning besides.
+/// Lag fields on a sheet that has none: left out, cut, of zeros, with one lag, with bytes after them; and with a walkway after them.
 pub fn lag_fields(report: &mut Report, random: &mut Random, instance: &Instance) {
     let orders = instance.precedences.len();
-    let without = sheet::encode(&Instance { lags: vec![0; orders], ..instance.clone() });
+    let without = sheet::encode(&Instance { lags: vec![0; orders], walkway: 0, ..instance.clone() });
     let mut one = vec![0; orders];
     if orders > 0 {
         let at = random.below(orders);
@@ -387,7 +390,81 @@ pub fn lag_fields(report: &mut Report, random: &mut Random, instance: &Instance)
         longer[0] ^= 64;
         reading(report, "lag fields without their bit", &longer);
         whole[0] |= 128;
-        reading(report, "lag fields and bit 7", &whole);
+        reading(report, "lag fields and a walkway that is missing", &whole);
+        whole.push(random.pick(&[0, 1, 1, 255]));
+        reading(report, "lag fields and a walkway", &whole);
+        rewriting(report, random, &whole);
+        whole.push(random.pick(&[0, 1]));
+        reading(report, "lag fields, a walkway and a byte", &whole);
+    }
+}
+
+/// Walkways on a sheet without one: 0, 1, any and 255; missing, with bytes after them, without their bit; before the lags and before the yard
+/// number, which is read as something else.
+pub fn walkway_fields(report: &mut Report, random: &mut Random, instance: &Instance) {
+    let without = sheet::encode(&Instance { walkway: 0, ..instance.clone() });
+    let mut cut = without.clone();
+    cut[0] |= 128;
+    reading(report, "walkways that are missing", &cut);
+    let lags = if without[0] & 64 == 0 { 0 } else { instance.lags.len() };
+    let yard = if without[0] & 32 == 0 { 0 } else { 2 };
+    for width in [0, 1, random.byte(), 255] {
+        let mut whole = cut.clone();
+        whole.push(width);
+        reading(report, if width == 0 { "walkways of 0" } else { "walkways above 0" }, &whole);
+        rewriting(report, random, &whole);
+        if random.one_in(4) {
+            records(report, &whole);
+        }
+        let mut longer = whole.clone();
+        longer.extend((0..random.between(1, 2)).map(|_| random.pick(&[0, 1, width, 255])));
+        reading(report, "walkways with bytes after them", &longer);
+        longer[0] ^= 128;
+        reading(report, "walkways without their bit", &longer);
+        for before in [lags, lags + yard] {
+            let mut moved = cut.clone();
+            moved.insert(cut.len() - before, width);
+            reading(report, "walkways at another place", &moved);
+        }
+    }
+}
+
+/// Two items, one just the walkway after the other on x or y, a module less, one more, or touching; closer, as close or farther on the other
+/// axis; in the same shifts or after one another.
+pub fn near_a_walkway(report: &mut Report, random: &mut Random, instance: &Instance) {
+    if instance.items.is_empty() {
+        return;
+    }
+    let (u, v) = (random.below(instance.items.len()), random.below(instance.items.len()));
+    let items = vec![instance.items[u], instance.items[v]];
+    let byte = random.byte() as u32;
+    let walkway = random.pick(&[instance.walkway, instance.walkway, 1, 2, 255, byte]);
+    let (first, second) = random.pick(&[(0, 1), (1, 0)]);
+    let mut positions = [[0; 3]; 2];
+    let mut container = [1; 3];
+    let axis = random.below(2);
+    for on in 0..3 {
+        let (start, length) = (random.below(3) as u32, items[first][on]);
+        let gap = |random: &mut Random, walkway: u32| random.pick(&[0, walkway.saturating_sub(1), walkway.saturating_sub(1), walkway, walkway + 1]);
+        positions[first][on] = start;
+        positions[second][on] = match on {
+            _ if on == axis => start + length + gap(random, walkway),
+            packing::TIME if random.one_in(8) => start + length,
+            packing::TIME => start + random.below(length as usize) as u32,
+            _ if random.one_in(3) => start + length + gap(random, walkway),
+            _ => start + random.below(length as usize) as u32,
+        };
+        let end = (0..2).map(|item| positions[item][on] + items[item][on]).max().expect("two items");
+        container[on] = end + random.below(2) as u32;
+    }
+    if random.one_in(12) {
+        container[axis] -= 1;
+    }
+    if container.iter().all(|&measure| (1..=sheet::GREATEST_MEASURE).contains(&measure)) {
+        let sheet = sheet::encode(&Instance { container, items, precedences: vec![], lags: vec![], yard_number: 0, walkway });
+        let plan = plan_bytes(&positions);
+        report.count(if bytes::check(&sheet, &plan) == 1 { "checks near a walkway: yes" } else { "checks near a walkway: no" });
+        check(report, &sheet, &plan);
     }
 }
 
@@ -415,7 +492,12 @@ pub fn everything(report: &mut Report, random: &mut Random, instance: &Instance,
     rewriting(report, random, &sheet);
     records(report, &sheet);
     lag_fields(report, random, instance);
+    walkway_fields(report, random, instance);
     greatest_measures(report, random, instance);
+    for _ in 0..4 {
+        near_a_walkway(report, random, instance);
+    }
+    report.count(if instance.walkway > 0 { "instances with a walkway" } else { "instances without a walkway" });
     report.count(match instance.lags.iter().max() {
         None => "instances without orders",
         Some(0) => "instances with orders, without lags",

@@ -122,6 +122,7 @@ pub fn instance(random: &mut Random, items: usize) -> Instance {
     precedences.sort();
     precedences.dedup();
     let lags = lags(random, &sizes, &mut container, &precedences);
+    let mut walkway = walkway(random, &sizes, &mut container, if flat == 0 { 1 } else { 2 });
     let any = random.between(1, 65535) as u32;
     let yard_number = random.pick(&[0, 0, 0, 0, 0, 1, 2, 256, 65535, any]);
     if random.one_in(40) {
@@ -132,8 +133,34 @@ pub fn instance(random: &mut Random, items: usize) -> Instance {
                 *measure *= factor;
             }
         }
+        walkway = (walkway * factor).min(255);
     }
-    Instance { container, items: sizes, precedences, lags, yard_number }
+    Instance { container, items: sizes, precedences, lags, yard_number, walkway }
+}
+
+/// A walkway, 0 in half of the instances: 1, small, about what is left beside two items, any, 255. Where it is not 0, the hall often gets a wider
+/// floor, on the first or on both axes of it, so that answers vary.
+fn walkway(random: &mut Random, sizes: &[[u32; 3]], container: &mut [u32; 3], axes: usize) -> u32 {
+    if random.one_in(2) {
+        return 0;
+    }
+    let axis = random.below(axes);
+    let mut measure = || if sizes.is_empty() { 0 } else { sizes[random.below(sizes.len())][axis] as i64 };
+    let both = measure() + measure();
+    // One less, as much, or one more.
+    let left = (container[axis] as i64 - both + random.below(3) as i64 - 1).clamp(1, 255) as u32;
+    let byte = random.byte().max(1) as u32;
+    let walkway = random.pick(&[1, 1, 1, 2, 3, left, left, byte, 255]);
+    for measure in &mut container[..axes] {
+        *measure += match random.below(6) {
+            0 | 1 => 0,
+            2 => walkway,
+            3 => 2 * walkway,
+            4 => walkway - 1,
+            _ => random.below(walkway as usize + 1) as u32,
+        };
+    }
+    walkway
 }
 
 /// A lag for each order, all 0 in a third of the instances. Where they are not, the hall often gets more shifts, so that answers vary.

@@ -1,5 +1,5 @@
-//! Document 01's table of small halls, sheets on which rule 3 tells, sheets with lags, measures about the greatest, and sheets from a file
-//! with their answers and steps.
+//! Document 01's table of small halls, sheets on which rule 3 tells, sheets with lags, measures about the greatest, sheets with a walkway, and
+//! sheets from a file with their answers and steps.
 
 use crate::library;
 use crate::parts;
@@ -123,10 +123,6 @@ const LAGS_REFUSED: &[(&[u8], u32, usize)] = &[
     (&[0x78, 2, 0, 0, 1, 0, 1, 0, 0, 5], 3, 7),
     (&[0x78, 2, 0, 0, 1, 0, 1, 7, 0, 0], 11, 9),
     (&[0x78, 2, 0, 0, 1, 0, 1, 7, 0], 1, 9),
-    // Bit 7 has no meaning
-    (&[0x80], 2, 0),
-    (&[0xC0], 2, 0),
-    (&[0xFF], 2, 0),
 ];
 
 const MOST: [u32; 3] = [4095; 3];
@@ -176,7 +172,7 @@ const GREATEST_REFUSED: &[(&[u8], u32, usize)] = &[
     (&[8, 2, 1, 0, 0x10, 1, 1, 0], 12, 3),
     (&[8, 2, 1, 1, 0, 1, 0, 0x10], 3, 3),
     // 2, 4, 5, 7 and 11
-    (&[0x81, 0, 0x10], 2, 0),
+    (&[0x81, 0, 0x10], 12, 1),
     (&[8, 1, 9, 0, 0x10], 2, 2),
     (&[8, 2, 1, 0, 0x10, 8], 12, 3),
     (&[9, 0, 0x10, 0], 12, 1),
@@ -209,6 +205,149 @@ const GREATEST_READ: &[&[u8]] = &[
     &[0x58, 2, 4, 0xFF, 0x0F, 0, 1, 0, 1, 0xFF],
 ];
 
+/// Sheets with a walkway, worked out by hand. In a hall 1 deep and 1 shift long nothing but overlap is possible on y and t, so rule 1 strikes it
+/// on x.
+///
+/// Two pieces of 4 modules: in 8 they touch, and the first turn puts 0 first. With a walkway of 1 rule 5's sum is 4 + 1 + 4 = 9 either way: in 8
+/// all three words are struck on x, in 9 none but overlap. In 8 with a second shift overlap is known on x and y, so one has to be before the
+/// other on t, where no walkway counts: the first turn puts 0 first, at t 0, and 1 starts at t 1, both at x 0. With the order 1, 0 no turn is
+/// needed.
+///
+/// Two units on a floor of 3 x 3: the first turn strikes overlap on x, the second puts 0 first: x 0 and 2. On 2 x 3, 1 + 1 + 1 is too much for
+/// x, so overlap is struck on y; on 2 x 2 with two shifts it is struck on t.
+///
+/// Three units in a row with a walkway of 1 take 3 + 2 = 5 modules, with one of 2 they take 3 + 4 = 7. In 5 each pair takes a turn: the chain 0, 1
+/// has the total 3, and 2 before 0 would take 1 + 1 + 3 = 5. So the fourth step says placed, at 0, 2 and 4. In 4 the first turn puts 0 before 1: 1
+/// before 2 and 2 before 0 take 5 and are struck, which leaves 2 between the two, where it takes 3 + 1 + 1 = 5. The same the other way round: the
+/// third step says none. In 2 no two have room beside one another: none at once.
+///
+/// Two units with a walkway of 128 take 130 modules, with 255 they take 257. 1,920 + 255 + 1,920 = 4,095, and 2,175 = 127 + 256 * 8.
+///
+/// With lags, which count on t alone. Two pieces of 4 modules in 8, order 0, 1 with lag 2: 1 + 2 + 1 = 4 shifts. Three units and the order 0, 1 with
+/// lag 1, in 3 shifts: on a floor of 3 modules 2 goes beside 0, as above on a floor of 2 without a walkway; on one of 2 it has no room there, and
+/// stands in the lag. On a floor of 5 modules, 4 shifts, 1 stands all shifts beside 0 and 2, whose order has lag 2: 0, 1, 2 take 3 + 2 modules.
+///
+/// At the walls nothing is needed: a piece as large as the hall, whatever the walkway.
+const WALKWAY_ROWS: &[(u32, Row, &[u32])] = &[
+    (0, ([8, 1, 1], &[[4, 1, 1]; 2], &[], 1, 2, &[0, 0, 0, 0, 0, 0, 4, 0, 0, 0, 0, 0]), &[]),
+    (1, ([8, 1, 1], &[[4, 1, 1]; 2], &[], 2, 1, &[]), &[]),
+    (1, ([9, 1, 1], &[[4, 1, 1]; 2], &[], 1, 2, &[0, 0, 0, 0, 0, 0, 5, 0, 0, 0, 0, 0]), &[]),
+    (2, ([9, 1, 1], &[[4, 1, 1]; 2], &[], 2, 1, &[]), &[]),
+    (1, ([8, 1, 2], &[[4, 1, 1]; 2], &[], 1, 2, &[0, 0, 0, 0, 0, 0, 0, 0, 0, 0, 1, 0]), &[]),
+    (1, ([8, 1, 2], &[[4, 1, 1]; 2], &[(1, 0)], 1, 1, &[0, 0, 0, 0, 1, 0, 0, 0, 0, 0, 0, 0]), &[0]),
+    (1, ([8, 1, 1], &[[4, 1, 1]; 2], &[(1, 0)], 2, 1, &[]), &[0]),
+    (1, ([1, 8, 1], &[[1, 4, 1]; 2], &[], 2, 1, &[]), &[]),
+    (1, ([1, 9, 1], &[[1, 4, 1]; 2], &[], 1, 2, &[0, 0, 0, 0, 0, 0, 0, 0, 5, 0, 0, 0]), &[]),
+    (1, ([3, 3, 1], &[UNIT; 2], &[], 1, 3, &[0, 0, 0, 0, 0, 0, 2, 0, 0, 0, 0, 0]), &[]),
+    (1, ([2, 3, 1], &[UNIT; 2], &[], 1, 2, &[0, 0, 0, 0, 0, 0, 0, 0, 2, 0, 0, 0]), &[]),
+    (1, ([2, 2, 2], &[UNIT; 2], &[], 1, 2, &[0, 0, 0, 0, 0, 0, 0, 0, 0, 0, 1, 0]), &[]),
+    (1, ([2, 2, 1], &[UNIT; 2], &[], 2, 1, &[]), &[]),
+    (1, ([5, 1, 1], &[UNIT; 3], &[], 1, 4, &[0, 0, 0, 0, 0, 0, 2, 0, 0, 0, 0, 0, 4, 0, 0, 0, 0, 0]), &[]),
+    (1, ([4, 1, 1], &[UNIT; 3], &[], 2, 3, &[]), &[]),
+    (1, ([1, 5, 1], &[UNIT; 3], &[], 1, 4, &[0, 0, 0, 0, 0, 0, 0, 0, 2, 0, 0, 0, 0, 0, 4, 0, 0, 0]), &[]),
+    (1, ([1, 4, 1], &[UNIT; 3], &[], 2, 3, &[]), &[]),
+    (2, ([7, 1, 1], &[UNIT; 3], &[], 1, 4, &[0, 0, 0, 0, 0, 0, 3, 0, 0, 0, 0, 0, 6, 0, 0, 0, 0, 0]), &[]),
+    (2, ([6, 1, 1], &[UNIT; 3], &[], 2, 3, &[]), &[]),
+    (1, ([2, 1, 1], &[UNIT; 3], &[], 2, 1, &[]), &[]),
+    (128, ([130, 1, 1], &[UNIT; 2], &[], 1, 2, &[0, 0, 0, 0, 0, 0, 129, 0, 0, 0, 0, 0]), &[]),
+    (128, ([129, 1, 1], &[UNIT; 2], &[], 2, 1, &[]), &[]),
+    (255, ([257, 1, 1], &[UNIT; 2], &[], 1, 2, &[0, 0, 0, 0, 0, 0, 0, 1, 0, 0, 0, 0]), &[]),
+    (255, ([256, 1, 1], &[UNIT; 2], &[], 2, 1, &[]), &[]),
+    (255, ([4095, 1, 1], &[[1920, 1, 1]; 2], &[], 1, 2, &[0, 0, 0, 0, 0, 0, 127, 8, 0, 0, 0, 0]), &[]),
+    (255, ([4095, 1, 1], &[[1921, 1, 1], [1920, 1, 1]], &[], 2, 1, &[]), &[]),
+    (255, (MOST, &[MOST; 10], CHAIN, 2, 1, &[]), &[255; 9]),
+    (1, ([8, 1, 4], &[[4, 1, 1]; 2], &[(0, 1)], 1, 1, &[0, 0, 0, 0, 0, 0, 0, 0, 0, 0, 3, 0]), &[2]),
+    (1, ([8, 1, 3], &[[4, 1, 1]; 2], &[(0, 1)], 2, 1, &[]), &[2]),
+    (1, ([3, 1, 3], &[UNIT; 3], &[(0, 1)], 1, 4, &[0, 0, 0, 0, 0, 0, 0, 0, 0, 0, 2, 0, 2, 0, 0, 0, 0, 0]), &[1]),
+    (1, ([2, 1, 3], &[UNIT; 3], &[(0, 1)], 1, 1, &[0, 0, 0, 0, 0, 0, 0, 0, 0, 0, 2, 0, 0, 0, 0, 0, 1, 0]), &[1]),
+    (1, ([5, 1, 4], &[UNIT, [1, 1, 4], UNIT], &[(0, 2)], 1, 3, &[0, 0, 0, 0, 0, 0, 2, 0, 0, 0, 0, 0, 4, 0, 0, 0, 3, 0]), &[2]),
+    (255, ([4, 3, 2], &[[4, 3, 2]], &[], 1, 1, &[0; 6]), &[]),
+    (255, ([4, 3, 2], &[[5, 3, 2]], &[], 2, 1, &[]), &[]),
+    (255, (UNIT, &[], &[], 1, 1, &[]), &[]),
+];
+
+/// Two cubes of 2 in a hall of 9 with a walkway of 3, the first at 0, 0, 0: starts of the second, and whether they fit. On x and y 3 modules are
+/// between 2 and 5; on t it may touch, and then nothing is needed on the floor. One of the axes is enough.
+const WALKWAY_PLANS: &[([u8; 3], u32)] = &[
+    ([5, 0, 0], 1),
+    ([4, 0, 0], 0),
+    ([2, 0, 0], 0),
+    ([0, 5, 0], 1),
+    ([0, 4, 0], 0),
+    ([0, 2, 1], 0),
+    ([4, 4, 0], 0),
+    ([5, 4, 1], 1),
+    ([4, 5, 1], 1),
+    ([2, 2, 2], 1),
+    ([0, 0, 2], 1),
+    ([0, 0, 1], 0),
+    ([7, 7, 7], 1),
+    ([8, 0, 0], 0),
+    ([0, 0, 8], 0),
+];
+
+/// The walkway's refusals, and the order of checks about it.
+const WALKWAYS_REFUSED: &[(&[u8], u32, usize)] = &[
+    // Alone: missing, 0, with bytes after it, without its bit
+    (&[0x80], 1, 1),
+    (&[0x80, 0], 3, 1),
+    (&[0x80, 0, 5], 3, 1),
+    (&[0x80, 5, 0], 7, 2),
+    (&[0x80, 5, 5], 7, 2),
+    (&[0, 5], 7, 1),
+    // After the hall, the pieces, the orders, the yard number
+    (&[0x81, 2, 0], 1, 3),
+    (&[0x81, 2, 0, 0], 3, 3),
+    (&[0x81, 1, 0, 0], 3, 1),
+    (&[0x88, 1, 0], 1, 3),
+    (&[0x88, 1, 0, 0], 3, 3),
+    (&[0x88, 0, 5], 4, 1),
+    (&[0x98, 2, 0, 0, 1, 0, 1], 1, 7),
+    (&[0x98, 2, 0, 0, 1, 0, 1, 0], 3, 7),
+    (&[0x98, 2, 0, 0, 1, 1, 1, 0], 5, 5),
+    (&[0x98, 2, 0, 0, 2, 0, 1, 0, 1, 0], 6, 7),
+    (&[0xA0, 5, 0], 1, 3),
+    (&[0xA0, 0, 0, 0], 3, 1),
+    (&[0xA0, 5, 0, 0], 3, 3),
+    // Bit 7 of a piece's map has no meaning
+    (&[0x88, 1, 0x80, 5], 2, 2),
+    (&[8, 1, 0x80], 2, 2),
+    // An empty lag field, before anything that follows it
+    (&[0xC0], 11, 1),
+    (&[0xC0, 0], 11, 1),
+    (&[0xC0, 5], 11, 1),
+    (&[0xC0, 5, 5], 11, 1),
+    (&[0xE0, 5, 0, 5], 11, 3),
+    (&[0xC8, 1, 0, 5], 11, 3),
+    // After the lags: of zeros, cut, whole
+    (&[0xD8, 2, 0, 0, 1, 0, 1, 0, 5], 11, 7),
+    (&[0xD8, 2, 0, 0, 1, 0, 1, 0, 0], 11, 7),
+    (&[0xD8, 2, 0, 0, 1, 0, 1, 5], 1, 8),
+    (&[0xD8, 2, 0, 0, 1, 0, 1, 5, 0], 3, 8),
+    (&[0xD8, 2, 0, 0, 1, 0, 1, 5, 5, 0], 7, 9),
+    (&[0xD8, 2, 0, 0, 2, 0, 1, 1, 0, 5, 5], 1, 11),
+    (&[0xF8, 2, 0, 0, 1, 0, 1, 5, 0, 5], 1, 10),
+    (&[0xF8, 2, 0, 0, 1, 0, 1, 5, 0, 5, 0], 3, 10),
+    (&[0xFF], 1, 1),
+];
+
+/// Sheets that read, with the walkway.
+const WALKWAYS_READ: &[(&[u8], u32)] = &[
+    (&[0], 0),
+    (&[0x80, 1], 1),
+    (&[0x80, 127], 127),
+    (&[0x80, 128], 128),
+    (&[0x80, 255], 255),
+    (&[0x87, 2, 0, 3, 0, 4, 0, 5], 5),
+    (&[0x88, 1, 0, 9], 9),
+    (&[0x98, 2, 0, 0, 1, 0, 1, 3], 3),
+    (&[0xA0, 5, 0, 3], 3),
+    (&[0xA0, 3, 5, 1], 1),
+    (&[0xD8, 2, 0, 0, 1, 0, 1, 5, 3], 3),
+    (&[0xD8, 2, 0, 0, 2, 0, 1, 1, 0, 5, 0, 7], 7),
+    (&[0xF8, 2, 0, 0, 1, 0, 1, 5, 6, 7, 8], 8),
+];
+
 const REFUSED: &[(&[u8], u32, usize)] = &[
     (&[1, 1, 0], 3, 1),
     (&[1, 2], 1, 2),
@@ -228,8 +367,8 @@ fn answers(sheet: &[u8], items: usize, allowance: u32) -> [Result<(u32, u32, Vec
     [Ok(own), linked.and_then(|searched| Ok((searched.returned, four(&searched.steps?), searched.plan?)))]
 }
 
-fn row(report: &mut Report, kind: &'static str, &(container, items, precedences, returned, steps, plan): &Row, lags: Vec<u32>) {
-    let instance = Instance { container, items: items.to_vec(), precedences: precedences.to_vec(), lags, yard_number: 0 };
+fn row(report: &mut Report, kind: &'static str, &(container, items, precedences, returned, steps, plan): &Row, lags: Vec<u32>, walkway: u32) {
+    let instance = Instance { container, items: items.to_vec(), precedences: precedences.to_vec(), lags, yard_number: 0, walkway };
     let sheet = sheet::encode(&instance);
     let plan = if returned == 1 { plan.to_vec() } else { vec![0; 6 * items.len()] };
     for got in answers(&sheet, items.len(), 1_000_000) {
@@ -239,7 +378,7 @@ fn row(report: &mut Report, kind: &'static str, &(container, items, precedences,
 
 fn rows(report: &mut Report, kind: &'static str, rows: &[Row]) {
     for one in rows {
-        row(report, kind, one, vec![0; one.2.len()]);
+        row(report, kind, one, vec![0; one.2.len()], 0);
     }
 }
 
@@ -255,7 +394,7 @@ fn refusals(report: &mut Report, kind: &'static str, refused: &[(&[u8], u32, usi
 pub fn lags(report: &mut Report) {
     let kind = "sheets with lags";
     for (one, lags) in LAG_ROWS {
-        row(report, kind, one, lags.to_vec());
+        row(report, kind, one, lags.to_vec(), 0);
     }
     refusals(report, kind, LAGS_REFUSED);
     let first = [0x5C, 7, 0, 3, 0, 0, 0, 3, 0, 1, 0, 2, 1, 2, 1, 5, 0];
@@ -269,14 +408,55 @@ pub fn lags(report: &mut Report) {
     let lags = read.as_ref().map(|instance| (instance.lags.clone(), instance.yard_number, sheet::encode(instance)));
     report.same(kind, &Ok((vec![1, 5, 0], 9, written.to_vec())), &lags, || hexadecimal(&written));
     report.same(kind, &Ok((19, written.to_vec())), &library::rewrite(&written, &[0; 19]), || hexadecimal(&written));
+}
+
+/// The rows, plans, refusals and sheets above, and the longest sheet.
+pub fn walkways(report: &mut Report) {
+    let kind = "sheets with a walkway";
+    for (walkway, one, lags) in WALKWAY_ROWS {
+        row(report, kind, one, lags.to_vec(), *walkway);
+    }
+    let cubes = [0x8F, 9, 0, 9, 0, 9, 0, 2, 7, 2, 0, 2, 0, 2, 0, 7, 2, 0, 2, 0, 2, 0, 3];
+    for &(second, fits) in WALKWAY_PLANS {
+        for starts in [[[0; 3], second], [second, [0; 3]]] {
+            let plan: Vec<u8> = starts.iter().flatten().flat_map(|&start| [start, 0]).collect();
+            report.same(kind, &(fits, Ok(fits)), &(bytes::check(&cubes, &plan), library::check(&cubes, &plan)), || format!("{starts:?}"));
+        }
+    }
+    refusals(report, kind, WALKWAYS_REFUSED);
+    for &(sheet, walkway) in WALKWAYS_READ {
+        let own = sheet::read(sheet).map(|instance| (instance.walkway, sheet::encode(&instance)));
+        report.same(kind, &Ok((walkway, sheet.to_vec())), &own, || hexadecimal(sheet));
+        report.same(kind, &Ok((0, 0)), &library::read(sheet), || hexadecimal(sheet));
+        report.same(kind, &Ok((sheet.len(), sheet.to_vec())), &library::rewrite(sheet, &vec![0; sheet.len()]), || hexadecimal(sheet));
+    }
     longest(report);
+    // An error that was found need not let such searches end.
+    if report.differences == 0 {
+        ten_in_a_row(report, kind);
+    }
+}
+
+/// Ten pieces in a row on x or on y that just has room for them and nine walkways: 10 + 9 = 19, and ten of 180 with 255: 1,800 + 2,295 = 4,095. The
+/// pieces before v are in a row; v before all of them would take no more than the hall has. So each pair takes a turn, 45 in all, and the next
+/// step says placed.
+fn ten_in_a_row(report: &mut Report, kind: &'static str) {
+    for (axis, length, walkway, hall) in [(0, 1, 1, 19), (1, 1, 1, 19), (0, 180, 255, 4095), (1, 180, 255, 4095)] {
+        let on = |measure: u32, other: u32| if axis == 0 { [measure, other, other] } else { [other, measure, other] };
+        let items = vec![on(length, 1); 10];
+        let sheet = sheet::encode(&Instance { container: on(hall, 1), items, precedences: vec![], lags: vec![], yard_number: 0, walkway });
+        let plan = bytes::plan_bytes(&(0..10).map(|piece| on((length + walkway) * piece, 0)).collect::<Vec<_>>());
+        for got in answers(&sheet, 10, 1_000_000) {
+            report.same(kind, &Ok((1, 46, plan.clone())), &got, || hexadecimal(&sheet));
+        }
+    }
 }
 
 /// The rows, refusals and sheets above, and ten pieces of 180 with lags of 255: 1,800 + 2,295 = 4,095, each 435 after the one before.
 pub fn greatest(report: &mut Report) {
     let kind = "measures about the greatest";
     for (one, lags) in GREATEST_ROWS {
-        row(report, kind, one, lags.to_vec());
+        row(report, kind, one, lags.to_vec(), 0);
     }
     refusals(report, kind, GREATEST_REFUSED);
     for &sheet in GREATEST_READ {
@@ -287,7 +467,7 @@ pub fn greatest(report: &mut Report) {
     }
     for (shifts, returned) in [(4095, 1), (4094, 2)] {
         let (items, lags) = (vec![[1, 1, 180]; 10], vec![255; 9]);
-        let sheet = sheet::encode(&Instance { container: [1, 1, shifts], items, precedences: CHAIN.to_vec(), lags, yard_number: 0 });
+        let sheet = sheet::encode(&Instance { container: [1, 1, shifts], items, precedences: CHAIN.to_vec(), lags, yard_number: 0, walkway: 0 });
         let start = |piece: u32| if returned == 1 { 435 * piece } else { 0 };
         let plan = bytes::plan_bytes(&(0..10).map(|piece| [0, 0, start(piece)]).collect::<Vec<_>>());
         for got in answers(&sheet, 10, 1_000_000) {
@@ -306,32 +486,42 @@ fn far_plans(report: &mut Report, kind: &'static str) {
     }
 }
 
-/// "The longest sheet is 351 bytes": whole, a byte shorter, a byte longer; with lags of 0, in 351 and in 352 bytes. 90 orders are circles.
+/// "The longest sheet is 352 bytes": whole, a byte shorter, a byte longer; with a walkway of 0; with lags of 0, in 351, in 352 and in 353 bytes;
+/// without the walkway's bit, in 351 and in 352. 90 orders are circles.
 fn longest(report: &mut Report) {
     let kind = "the longest sheet";
     let precedences: Vec<(usize, usize)> = (0..90).map(|i| (i / 9, i % 9 + usize::from(i % 9 >= i / 9))).collect();
-    let full = Instance { container: [4095; 3], items: vec![[4095; 3]; 10], precedences, lags: vec![255; 90], yard_number: 65535 };
+    let full = Instance { container: [4095; 3], items: vec![[4095; 3]; 10], precedences, lags: vec![255; 90], yard_number: 65535, walkway: 255 };
     let sheet = sheet::encode(&full);
     report.same(kind, &(sheet::LONGEST_SHEET, Ok(full)), &(sheet.len(), sheet::read(&sheet)), || hexadecimal(&sheet));
     let mut longer = sheet.clone();
     longer.push(0);
     let mut zeros = longer.clone();
     zeros[261..].fill(0);
-    let cases: [(&[u8], (u32, usize)); 6] = [
+    let mut no_walkway = longer.clone();
+    no_walkway[0] = 0x7F;
+    let mut walkway_0 = longer.clone();
+    walkway_0[351] = 0;
+    let cases: [(&[u8], (u32, usize)); 11] = [
         (&sheet, (0, 0)),
+        (&sheet[..351], (1, 351)),
         (&sheet[..350], (1, 350)),
-        (&longer, (7, 351)),
+        (&longer, (7, 352)),
+        (&walkway_0[..352], (3, 351)),
+        (&walkway_0, (3, 351)),
         (&zeros[..350], (1, 350)),
         (&zeros[..351], (11, 261)),
         (&zeros, (11, 261)),
+        (&no_walkway[..351], (0, 0)),
+        (&no_walkway[..352], (7, 351)),
     ];
     for (bytes, expected) in cases {
         report.same(kind, &Ok(expected), &library::read(bytes), || hexadecimal(bytes));
         parts::reading(report, kind, bytes);
     }
-    for room in [350, 351, 352] {
+    for room in [351, 352, 353] {
         let mut after = vec![7; room];
-        let length = if room < 351 { 0 } else { 351 };
+        let length = if room < 352 { 0 } else { 352 };
         after[..length].copy_from_slice(&sheet[..length]);
         report.same(kind, &Ok((length, after)), &library::rewrite(&sheet, &vec![7; room]), || format!("room {room}"));
     }
@@ -345,7 +535,7 @@ pub fn rule_3(report: &mut Report) {
     let kind = "sheets on which rule 3 tells";
     rows(report, kind, RULE_3_ROWS);
     let precedences = vec![(0, 1), (3, 2)];
-    let instance = Instance { container: [4, 1, 2], items: vec![UNIT; 4], precedences, lags: vec![0, 0], yard_number: 0 };
+    let instance = Instance { container: [4, 1, 2], items: vec![UNIT; 4], precedences, lags: vec![0, 0], yard_number: 0, walkway: 0 };
     let sheet = sheet::encode(&instance);
     let mut note = [0; NOTE_BYTES];
     note[..4].copy_from_slice(&[2, 4, 0, 1]);
@@ -364,7 +554,7 @@ pub fn small_halls(report: &mut Report) {
 
 /// "the last, allowances 0, 1, 1, 1": "spent 0, spent 1, spent 1, placed 1"
 fn split_budgets(report: &mut Report) {
-    let two = Instance { container: [2, 2, 2], items: vec![UNIT, UNIT], precedences: vec![], lags: vec![], yard_number: 0 };
+    let two = Instance { container: [2, 2, 2], items: vec![UNIT, UNIT], precedences: vec![], lags: vec![], yard_number: 0, walkway: 0 };
     let sheet = sheet::encode(&two);
     let mut note = vec![0; NOTE_BYTES];
     for (allowance, returned, steps) in [(0, 0, 0), (1, 0, 1), (1, 0, 1), (1, 1, 1)] {

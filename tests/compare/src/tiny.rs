@@ -1,17 +1,42 @@
-//! Tiny containers, where all positions are tried one after another: none exactly when none fits, and the earliest finish is the first
-//! length in which some fit.
+//! Tiny containers, where all positions are tried one after another, module by module and shift by shift: none exactly when none fits, and the
+//! earliest finish is the first length in which some fit.
 
 use crate::library;
 use crate::random::Random;
-use crate::reference::bytes::{positions_of, NOTE_BYTES};
+use crate::reference::bytes::{plan_bytes, positions_of, NOTE_BYTES};
 use crate::reference::finish::with_shifts;
 use crate::reference::packing::{is_feasible, Position};
 use crate::reference::sheet::{self, Instance};
 use crate::report::{hexadecimal, Report};
 
+/// The modules and shifts that an item takes up.
+fn cells(instance: &Instance, positions: &[Position], item: usize) -> Vec<Position> {
+    let ([x, y, t], [width, depth, shifts]) = (positions[item], instance.items[item]);
+    let mut cells = Vec::new();
+    for dx in 0..width {
+        for dy in 0..depth {
+            cells.extend((0..shifts).map(|dt| [x + dx, y + dy, t + dt]));
+        }
+    }
+    cells
+}
+
+/// Fit by cells: each in the hall; of two items in the same shift, no two modules with fewer than the walkway's between them on x and on y, which
+/// without a walkway is no module twice; and so many shifts as the lag between the last of u and the first of v.
+fn fits_by_cells(instance: &Instance, positions: &[Position]) -> bool {
+    let all: Vec<Vec<Position>> = (0..instance.items.len()).map(|item| cells(instance, positions, item)).collect();
+    let inside = all.iter().flatten().all(|cell| (0..3).all(|axis| cell[axis] < instance.container[axis]));
+    let close = |a: &Position, b: &Position| a[2] == b[2] && a[0].abs_diff(b[0]) <= instance.walkway && a[1].abs_diff(b[1]) <= instance.walkway;
+    let apart = |u: usize, v: usize| !all[u].iter().any(|a| all[v].iter().any(|b| close(a, b)));
+    let waits = |u: usize, v: usize, lag: u32| all[u].iter().all(|a| all[v].iter().all(|b| a[2] + lag < b[2]));
+    inside
+        && (0..all.len()).all(|v| (0..v).all(|u| apart(u, v)))
+        && instance.precedences.iter().zip(&instance.lags).all(|(&(u, v), &lag)| waits(u, v, lag))
+}
+
 fn some_position_fits(instance: &Instance, positions: &mut Vec<Position>) -> bool {
     if positions.len() == instance.items.len() {
-        return is_feasible(instance, positions);
+        return fits_by_cells(instance, positions);
     }
     let [width, depth, shifts] = instance.container;
     for x in 0..width {
@@ -31,6 +56,7 @@ fn some_position_fits(instance: &Instance, positions: &mut Vec<Position>) -> boo
 
 fn one(report: &mut Report, instance: &Instance) {
     report.count(if instance.lags.iter().any(|&lag| lag > 0) { "tiny halls: with lags" } else { "tiny halls: without lags" });
+    report.count(if instance.walkway > 0 { "tiny halls: with a walkway" } else { "tiny halls: without a walkway" });
     let sheet = sheet::encode(instance);
     let fits = some_position_fits(instance, &mut Vec::new());
     let plan = vec![0; 6 * instance.items.len()];
@@ -69,6 +95,24 @@ fn earliest(report: &mut Report, instance: &Instance) {
     }
 }
 
+/// The check of positions by chance, inside the hall or just outside, by cells.
+fn by_cells(report: &mut Report, random: &mut Random, instance: &Instance, times: usize) {
+    let sheet = sheet::encode(instance);
+    for _ in 0..times {
+        let start = |random: &mut Random, axis: usize, measure: u32| {
+            let outside = u32::from(random.one_in(10));
+            let room = (instance.container[axis] + 1).saturating_sub(measure).max(1) + outside;
+            random.below(room as usize) as u32
+        };
+        let positions: Vec<Position> = instance.items.iter().map(|size| [0, 1, 2].map(|axis| start(random, axis, size[axis]))).collect();
+        let fits = fits_by_cells(instance, &positions);
+        let kind = if fits { "tiny halls: checks by cells: yes" } else { "tiny halls: checks by cells: no" };
+        report.same(kind, &(fits, Ok(fits as u32)), &(is_feasible(instance, &positions), library::check(&sheet, &plan_bytes(&positions))), || {
+            format!("sheet {} positions {positions:?}", hexadecimal(&sheet))
+        });
+    }
+}
+
 /// The size with that number: each measure 1 or 2.
 fn size(number: usize) -> [u32; 3] {
     [0, 1, 2].map(|axis| 1 + (number >> axis & 1) as u32)
@@ -86,6 +130,7 @@ pub fn all(report: &mut Report, random: &mut Random) {
             lags: vec![0; precedences.len()],
             precedences,
             yard_number: 0,
+            walkway: 0,
         };
         if number < 8 {
             one(report, &instance(0, vec![]));
@@ -120,7 +165,7 @@ pub fn with_lags(report: &mut Report, random: &mut Random) {
         let items = [number / 12 % 4, number / 48 % 4].map(|way| [measure(way % 2), 1, measure(way / 2)]).to_vec();
         for lag in 1..5 {
             let precedences = vec![[(0, 1), (1, 0)][number / 192]];
-            one(report, &Instance { container, items: items.clone(), precedences, lags: vec![lag], yard_number: 0 });
+            one(report, &Instance { container, items: items.clone(), precedences, lags: vec![lag], yard_number: 0, walkway: 0 });
         }
     }
     for _ in 0..6000 {
@@ -131,6 +176,39 @@ pub fn with_lags(report: &mut Report, random: &mut Random) {
         let precedences = if random.one_in(6) { some_orders(random, &PAIRS) } else { some_orders(random, &one_way) };
         let most = random.between(1, 4);
         let lags = precedences.iter().map(|_| random.below(most + 1) as u32).collect();
-        one(report, &Instance { container, items, precedences, lags, yard_number: 0 });
+        one(report, &Instance { container, items, precedences, lags, yard_number: 0, walkway: 0 });
+    }
+}
+
+/// Halls with walkways of 1 to 3: all rows of up to 7 modules on x or on y for one or two shifts with two items, and some floors with two to four
+/// items, with orders and lags in half of them.
+pub fn with_walkways(report: &mut Report, random: &mut Random) {
+    let measure = |number: usize| 1 + number as u32;
+    for number in 0..7 * 2 * 4 * 4 * 2 {
+        let turned = number / 224 == 1;
+        let along = |length: u32, shifts: u32| if turned { [1, length, shifts] } else { [length, 1, shifts] };
+        let container = along(measure(number % 7), measure(number / 7 % 2));
+        let items = [number / 14 % 4, number / 56 % 4].map(|way| along(measure(way % 2), measure(way / 2))).to_vec();
+        for walkway in 1..4 {
+            let instance = Instance { container, items: items.clone(), precedences: vec![], lags: vec![], yard_number: 0, walkway };
+            one(report, &instance);
+            by_cells(report, random, &instance, 3);
+        }
+    }
+    let floors = [[5, 1, 2], [4, 2, 1], [3, 3, 1], [4, 3, 1], [3, 3, 2], [1, 6, 2], [2, 4, 2], [7, 1, 1], [3, 1, 4], [2, 1, 5]];
+    for _ in 0..5000 {
+        let container = random.pick(&floors);
+        let cells: u32 = container.iter().product();
+        let count = if cells <= 9 { random.between(2, 4) } else { random.between(2, 3) };
+        let items: Vec<[u32; 3]> = (0..count).map(|_| container.map(|most| random.between(1, 2.min(most as usize)).min(random.between(1, 2)) as u32)).collect();
+        let precedences = match (random.one_in(2), count) {
+            (true, 2) => vec![random.pick(&[(0, 1), (1, 0)])],
+            (true, _) => some_orders(random, &[(0, 1), (0, 2), (1, 2)]),
+            _ => vec![],
+        };
+        let lags = precedences.iter().map(|_| random.below(3) as u32).collect();
+        let instance = Instance { container, items, precedences, lags, yard_number: 0, walkway: random.pick(&[1, 1, 1, 2, 3]) };
+        one(report, &instance);
+        by_cells(report, random, &instance, 3);
     }
 }

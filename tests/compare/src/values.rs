@@ -42,6 +42,7 @@ fn value_of(random: &mut Random, instance: &Instance) -> Value {
         precedences: [0; MOST_PRECEDENCES].map(|_| if blank { (0, 0) } else { any_order(random) }),
         lags: [0; MOST_PRECEDENCES].map(|_| if blank { 0 } else { any_lag(random) }),
         yard_number: instance.yard_number,
+        walkway: instance.walkway,
     };
     value.items[..instance.items.len()].copy_from_slice(&instance.items);
     value.precedences[..instance.precedences.len()].copy_from_slice(&instance.precedences);
@@ -125,6 +126,13 @@ fn with_lags_changed(random: &mut Random, value: &mut Value) -> &'static str {
     "values with lags changed"
 }
 
+/// Another walkway: any byte is one, and 9 has nothing to say of it.
+fn with_walkway_changed(random: &mut Random, value: &mut Value) -> &'static str {
+    let byte = random.byte() as u32;
+    value.walkway = random.pick(&[0, 1, 2, 127, 128, 255, byte]);
+    "values with another walkway"
+}
+
 /// The value changed in one way, and what the change is.
 fn changed(random: &mut Random, value: &Value, way: usize) -> (&'static str, Value) {
     let mut value = value.clone();
@@ -141,6 +149,7 @@ fn changed(random: &mut Random, value: &Value, way: usize) -> (&'static str, Val
         3 => with_order_changed(random, &mut value),
         4 => with_lags_changed(random, &mut value),
         5 => with_large_measure(random, &mut value),
+        6 => with_walkway_changed(random, &mut value),
         _ if random.one_in(2) => {
             value.item_count = random.below(MOST_ITEMS + 1) as u64;
             "values with another count of items"
@@ -266,7 +275,38 @@ pub fn by_hand(report: &mut Report) {
 
 /// Two items in a hall of 4,095.
 fn pair() -> Instance {
-    Instance { container: [4095; 3], items: vec![[2, 3, 4]; 2], precedences: vec![(0, 1)], lags: vec![255], yard_number: 65535 }
+    Instance { container: [4095; 3], items: vec![[2, 3, 4]; 2], precedences: vec![(0, 1)], lags: vec![255], yard_number: 65535, walkway: 0 }
+}
+
+/// Two items of 2 x 3 x 4 in a hall of 9, each walkway with whether the second may stand at 4, 0, 0: 2 modules from the first. The clearance is
+/// 2 whatever the walkway; and the sheet has a byte more where it is above 0.
+const WALKWAYS_BY_HAND: &[(u32, u32)] = &[(0, 1), (1, 1), (2, 1), (3, 0), (128, 0), (255, 0)];
+
+pub fn walkways_by_hand(report: &mut Report) {
+    let kind = "values with a walkway, by hand";
+    let starts: Vec<Position> = (0..MOST_ITEMS as u32).map(|item| [4 * item, 0, 0]).collect();
+    for &(walkway, fits) in WALKWAYS_BY_HAND {
+        let two = Instance { container: [9; 3], items: vec![[2, 3, 4]; 2], precedences: vec![], lags: vec![], yard_number: 0, walkway };
+        let value = value_of(&mut Random::new(1, 0), &two);
+        let (bytes, plan) = (value_bytes(&value), plan_bytes(&starts));
+        report.same(kind, &(fits, Ok(fits)), &(value::check(&value, &starts), library::check_value(&bytes, &plan)), || shown(&value));
+        for (u, v, axis, clearance) in [(0, 1, 0, 2), (1, 0, 0, 2), (0, 1, 1, -3), (1, 0, 2, -4), (1, 1, 0, -2)] {
+            let own = value::clearance(&value, &starts, u, v, axis);
+            let got = library::clearance(&bytes, &plan, u, v, axis as u8);
+            report.same(kind, &(Ok(clearance), Ok((clearance, 0, 0))), &(own, got), || shown(&value));
+        }
+        let mut sheet = vec![15, 9, 0, 9, 0, 9, 0, 2, 7, 2, 0, 3, 0, 4, 0, 7, 2, 0, 3, 0, 4, 0];
+        if walkway > 0 {
+            sheet[0] += 128;
+            sheet.push(walkway as u8);
+        }
+        let written = library::write_value(&bytes, &vec![7; sheet.len()]);
+        let expected = Written { length: sheet.len(), number: 0, place: 0, room: sheet.clone() };
+        report.same(kind, &Ok(expected), &written, || shown(&value));
+        let shorter = vec![7; sheet.len() - 1];
+        let refused = Written { length: 0, number: 8, place: 0, room: shorter.clone() };
+        report.same(kind, &Ok(refused), &library::write_value(&bytes, &shorter), || shown(&value));
+    }
 }
 
 /// Everything about the value of one instance.
@@ -282,7 +322,7 @@ pub fn values(report: &mut Report, random: &mut Random, instance: &Instance, run
     for room in (near..len + 3).chain([0, len + random.below(40)]) {
         write(report, random, &own, room);
     }
-    for way in 0..7 {
+    for way in 0..8 {
         let (kind, other) = changed(random, &own, way);
         report.count(kind);
         report.count(if value::instance_of(&other).is_ok() { "changed values that stand" } else { "changed values refused by 9" });

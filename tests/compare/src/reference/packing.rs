@@ -11,9 +11,11 @@ fn end(instance: &Instance, positions: &[Position], item: usize, axis: usize) ->
     positions[item][axis] + instance.items[item][axis]
 }
 
-/// "one ends at or before the other's start (touching is allowed)"
+/// "one ends at or before the other's start"; request #105: "Apart on x or y then means that one ends at least the walkway before the other's
+/// start"
 fn ends_before(instance: &Instance, positions: &[Position], u: usize, v: usize, axis: usize) -> bool {
-    end(instance, positions, u, axis) <= positions[v][axis]
+    let passage = if axis == TIME { 0 } else { instance.walkway };
+    end(instance, positions, u, axis) + passage <= positions[v][axis]
 }
 
 pub fn is_feasible(instance: &Instance, positions: &[Position]) -> bool {

@@ -4,12 +4,13 @@ use super::packing::TIME;
 use super::sheet::Instance;
 
 /// What counts between u and v: "On t a chain total adds the lag between neighbours that have an order, and rule 5's sum adds it between
-/// u and v." An order that only follows from others is none of the sheet's.
+/// u and v." An order that only follows from others is none of the sheet's. "On x and y a chain counts a walkway between neighbours, and rule
+/// 5's sum one between u and v."
 fn gap(instance: &Instance, axis: usize, u: usize, v: usize) -> u32 {
     if axis == TIME {
         instance.lag(u, v)
     } else {
-        0
+        instance.walkway
     }
 }
 

@@ -1,5 +1,5 @@
-//! "Sheet bytes" and "Refusals", with request #101's lags and #104's greatest measure: reading and writing instances, and the records of
-//! their items.
+//! "Sheet bytes" and "Refusals", with request #101's lags, #104's greatest measure and #105's walkway: reading and writing instances, and the
+//! records of their items.
 
 use std::ops::Range;
 
@@ -7,8 +7,8 @@ pub const MOST_ITEMS: usize = 10;
 pub const MOST_PRECEDENCES: usize = 90;
 /// "Make 4,095 the greatest measure of halls and pieces."
 pub const GREATEST_MEASURE: u32 = 4095;
-/// "The longest sheet is 351 bytes"
-pub const LONGEST_SHEET: usize = 351;
+/// "The longest sheet is 352 bytes"
+pub const LONGEST_SHEET: usize = 352;
 
 /// A number of the table of refusals, with the place that is returned beside it.
 #[derive(Clone, Copy, PartialEq, Eq, Debug)]
@@ -30,6 +30,8 @@ pub struct Instance {
     /// "one .. for each order in its sequence"
     pub lags: Vec<u32>,
     pub yard_number: u32,
+    /// "left out means 0 and pieces may touch"
+    pub walkway: u32,
 }
 
 impl Instance {
@@ -80,7 +82,7 @@ impl Reader<'_> {
         Ok(measure)
     }
 
-    /// 2: "a bit stands that has no meaning"
+    /// 2: "a bit stands that has no meaning". The first map byte has none without one.
     fn map(&mut self, bits: usize) -> Result<Vec<bool>, Refusal> {
         let place = self.at;
         let byte = self.byte()?;
@@ -125,12 +127,22 @@ impl Reader<'_> {
         }
         Ok(lags)
     }
+
+    /// "its width, one byte, 1 to 255"; "3 covers a written width of 0"
+    fn walkway(&mut self) -> Result<u32, Refusal> {
+        let place = self.at;
+        let width = self.byte()? as u32;
+        if width == 0 {
+            return refuse(3, place);
+        }
+        Ok(width)
+    }
 }
 
 /// The instance, and the part of the sheet that is each item's record.
 pub fn read_with_records(sheet: &[u8]) -> Result<(Instance, Vec<Range<usize>>), Refusal> {
     let mut reader = Reader { sheet, at: 0 };
-    let standing = reader.map(7)?;
+    let standing = reader.map(8)?;
     let container = reader.size(&standing)?;
     let mut items = Vec::new();
     let mut records = Vec::new();
@@ -160,10 +172,12 @@ pub fn read_with_records(sheet: &[u8]) -> Result<(Instance, Vec<Range<usize>>), 
     let yard_number = if standing[5] { reader.field(1)? } else { 0 };
     // "The field follows the yard number"; "left out, they are all 0"
     let lags = if standing[6] { reader.lags(precedences.len())? } else { vec![0; precedences.len()] };
+    // "last on the sheet"
+    let walkway = if standing[7] { reader.walkway()? } else { 0 };
     if reader.at < sheet.len() {
         return refuse(7, reader.at);
     }
-    let instance = Instance { container, items, precedences, lags, yard_number };
+    let instance = Instance { container, items, precedences, lags, yard_number, walkway };
     Ok((instance, records))
 }
 
@@ -224,6 +238,10 @@ pub fn encode(instance: &Instance) -> Vec<u8> {
     if instance.lags.iter().any(|&lag| lag > 0) {
         map |= 64;
         fields.extend(instance.lags.iter().map(|&lag| lag as u8));
+    }
+    if instance.walkway > 0 {
+        map |= 128;
+        fields.push(instance.walkway as u8);
     }
     fields.insert(0, map);
     fields

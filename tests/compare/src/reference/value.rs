@@ -15,6 +15,7 @@ pub struct Value {
     /// "Lags past the count of orders are no part of a sheet value."
     pub lags: [u32; MOST_PRECEDENCES],
     pub yard_number: u32,
+    pub walkway: u32,
 }
 
 /// 9: "a sheet value with over 10 pieces, over 90 orders, a measure 0, or an order that would get 5 or 6"; a measure above 4,095: "9 covers
@@ -38,7 +39,7 @@ pub fn instance_of(value: &Value) -> Result<Instance, Refusal> {
             return refuse(9, 0);
         }
     }
-    Ok(Instance { container: value.container, items, precedences, lags, yard_number: value.yard_number })
+    Ok(Instance { container: value.container, items, precedences, lags, yard_number: value.yard_number, walkway: value.walkway })
 }
 
 /// "Check returns 0 no, 1 yes, 100 plus the number for a refusal"; "Ten positions are held; those past the sheet's count are ignored".
