@@ -52,11 +52,11 @@ static int read_sheet(const char *hex)
 
 int main(void)
 {
-    char name[64], hex[704];
+    char name[64], hex[2 * HALLPLAN_MAX_SHEET_BYTES + 1];
     unsigned count;
     puts("| sheet | branches deep | opening, ns | there, allowance 0, ns | a branch, ns | a step of 1000 there, ns |");
     puts("|---|---|---|---|---|---|");
-    while (scanf("%63s %703s %u", name, hex, &count) == 3 && read_sheet(hex)) {
+    while (scanf("%63s %704s %u", name, hex, &count) == 3 && read_sheet(hex)) {
         size_t plan_len = 0;
         while (plan_len <= sizeof plan && call((uint8_t[HALLPLAN_NOTE_BYTES]){0}, 0, plan_len) == HALLPLAN_REFUSED + 8) {
             plan_len += HALLPLAN_PIECE_BYTES;
