@@ -32,7 +32,7 @@ lag-bound (o ∷ l) u v c f =
     ]) refl in
     omega (arith, one, lag-bound l u v c (λ x m. f x (List·Memᴰ·tail m)))
 
--- so is what lies between, where it is also no less than the spacing
+-- so is what lies between, where the bound is also no less than the spacing
 gap-bound : (p : Problem) (a u v c : ℕ) → spacing p a ≤ c
     → ((o : Precedence) → List·Memᴰ o (p .precedences) → a ≡ time → o .predecessor ≡ u → o .successor ≡ v → o .lag ≤ c) → gap p a u v ≤ c
 unfolding gap spacing

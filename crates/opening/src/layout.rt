@@ -59,8 +59,8 @@ fn put_item(t: &mut [u16; TOTALS], u: usize, size: Size)
     put_size(t, 20 + u, size.shifts);
 }
 
-// The measures of an instance with its walkway, 0 past its items, with chains of one item each. The container has one walkway more than there are between
-// its walls: the one behind the last item.
+// The measures of an instance with its walkway, 0 past its items, with chains of one item each. The container is longer by one walkway: the one
+// behind the last item.
 fn put_items(t: &mut [u16; TOTALS], instance: Instance)
     requires { ⌜ (now t ≡ replicate 696 0) × (valid instance ≡ true) ⌝ }
     ensures { λ _. ⌜ LaidOut (wide (problem-of instance)) (now (t .exit)) × Measures (now (t .exit)) ⌝ }
