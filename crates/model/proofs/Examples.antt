@@ -1,5 +1,5 @@
 -- Document 01's "Plausible errors", each refuted by a small example, halls with lags, pairs by number and earliest finishes (document 02, #101 to #103); by
--- computation.
+-- computation. Halls with a walkway and with items that may be turned too (#105, #106).
 use Rattle.prelude.specs.Names.{Bool, true, false, cond, _&&_, List, [], _∷_, List·Memᴰ·not-nil, _≡_, refl, ℕ, zero, suc, _+_, _*_, arith, leb, ltb}
 use Rattle.prelude.specs.Names.{getD, map, leb-true}
 use Rattle.model.specs.Below.{all-below}
@@ -8,11 +8,13 @@ use Rattle.model.specs.Pairs.{Pair, pair-number, pair-of}
 use Rattle.model.specs.Domains.{Domains, may-before, may-overlap, remove-overlap, fix-before, fix-overlap, full-domains}
 use Rattle.model.specs.Rules.{rule4}
 use Rattle.model.specs.Propagate.{propagate}
+use Rattle.model.specs.Turning.{Turnable, last-choice}
+use Rattle.model.specs.Series.{stage}
 use Rattle.model.specs.Search.{infeasible}
 use Rattle.model.specs.Calls.{budget-spent, no-packing, packing}
 use Rattle.model.specs.Run.{run-end}
 use Rattle.model.specs.Earliest.{Finish, earliest-finish}
-use Rattle.model.specs.Trials.{Triple, TrialCall, Trial, trial, trial-with, problem, xyt, unit, with-budget, trial-right}
+use Rattle.model.specs.Trials.{Triple, TrialCall, Trial, trial, trial-with, trial-turning, problem, turnable, xyt, unit, with-budget, trial-right}
 use Rattle.model.specs.Admits.{Sound}
 use Rattle.model.proofs.Feasible.{all-all}
 use Rattle.model.proofs.Theorems.{infeasible-exactly}
@@ -37,7 +39,11 @@ two-squares = problem (trial (xyt 3 3 1) (xyt 2 2 1 ∷ xyt 2 2 1 ∷ []) [] [])
 pub areas-fit-there : areas-fit two-squares (at-starts []) ≡ true
 areas-fit-there = refl
 
-pub two-squares-infeasible : run-end two-squares ≡ infeasible
+-- with items that are not turned
+abbrev as-given : Problem → Turnable
+as-given p = record { given = p; may-turn = λ u. false }
+
+pub two-squares-infeasible : run-end (as-given two-squares) ≡ stage 0 infeasible
 unfolding trial-right run-end
 two-squares-infeasible = refl
 
@@ -50,7 +56,9 @@ two-squares-sound = record {
 
 -- so no packing of them is feasible
 pub areas-do-not-suffice : (q : Positions) → Feasible two-squares q → ⊥
-areas-do-not-suffice = infeasible-exactly two-squares two-squares-sound .0 two-squares-infeasible
+unfolding last-choice
+areas-do-not-suffice q f = infeasible-exactly (as-given two-squares) two-squares-sound .0 two-squares-infeasible
+    (record { positions = q; marks = λ u. false }) (record { allowed = λ u h e. e; feasible = f })
 
 -- "Rule 4 used when only three of the four overlaps are known". On x ab, bc, cd overlap, da and ac do not, and b ends at the start of d
 abbrev pub four-in-line : Problem
@@ -211,11 +219,11 @@ sequence-numbers = refl
 
 -- The earliest finish. Three items of 1×1×1 in a hall of 1×1×4; order 0, 1 with lag 1. The lengths 1 and 2 are impossible after a step each, and 3 is placed
 -- after one more; spent comes with the lengths shown, and an empty sheet has length 1 once a step is allowed
-abbrev between-shifts : Problem
-between-shifts = problem (trial (xyt 1 1 4) (unit ∷ unit ∷ unit ∷ []) (order 0 1 1 ∷ []) [])
+abbrev between-shifts : Turnable
+between-shifts = turnable (trial (xyt 1 1 4) (unit ∷ unit ∷ unit ∷ []) (order 0 1 1 ∷ []) [])
 
-abbrev empty-hall : Problem
-empty-hall = problem (trial (xyt 1 1 4) [] [] [])
+abbrev empty-hall : Turnable
+empty-hall = turnable (trial (xyt 1 1 4) [] [] [])
 
 -- answer (0 spent, 1 placed, 2 none), length, steps
 abbrev told : Finish → Triple
@@ -232,6 +240,48 @@ unfolding trial-right earliest-finish
 finishes-empty = refl
 
 -- no length of a hall that is too narrow has a packing
-pub finishes-none : told (earliest-finish (problem (trial (xyt 1 1 2) (xyt 2 1 1 ∷ []) [] [])) 2) ≡ (2 ∷ 0 ∷ 2 ∷ [])
+pub finishes-none : told (earliest-finish (turnable (trial (xyt 1 1 2) (xyt 2 1 1 ∷ []) [] [])) 2) ≡ (2 ∷ 0 ∷ 2 ∷ [])
 unfolding trial-right earliest-finish
 finishes-none = refl
+
+-- Items that may be turned. An item of 2×1×1 in a hall of 1×2×1 is too wide as it is given: one step opens the choice in which it is turned, and the next
+-- places
+-- it. Where it may not turn, the one step says none
+abbrev turned-at : ℕ → ℕ → ℕ → Triple
+turned-at x y t = x ∷ y ∷ t ∷ 1 ∷ []
+
+pub fits-turned : trial-right (trial-turning (xyt 1 2 1) (xyt 2 1 1 ∷ []) (true ∷ [])
+    (with-budget 1 budget-spent 1 ∷ with-budget 9 (packing (turned-at 0 0 0 ∷ [])) 1 ∷ [])) ≡ true
+unfolding trial-right
+fits-turned = refl
+
+pub may-not-turn : trial-right (trial-turning (xyt 1 2 1) (xyt 2 1 1 ∷ []) (false ∷ []) (with-budget 9 no-packing 1 ∷ [])) ≡ true
+unfolding trial-right
+may-not-turn = refl
+
+-- "the lowest-numbered turnable piece being the lowest binary digit": in a hall of 3×1×1 the second of two items has to be turned, which is choice 2. Choices 0
+-- and 1 take a step each, choice 2 takes two
+pub second-turned : trial-right (trial-turning (xyt 3 1 1) (unit ∷ xyt 1 2 1 ∷ []) (true ∷ true ∷ [])
+    (with-budget 2 budget-spent 2 ∷ with-budget 1 budget-spent 1 ∷ with-budget 9 (packing (xyt 0 0 0 ∷ turned-at 1 0 0 ∷ [])) 1 ∷ [])) ≡ true
+unfolding trial-right
+second-turned = refl
+
+-- an item that may not turn has no digit: with one of them between, the same is choice 2 of four
+pub no-digit-between : trial-right (trial-turning (xyt 4 1 1) (unit ∷ unit ∷ xyt 1 2 1 ∷ []) (true ∷ false ∷ true ∷ [])
+    (with-budget 2 budget-spent 2 ∷ with-budget 99 (packing (xyt 0 0 0 ∷ xyt 1 0 0 ∷ turned-at 2 0 0 ∷ [])) 4 ∷ [])) ≡ true
+unfolding trial-right
+no-digit-between = refl
+
+-- "square pieces count too": two units are too many for one place in each of four choices
+pub squares-count : trial-right (trial-turning unit (unit ∷ unit ∷ []) (true ∷ true ∷ []) (with-budget 9 no-packing 4 ∷ with-budget 9 no-packing 0 ∷ [])) ≡ true
+unfolding trial-right
+squares-count = refl
+
+-- the earliest finish goes through all choices at each length: two items of 2×1×1 take the floor of 1×2 in turn, each turned. Length 1 has four choices of
+-- a step;
+-- length 2 three, and two steps in the last
+pub finishes-turned :
+    map (λ budget. told (earliest-finish (turnable (trial-turning (xyt 1 2 3) (xyt 2 1 1 ∷ xyt 2 1 1 ∷ []) (true ∷ true ∷ []) [])) budget)) (3 ∷ 4 ∷ 8 ∷ 9 ∷ [])
+    ≡ (0 ∷ 0 ∷ 3 ∷ []) ∷ (0 ∷ 1 ∷ 4 ∷ []) ∷ (0 ∷ 1 ∷ 8 ∷ []) ∷ (1 ∷ 2 ∷ 9 ∷ []) ∷ []
+unfolding trial-right earliest-finish
+finishes-turned = refl

@@ -24,7 +24,9 @@ pub mod Clauses
 pub mod Packed
 pub mod Path
 pub mod Removals
+pub mod Turning
 pub mod Machine
+pub mod Series
 pub mod Run
 pub mod Calls
 pub mod Lists

@@ -109,3 +109,13 @@ module _ {S : Type 0} (M : Machine S) where
   -- a way to a finished state counts the steps
   pub way-counts : {i : ℕ} {κ μ : S} → Finished M μ → Way M i κ μ → Count M κ i
   way-counts f p = record { finished = subst (Finished M) (sym (way-ends p)) f; before = way-open p }
+
+  -- and the other way round
+  pub count-way : (c : ℕ) (κ : S) → Count M κ c → Way M c κ (steps M c κ)
+  count-way zero κ k = no-steps
+  count-way (suc c) κ k =
+      let o = k .before zero (omega arith) in
+      subst (Way M (suc c) κ) (sym (steps-open M c κ o)) (step-then o (count-way c (M .step κ) (record {
+        finished = subst (Finished M) (steps-open M c κ o) (k .finished);
+        before = λ j h. subst (Open M) (steps-open M j κ o) (k .before (suc j) (omega arith));
+      })))

@@ -1,17 +1,19 @@
 -- What a path's outlook says of its domains, and the laws that the search needs of paths.
-use Rattle.prelude.specs.Names.{Bool, true, false, List, [], _≡_, refl, subst, _*_, _-_, _≤_, arith, leb, leb-true}
+use Rattle.prelude.specs.Names.{Bool, true, false, List, [], _⊎_, inl, inr, _≡_, refl, ap, subst, ℕ, _*_, _-_, _≤_, arith, leb, leb-true}
 use Rattle.model.specs.Problem.{Problem, Positions, Feasible}
-use Rattle.model.specs.Branching.{Branch, inconsistent, packed, path-domains}
+use Rattle.model.specs.Branching.{Branch, inconsistent, packed, path-domains, plan}
 use Rattle.model.specs.Admits.{Sound, Admits}
 use Rattle.model.specs.Weight.{weight}
-use Rattle.model.specs.Search.{Outlook, conflict, complete, fork, opening, path-count, Laws}
-use Rattle.model.specs.Run.{outlook, look, machine, path-limit, step-count}
+use Rattle.model.specs.Machine.{failed, succeeded, steps}
+use Rattle.model.specs.Search.{Outlook, conflict, complete, fork, infeasible, packed-at, status, opening, Follows, path-count, Laws}
+use Rattle.model.specs.Run.{outlook, look, tree-machine, tree-count, path-limit}
 use Rattle.model.proofs.Below.{all-at, clash}
 use Rattle.model.proofs.Weight.{weight-bound}
-use Rattle.model.proofs.Path.{path-fork, path-weight, path-split, root-admits}
+use Rattle.model.proofs.Path.{path-fork, path-weight, path-split, root-admits, plan-feasible}
 use Rattle.model.proofs.Sound.{admitted-consistent}
 use Rattle.model.proofs.Run.{Ends, ends}
 use Rattle.model.proofs.Machine.{taken-is}
+use Rattle.model.proofs.Series.{Decides}
 
 -- what the tests say where a path shows this or that
 abbrev Seen : Outlook → Bool → Bool → Type 0
@@ -68,11 +70,34 @@ search-laws p σ = record {
 pub limit-270 : (p : Problem) → p .items ≤ 10 → path-limit p ≤ 270
 limit-270 p h = leb-true _ _ (all-at 11 (λ n. leb (3 * (n * (n - 1))) 270) refl (p .items) (omega arith))
 
--- the run ends, and the step count is its number of steps
+-- the search of one problem ends, and its count is its number of steps
 module _ (p : Problem) (σ : Sound p) where
   pub ended : Ends (look p) (search-laws p σ) (path-limit p)
   ended = ends (look p) (search-laws p σ) (path-limit p) (weight-bound p (path-domains p []))
 
-  pub count-is : step-count p ≡ ended .count
-  unfolding step-count
-  count-is = omega (arith, taken-is (machine p) (path-count (path-limit p)) (ended .count) opening (ended .counts), ended .bounded)
+  pub count-is : tree-count p ≡ ended .count
+  unfolding tree-count
+  count-is = omega (arith, taken-is (tree-machine p) (path-count (path-limit p)) (ended .count) opening (ended .counts), ended .bounded)
+
+  pub count-bounded : tree-count p ≤ path-count (path-limit p)
+  count-bounded = omega (arith, count-is, ended .bounded)
+
+  -- a packed checkpoint that follows its problem has feasible starts, whether the search comes to it or not
+  pub starts-feasible : (path : List Branch) → Follows (look p) (packed-at path) → Feasible p (plan p path)
+  starts-feasible path f = let (i, c) = look-complete p path (f .1) in plan-feasible p σ path i c
+
+  -- it decides whether there is a feasible packing
+  pub tree-decides : Decides (tree-machine p) (FeasiblePacking p) (tree-count p)
+  tree-decides = rw count-is (record { opens = tt; counts = ended .counts; none = none-of (ended .end); some = some-of (ended .end) })
+    where
+      End : Type 0
+      End = ((steps (tree-machine p) (ended .count) opening ≡ infeasible) × (FeasiblePacking p → ⊥))
+          ⊎ ((path : List Branch) × (steps (tree-machine p) (ended .count) opening ≡ packed-at path) × Follows (look p) (packed-at path))
+
+      none-of : End → status (steps (tree-machine p) (ended .count) opening) ≡ failed → FeasiblePacking p → ⊥
+      none-of (inl (e, f)) s x = f x
+      none-of (inr (path, e, f)) s x = let z : _≡_ {A = ℕ} 0 1 = cc (ap status e) in omega arith
+
+      some-of : End → status (steps (tree-machine p) (ended .count) opening) ≡ succeeded → FeasiblePacking p
+      some-of (inl (e, f)) s = let z : _≡_ {A = ℕ} 0 1 = cc (ap status e) in absurd (omega arith)
+      some-of (inr (path, e, f)) s = (plan p path, starts-feasible path f)

@@ -5,7 +5,8 @@ use Rattle.model.specs.Problem.{Problem}
 use Rattle.model.specs.Domains.{Domains, may-overlap, may-before, remove-overlap, remove-before, gone, without, fix-overlap}
 use Rattle.model.specs.Branching.{undecided, choice, Branch, first, second, branch-at, branched}
 use Rattle.model.specs.Order.{Proper, Rising, WellFormed, _⊑_, Fork}
-use Rattle.model.specs.Weight.{sum-below, sum-slots, relations, weight}
+use Rattle.model.specs.Below.{sum-below}
+use Rattle.model.specs.Weight.{sum-slots, relations, weight}
 use Rattle.model.proofs.Below.{Implies}
 use Rattle.model.proofs.Pairs.{squares}
 use Rattle.model.proofs.Slots.{proper-sym}

@@ -1,5 +1,5 @@
 -- Tests over the numbers below n and over the elements of a list.
-use Rattle.prelude.specs.Names.{Bool, true, false, List, [], _∷_, ℕ, zero, suc, max}
+use Rattle.prelude.specs.Names.{Bool, true, false, List, [], _∷_, ℕ, zero, suc, _+_, max}
 
 -- some number below n passes
 abbrev pub some-below : ℕ → (ℕ → Bool) → Bool
@@ -10,6 +10,11 @@ some-below (suc n) f = elim (f n) [ true ↦ true | false ↦ some-below n f ]
 abbrev pub all-below : ℕ → (ℕ → Bool) → Bool
 all-below zero f = true
 all-below (suc n) f = elim (f n) [ true ↦ all-below n f | false ↦ false ]
+
+-- f 0 + .. + f (n - 1)
+abbrev pub sum-below : ℕ → (ℕ → ℕ) → ℕ
+sum-below zero f = 0
+sum-below (suc n) f = sum-below n f + f n
 
 -- the greatest f i with i below n, 0 if there is none
 abbrev pub most-below : ℕ → (ℕ → ℕ) → ℕ

@@ -9,7 +9,8 @@ use Rattle.model.specs.Rules.{asks-before}
 use Rattle.model.specs.Propagate.{slot-at, kept, pass, passes, propagate}
 use Rattle.model.specs.Branching.{opening-domains, empty, inconsistent, separated, packed, undecided, choice-number, choice-axis, choice}
 use Rattle.model.specs.Branching.{branched, path-domains, starts, plan}
-use Rattle.model.specs.Run.{look, step-count}
+use Rattle.model.specs.Turning.{marks-of, last-choice}
+use Rattle.model.specs.Run.{look, tree-count, step-count}
 
 unfoldable pub search-computing : Unit {0}
 unfolding spacing ends-ahead ends-before gap inside-test apart-on-some-axis apart-test ordered-test feasible
@@ -18,5 +19,5 @@ unfolding spacing ends-ahead ends-before gap inside-test apart-on-some-axis apar
     joined ending starting greatest-ending greatest-starting rule1 rule2 rule3 rule4 rule5 asks-overlap asks-before
     slot-at kept pass passes propagate
     opening-domains empty inconsistent separated packed undecided choice-number choice-axis choice branched path-domains starts plan
-    look step-count
+    marks-of last-choice look tree-count step-count
 search-computing = tt

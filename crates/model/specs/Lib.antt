@@ -3,6 +3,7 @@ pub mod Below
 pub mod Pairs
 pub mod Problem
 pub mod Domains
+pub mod Turning
 pub mod Rules
 pub mod Chain
 pub mod Propagate
@@ -18,6 +19,7 @@ pub mod Weight
 pub mod Toward
 pub mod Wide
 pub mod Machine
+pub mod Series
 pub mod Search
 pub mod Calls
 pub mod Lists

@@ -1,12 +1,8 @@
 -- How much can still be removed: the relations left over one, summed. Each branch removes one, so that a path is no longer than this.
-use Rattle.prelude.specs.Names.{cond, ℕ, zero, suc, pred, _+_}
+use Rattle.prelude.specs.Names.{cond, ℕ, pred, _+_}
+use Rattle.model.specs.Below.{sum-below}
 use Rattle.model.specs.Problem.{Problem}
 use Rattle.model.specs.Domains.{Domains, may-overlap, may-before}
-
--- f 0 + .. + f (n - 1)
-abbrev pub sum-below : ℕ → (ℕ → ℕ) → ℕ
-sum-below zero f = 0
-sum-below (suc n) f = sum-below n f + f n
 
 -- over the axes and the pairs of items below n
 abbrev pub sum-slots : ℕ → (ℕ → ℕ → ℕ → ℕ) → ℕ
