@@ -3,7 +3,7 @@ use Rattle.prelude.specs.Names.{_≡_, refl, sym, ap, _∙_, subst, Bool, true,
 use Rattle.prelude.specs.Names.{append-nil, ℕ, zero, suc, _+_, _*_, _/_, _%_, _<_, arith, add-zero, zero-add, add-assoc, length, length-append}
 use Rattle.prelude.specs.Names.{getD-append-add, not-true}
 use Rattle.formats.specs.Reading.{Reading, done, due, end, _>>=_, got, run, Bytes}
-use Rattle.formats.specs.Formats.{Format, byte, word, pair, converted, Test, testing, passes-all, tested, keyed, row-bytes, row-reading}
+use Rattle.formats.specs.Formats.{Format, byte, word, presence, pair, converted, Test, testing, passes-all, tested, keyed, row-bytes, row-reading}
 use Rattle.formats.specs.Formats.{row-valid, row, count, counted, whole}
 use Rattle.formats.proofs.Run.{after-same, run-then, never-both, cond-got, after-got, run-length}
 
@@ -90,6 +90,10 @@ word-lawful = lawful
       refl,
       let p : (y + 256 * z) % 256 ≡ y = omega arith in let q : (y + 256 * z) / 256 ≡ z = omega arith in rw (p, q),
     ))))
+
+pub presence-lawful : Lawful presence
+unfolding presence run
+presence-lawful = lawful (λ b v at rest. rw (v, add-zero)) (done-only (refl, refl))
 
 pub pair-lawful : {A B : Type 0} {f : Format A} {g : Format B} → Lawful f → Lawful g → Lawful (pair f g)
 unfolding pair run

@@ -5,7 +5,7 @@ use Rattle.prelude.specs.Names.{_+_, _≤_, _<_, min, arith, eq-or-lt-of-le, ad
 use Rattle.prelude.specs.Names.{eqb-true, eq-eqb, ltb-true, lt-ltb, leb-true, le-leb}
 use Rattle.refusal.specs.declared.Refusal.{Refusal}
 use Rattle.refusal.specs.declared.Refusal.the-variants.{EndsEarly, UnknownBit, WrittenDefault, BadCount, BadItem, NotRising, TrailingBytes}
-use Rattle.refusal.specs.declared.Refusal.the-variants.{BadArgument, InvalidInstance, NotFollowing, NoLag, TooLarge}
+use Rattle.refusal.specs.declared.Refusal.the-variants.{BadArgument, InvalidInstance, NotFollowing, NoLag, TooLarge, BadMark}
 use Rattle.refusal.specs.Numbers.{place-of}
 use Rattle.formats.specs.Reading.{Reading, done, due, end, _>>=_, Read, got, refused, run, Before}
 use Rattle.formats.specs.Formats.{up-to, Format, byte, Test, testing, tested, row-reading, count, whole}
@@ -50,6 +50,7 @@ no-lag-first InvalidInstance = inr (inr (refl, omega arith))
 no-lag-first NotFollowing = inr (inr (refl, omega arith))
 no-lag-first (NoLag p) = inl refl
 no-lag-first (TooLarge p) = inr (inr (refl, omega arith))
+no-lag-first BadMark = inr (inr (refl, omega arith))
 
 -- 12 is "after 3"
 pub default-before-large : (at : ℕ) → Before (WrittenDefault at) (TooLarge at)

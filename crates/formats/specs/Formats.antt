@@ -20,6 +20,10 @@ word = record {
   valid = λ v. true;
 }
 
+-- no bytes: what is there is true
+unfoldable pub presence : Format Bool
+presence = record { reading = done true; bytes = λ b. []; valid = λ b. b }
+
 -- one after the other
 unfoldable pub pair : {A B : Type 0} → Format A → Format B → Format (A × B)
 pair f g = record {

@@ -4,3 +4,4 @@ pub mod Sheets
 pub mod RoundTrips
 pub mod Readings
 pub mod Positions
+pub mod Ranges

@@ -27,9 +27,11 @@ pub struct Position {
     pub t: u16,
 }
 
-// A plan. Positions past an instance's count are no part of it.
+// A plan: where each item starts, and a mark, 1 for an item that is turned, its width and depth exchanged, and 0 for one that is not. Positions and
+// marks past an instance's count are no part of it.
 pub struct Packing {
     pub positions: [Position; Instance::MAX_ITEMS],
+    pub marks: [u8; Instance::MAX_ITEMS],
 }
 
 // Whether a search is still open, or how it ended.
@@ -39,11 +41,13 @@ pub enum Status {
     Packed,
 }
 
-// A note: where a search is. A branch is 0 for first and 1 for second; entries past the length are no part of it.
+// A note: where a search is. A branch is 0 for first and 1 for second; entries past the length are no part of it. The choice says which items are
+// turned: the lowest-numbered of those that may be is its lowest binary digit.
 pub struct Checkpoint {
     pub status: Status,
     pub length: usize,
     pub branches: [u8; Instance::MAX_BRANCHES],
+    pub choice: u16,
 }
 
 pub enum ReadAnswer {
@@ -70,7 +74,7 @@ impl Instance {
     // "The longest sheet is 352 bytes."
     pub const MAX_BYTES: usize = 352;
 
-    // The opening checkpoint: open with an empty path.
+    // The opening checkpoint: open with an empty path, at choice 0.
     pub fn opening() -> Checkpoint
         ensures { λ r. ⌜ r ≡ opening-checkpoint ⌝ }
     {
@@ -79,6 +83,7 @@ impl Instance {
             status: Status::Open,
             length: 0,
             branches,
+            choice: 0,
         }
     }
 
@@ -108,11 +113,12 @@ impl Instance {
 }
 
 impl Packing {
-    // All items at the origin.
+    // All items at the origin, and none turned.
     pub fn origin() -> Self
         ensures { λ r. ⌜ r ≡ origin-packing ⌝ }
     {
         let positions = [Position { x: 0, y: 0, t: 0 }; Instance::MAX_ITEMS];
-        Packing { positions }
+        let marks = [0u8; Instance::MAX_ITEMS];
+        Packing { positions, marks }
     }
 }

@@ -64,7 +64,10 @@ pub fn no_items() -> [Item; MAX_ITEMS]
         depth: 0,
         shifts: 0,
     };
-    let item = Item { size };
+    let item = Item {
+        size,
+        may_turn: false,
+    };
     [item; MAX_ITEMS]
 }
 

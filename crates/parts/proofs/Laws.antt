@@ -3,16 +3,17 @@ use Rattle.prelude.specs.Names.{_≡_, refl, sym, _∙_, Bool, true, false, not
 use Rattle.prelude.specs.Names.{ℕ, zero, suc, _≤_, arith, decLe, ℕ-discrete, eqb, eqb·suc-zero, leb, ltb, length, length-append}
 use Rattle.prelude.specs.Names.{replicate, length-replicate, eqb-true, eq-eqb, ne-eqb, leb-false, le-leb, lt-leb, lt-ltb, le-ltb, not-true}
 use lib.Dec.{eqb·suc-suc}
-use Rattle.formats.specs.Formats.{Format, byte, word, pair, converted, tested, passes-all, keyed, row-bytes, row-valid, row}
+use Rattle.formats.specs.Formats.{Format, byte, word, presence, pair, converted, tested, passes-all, keyed, row-bytes, row-valid, row}
 use Rattle.formats.specs.Fields.{optional-bytes, optional-valid, fields-bytes, fields-valid, fields, map-byte, with-map}
-use Rattle.formats.proofs.Laws.{Lawful, both-true, byte-lawful, word-lawful, pair-lawful, converted-lawful, tested-lawful, row-lawful}
+use Rattle.formats.proofs.Laws.{Lawful, both-true, byte-lawful, word-lawful, presence-lawful, pair-lawful, converted-lawful, tested-lawful}
+use Rattle.formats.proofs.Laws.{row-lawful}
 use Rattle.formats.proofs.Maps.{OptionalLaws, FieldsLaws, with-map-lawful, with-map-valid}
 use Rattle.parts.specs.declared.Item.{Item}
 use Rattle.parts.specs.declared.Previous.{Previous}
 use Rattle.parts.specs.Sizes.{in-range, size-in-range}
 use Rattle.parts.specs.Precedences.{Arc, names-items, rises}
-use Rattle.parts.specs.Parts.{number-as, number, byte-number, measure, measures, item-fields, item, precedence, precedence-tests, lags-zero}
-use Rattle.parts.specs.Parts.{lag-row, lag-list}
+use Rattle.parts.specs.Parts.{number-as, number, byte-number, measure, measures, may-turn, item-fields, item, precedence}
+use Rattle.parts.specs.Parts.{precedence-tests, lags-zero, lag-row, lag-list}
 
 -- a number in the bytes of f
 number-as-laws : {f : Format ℕ} → Lawful f → (default : ℕ) → OptionalLaws (number-as f default)
@@ -43,9 +44,13 @@ measure-laws = let φ = number-laws 1 in record {
   apart = λ v h. φ .apart v (rw (both-true (not (leb v 1)) _ h .0));
 }
 
+may-turn-laws : OptionalLaws may-turn
+unfolding may-turn presence
+may-turn-laws = record { lawful = presence-lawful; out = refl; only = λ b h. sym (not-true b h); apart = λ b h. rw h }
+
 pub item-fields-laws : FieldsLaws item-fields
 unfolding item-fields measures
-item-fields-laws = search measure-laws depth 12
+item-fields-laws = search (measure-laws, may-turn-laws) depth 16
 
 pub item-lawful : Lawful item
 unfolding item item-fields measures
@@ -86,9 +91,15 @@ measure-valid v = elim (ℕ-discrete v 1) [
   | no n ↦ let p : not (leb v 1) ≡ leb 1 v = simp (ne-eqb v 1 n, and-true) at (number-valid 1 v) in simp (ne-eqb v 1 n, not-ltb, and-true, p)
 ]
 
+-- whether an item may be turned can always be written
+may-turn-valid : (b : Bool) → optional-valid may-turn b ≡ true
+unfolding optional-valid may-turn presence
+may-turn-valid true = refl
+may-turn-valid false = refl
+
 pub item-valid : (i : Item) → item .valid i ≡ size-in-range (i .size)
 unfolding item item-fields measures fields-valid size-in-range
-item-valid i = with-map-valid item-fields i ∙ simp (measure-valid, and-true)
+item-valid i = with-map-valid item-fields i ∙ simp (measure-valid, may-turn-valid, and-true)
 
 -- a precedence is allowed where it passes its tests
 pub precedence-valid : (n : ℕ) (last : Previous) (a : Arc)
@@ -114,11 +125,17 @@ pub measure-most : (v : ℕ) → length (optional-bytes measure v) ≤ 2
 unfolding optional-bytes measure number tested
 measure-most = number-most 1
 
+-- in no byte
+pub may-turn-bytes : (b : Bool) → optional-bytes may-turn b ≡ []
+unfolding optional-bytes may-turn presence
+may-turn-bytes true = refl
+may-turn-bytes false = refl
+
 -- a map byte and three measures
 pub item-most : (i : Item) → length (item .bytes i) ≤ 7
 unfolding item item-fields measures with-map map-byte keyed tested byte fields fields-bytes
 item-most i =
-    simp length-append (omega (arith, measure-most (i .size .width), measure-most (i .size .depth), measure-most (i .size .shifts)))
+    simp (length-append, may-turn-bytes) (omega (arith, measure-most (i .size .width), measure-most (i .size .depth), measure-most (i .size .shifts)))
 
 -- so many lags that are all 0 are the lags that are left out
 zeros : (m : ℕ) (gs : List ℕ) → length gs ≡ m → lags-zero gs ≡ true → replicate m 0 ≡ gs

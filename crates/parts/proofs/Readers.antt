@@ -4,15 +4,15 @@ use Rattle.prelude.specs.Names.{zero, suc, add-zero, take, drop, replicate, le-
 use lib.Dec.{leb·suc-suc}
 use Rattle.refusal.specs.declared.Refusal.the-variants.{EndsEarly, UnknownBit, WrittenDefault, BadCount, BadItem, NotRising, NoLag, TooLarge}
 use Rattle.formats.specs.Reading.{Reading, Read, due, got, refused, run, read-as, _>>=_}
-use Rattle.formats.specs.Formats.{byte, word, pair, converted, testing, tested, keyed, row-reading, row, count}
+use Rattle.formats.specs.Formats.{byte, word, presence, pair, converted, testing, tested, keyed, row-reading, row, count}
 use Rattle.formats.specs.Fields.{optional-reading, is-set, fields-reading, fields, map-byte, with-map}
 use Rattle.formats.proofs.Run.{after, after-after, cond-after, run-then, read-as-cond}
 use Rattle.parts.specs.declared.Size.{Size}
 use Rattle.parts.specs.declared.Previous.{Previous}
 use Rattle.parts.specs.Sizes.{max-measure}
 use Rattle.parts.specs.Precedences.{Arc, unlagged, names-items, rises}
-use Rattle.parts.specs.Parts.{number, byte-number, measure, count-field, measures, size-fields, item-fields, item, precedence, precedence-tests}
-use Rattle.parts.specs.Parts.{lags-zero, lag-row, lag-list}
+use Rattle.parts.specs.Parts.{number, byte-number, measure, count-field, measures, size-fields, may-turn, item-fields, item, precedence}
+use Rattle.parts.specs.Parts.{precedence-tests, lags-zero, lag-row, lag-list}
 
 -- one byte is read, or two, where they are there
 one-due : {A : Type 0} (next : ℕ → Reading A) (at : ℕ) (rest : List ℕ) → run (due next) at rest
@@ -72,12 +72,19 @@ pub size-run : (map at : ℕ) (rest : List ℕ) → run (fields-reading size-fie
 unfolding size-fields measures fields-reading run
 size-run map at rest = simp run-then
 
+-- no byte is read: the bit is the value
+turn-run : (bit : Bool) (at : ℕ) (rest : List ℕ) → run (optional-reading may-turn bit) at rest ≡ got bit at rest
+unfolding may-turn presence run
+turn-run true at rest = refl
+turn-run false at rest = refl
+
 -- a map byte and three measures
 pub item-run : (at : ℕ) (rest : List ℕ) → run (item .reading) at rest
-    ≡ cond (ltb (length rest) 1) (refused (EndsEarly at)) (cond (leb 8 (getD rest 0 0)) (refused (UnknownBit at))
-    (after (run (fields-reading size-fields (getD rest 0 0) 1) (at + 1) (drop 1 rest)) λ s at₁ rest₁. got (record { size = s }) at₁ rest₁))
+    ≡ cond (ltb (length rest) 1) (refused (EndsEarly at)) (cond (leb 16 (getD rest 0 0)) (refused (UnknownBit at))
+    (after (run (fields-reading size-fields (getD rest 0 0) 1) (at + 1) (drop 1 rest)) λ s at₁ rest₁.
+    got (record { size = s; «may_turn» = is-set (getD rest 0 0) 8 }) at₁ rest₁))
 unfolding item item-fields measures with-map map-byte keyed tested testing byte fields fields-reading size-fields run _>>=_
-item-run at rest = one-due _ at rest ∙ simp (run-then, after-after)
+item-run at rest = one-due _ at rest ∙ simp (run-then, after-after, turn-run)
 
 pub precedence-run : (n : ℕ) (last : Previous) (at : ℕ) (rest : List ℕ)
     → read-as unlagged (run (tested precedence (precedence-tests n last) .reading) at rest)

@@ -1,7 +1,7 @@
 -- The parts of a sheet as formats (document 01, "Sheet bytes").
-use Rattle.prelude.specs.Names.{ℕ, suc, true, not, _&&_, Bool, List, [], _∷_, eqb, leb, ltb, length, replicate}
+use Rattle.prelude.specs.Names.{ℕ, suc, true, false, not, _&&_, Bool, List, [], _∷_, eqb, leb, ltb, length, replicate}
 use Rattle.refusal.specs.declared.Refusal.the-variants.{WrittenDefault, BadItem, NotRising, NoLag, TooLarge}
-use Rattle.formats.specs.Formats.{Format, Test, byte, word, pair, converted, tested, row, count}
+use Rattle.formats.specs.Formats.{Format, Test, byte, word, presence, pair, converted, tested, row, count}
 use Rattle.formats.specs.Fields.{Optional, optional-bytes, flag, Fields, made, field, with-map}
 use Rattle.parts.specs.declared.Size.{Size}
 use Rattle.parts.specs.declared.Item.{Item}
@@ -58,8 +58,12 @@ measures size rest =
 unfoldable pub size-fields : Fields Size 3
 size-fields = measures (λ s. s) made
 
-unfoldable pub item-fields : Fields Item 3
-item-fields = measures (λ i. i .size) λ size. made (record { size = size })
+-- "Bit 3 of a piece's map, with no field, allows width and depth to be exchanged"
+unfoldable pub may-turn : Optional Bool
+may-turn = record { default = false; left-out = not; written = presence }
+
+unfoldable pub item-fields : Fields Item 4
+item-fields = measures (λ i. i .size) λ size. field (λ i. i .«may_turn») may-turn λ turn. made (record { size = size; «may_turn» = turn })
 
 -- "A piece is a map byte (bits 0, 1, 2: width, depth, shifts) and its standing fields": the item's record
 unfoldable pub item : Format Item

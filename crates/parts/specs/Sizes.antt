@@ -1,5 +1,5 @@
 -- Measures, and blank entries.
-use Rattle.prelude.specs.Names.{Bool, true, _&&_, List, [], _∷_, ℕ, leb}
+use Rattle.prelude.specs.Names.{Bool, true, false, _&&_, List, [], _∷_, ℕ, leb}
 use Rattle.parts.specs.declared.Size.{Size}
 use Rattle.parts.specs.declared.Item.{Item}
 use Rattle.parts.specs.declared.Precedence.{Precedence}
@@ -19,9 +19,9 @@ unfoldable pub all-in-range : List Item → Bool
 all-in-range [] = true
 all-in-range (i ∷ is) = size-in-range (i .size) && all-in-range is
 
--- "reading leaves them 0": entries that are no part of an instance
+-- "reading leaves them 0": entries that are no part of an instance. Such an item may not be turned
 abbrev pub no-item : Item
-no-item = record { size = record { width = 0; depth = 0; shifts = 0 } }
+no-item = record { size = record { width = 0; depth = 0; shifts = 0 }; «may_turn» = false }
 
 abbrev pub no-precedence : Precedence
 no-precedence = record { predecessor = 0; successor = 0; lag = 0 }

@@ -16,9 +16,10 @@ pub struct Size {
     pub shifts: u16,
 }
 
-// A piece.
+// A piece. `may_turn`: its width and depth may be exchanged.
 pub struct Item {
     pub size: Size,
+    pub may_turn: bool,
 }
 
 // An order u, v: the predecessor is lifted at least `lag` shifts before the successor is set.

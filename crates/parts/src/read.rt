@@ -117,7 +117,7 @@ pub fn read_size(rest: &[u8], at: usize, map: u8) -> SizeRead
     }
 }
 
-// An item's record: its map byte and its fields.
+// An item's record: its map byte and its fields. Bit 3 has no field.
 pub fn read_item(rest: &[u8], at: usize) -> ItemRead
     requires { ⌜ PlacesFit at (now rest) ⌝ }
     ensures { λ r. ⌜ run (item .reading) at (now (rest .entry)) ≡ item-read at (now (rest .entry)) r ⌝ }
@@ -126,12 +126,13 @@ pub fn read_item(rest: &[u8], at: usize) -> ItemRead
         return ItemRead::Refused(Refusal::EndsEarly(at));
     }
     let map = rest[0];
-    if 7 < map {
+    if 15 < map {
         return ItemRead::Refused(Refusal::UnknownBit(at));
     }
+    let may_turn = bit_is_set(map, 8);
     match read_size(&rest[1..], at + 1, map) {
         SizeRead::Refused(e) => ItemRead::Refused(e),
-        SizeRead::Value(size, used) => ItemRead::Value(Item { size }, 1 + used),
+        SizeRead::Value(size, used) => ItemRead::Value(Item { size, may_turn }, 1 + used),
     }
 }
 

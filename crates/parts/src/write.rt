@@ -5,7 +5,7 @@ ghost use lib.ListN.{length};
 ghost use lib.Seq.{sets};
 ghost use Rattle.formats.specs.Fields.{flag, flags, optional-bytes, fields-bytes};
 ghost use Rattle.parts.specs.Precedences.{arc-of};
-ghost use Rattle.parts.specs.Parts.{number, byte-number, size-fields, item, precedence};
+ghost use Rattle.parts.specs.Parts.{number, byte-number, size-fields, item-fields, item, precedence};
 use crate::Item;
 use crate::Precedence;
 use crate::Size;
@@ -83,6 +83,15 @@ pub fn write_size(out: &mut [u8], at: usize, size: Size) -> usize
     write_field(out, b, 1, size.shifts)
 }
 
+// An item's map byte: bit 3 says that it may be turned.
+pub fn item_flags_of(i: Item) -> u8
+    ensures { λ r. ⌜ r ≡ flags item-fields i ⌝ }
+{
+    let size = i.size;
+    let map = size_flags_of(size);
+    if i.may_turn { map + 8 } else { map }
+}
+
 pub fn item_len(i: Item) -> usize
     ensures { λ r. ⌜ (r ≡ length (item .bytes i)) × (r ≤ 7) ⌝ }
 {
@@ -96,7 +105,7 @@ pub fn write_item(out: &mut [u8], at: usize, i: Item) -> usize
     ensures { λ _. ⌜ now (out .exit) ≡ sets (now (out .entry)) at (item .bytes i) ⌝ }
 {
     let size = i.size;
-    out[at] = size_flags_of(size);
+    out[at] = item_flags_of(i);
     write_size(out, at + 1, size)
 }
 

@@ -27,6 +27,8 @@ pub enum Refusal {
     NoLag(usize),
     // 12: a written measure above the greatest
     TooLarge(usize),
+    // 13: a mark of a packing above 1, or 1 on an item that may not be turned
+    BadMark,
 }
 
 impl Refusal {
@@ -46,6 +48,7 @@ impl Refusal {
             Refusal::NotFollowing => 10,
             Refusal::NoLag(_) => 11,
             Refusal::TooLarge(_) => 12,
+            Refusal::BadMark => 13,
         }
     }
 
@@ -65,6 +68,7 @@ impl Refusal {
             Refusal::NotFollowing => 0,
             Refusal::NoLag(place) => place,
             Refusal::TooLarge(place) => place,
+            Refusal::BadMark => 0,
         }
     }
 }

@@ -1,5 +1,5 @@
 -- The byte examples of documents 01 and 02, and more for the limits and the order of the fields.
-use Rattle.prelude.specs.Names.{_≡_, List, [], _∷_, ℕ, length}
+use Rattle.prelude.specs.Names.{_≡_, true, false, List, [], _∷_, ℕ, length}
 use Rattle.refusal.specs.declared.Refusal.the-variants.{EndsEarly, UnknownBit, WrittenDefault, BadCount, BadItem, NotRising, TrailingBytes, NoLag}
 use Rattle.refusal.specs.declared.Refusal.the-variants.{TooLarge}
 use Rattle.formats.specs.Reading.{Read, got, refused, run}
@@ -21,7 +21,10 @@ abbrev size-of : ℕ → ℕ → ℕ → Size
 size-of width depth shifts = record { width = width; depth = depth; shifts = shifts }
 
 abbrev item-of : ℕ → ℕ → ℕ → Item
-item-of width depth shifts = record { size = size-of width depth shifts }
+item-of width depth shifts = record { size = size-of width depth shifts; «may_turn» = false }
+
+abbrev turnable : ℕ → ℕ → ℕ → Item
+turnable width depth shifts = record { size = size-of width depth shifts; «may_turn» = true }
 
 abbrev before : ℕ → ℕ → Arc
 before u v = record { predecessor = u; successor = v }
@@ -49,11 +52,13 @@ readings :
     × Means (0x80 ∷ 1 ∷ []) (sheet-of (size-of 1 1 1) [] [] 0 [] 1)
     × Means (0x80 ∷ 255 ∷ []) (sheet-of (size-of 1 1 1) [] [] 0 [] 255)
     × Means (0xD8 ∷ 2 ∷ 0 ∷ 0 ∷ 1 ∷ 0 ∷ 1 ∷ 3 ∷ 5 ∷ []) (sheet-of (size-of 1 1 1) (item-of 1 1 1 ∷ item-of 1 1 1 ∷ []) (before 0 1 ∷ []) 0 (3 ∷ []) 5)
+    -- a piece that may be turned, between two that may not
+    × Means (0x08 ∷ 3 ∷ 0 ∷ 0x0A ∷ 2 ∷ 0 ∷ 0x01 ∷ 3 ∷ 0 ∷ []) (sheet-of (size-of 1 1 1) (item-of 1 1 1 ∷ turnable 1 2 1 ∷ item-of 3 1 1 ∷ []) [] 0 [] 0)
     -- all written, and no two alike
     × Means
-    (0xFF ∷ 2 ∷ 1 ∷ 3 ∷ 0 ∷ 4 ∷ 0 ∷ 2 ∷ 0x07 ∷ 5 ∷ 0 ∷ 6 ∷ 0 ∷ 7 ∷ 0 ∷ 0x07 ∷ 8 ∷ 0 ∷ 9 ∷ 0 ∷ 11 ∷ 10
+    (0xFF ∷ 2 ∷ 1 ∷ 3 ∷ 0 ∷ 4 ∷ 0 ∷ 2 ∷ 0x0F ∷ 5 ∷ 0 ∷ 6 ∷ 0 ∷ 7 ∷ 0 ∷ 0x07 ∷ 8 ∷ 0 ∷ 9 ∷ 0 ∷ 11 ∷ 10
     ∷ 2 ∷ 0 ∷ 1 ∷ 1 ∷ 0 ∷ 12 ∷ 13 ∷ 0 ∷ 14 ∷ 15 ∷ [])
-    (sheet-of (size-of 0x0102 3 4) (item-of 5 6 7 ∷ item-of 8 9 0x0A0B ∷ []) (before 0 1 ∷ before 1 0 ∷ []) 0x0D0C (0 ∷ 14 ∷ []) 15)
+    (sheet-of (size-of 0x0102 3 4) (turnable 5 6 7 ∷ item-of 8 9 0x0A0B ∷ []) (before 0 1 ∷ before 1 0 ∷ []) 0x0D0C (0 ∷ 14 ∷ []) 15)
 unfolding sheet-computing
 readings = search
 
@@ -62,8 +67,10 @@ refusals :
     (read [] ≡ refused (EndsEarly 0))
     × (read (0x01 ∷ 2 ∷ []) ≡ refused (EndsEarly 2))
     × (read (0x18 ∷ 2 ∷ 0 ∷ 0 ∷ 1 ∷ 2 ∷ []) ≡ refused (EndsEarly 6))
-    -- 2: bit 3 of a piece
-    × (read (0x08 ∷ 1 ∷ 0x08 ∷ []) ≡ refused (UnknownBit 2))
+    -- 2: bit 4 of a piece
+    × (read (0x08 ∷ 1 ∷ 0x10 ∷ []) ≡ refused (UnknownBit 2))
+    -- bit 3 has no field: what follows is after the piece
+    × (read (0x08 ∷ 1 ∷ 0x08 ∷ 2 ∷ 0 ∷ []) ≡ refused (TrailingBytes 3))
     -- 3: a measure of 1, yard number 0
     × (read (0x01 ∷ 1 ∷ 0 ∷ []) ≡ refused (WrittenDefault 1))
     × (read (0x20 ∷ 0 ∷ 0 ∷ []) ≡ refused (WrittenDefault 1))

@@ -5,8 +5,8 @@ use Rattle.prelude.specs.Names.{getD, drop, eqb-true, eq-eqb, ne-eqb, lt-ltb, l
 use lib.Seq.{drop-length}
 use Rattle.refusal.specs.declared.Refusal.{Refusal}
 use Rattle.refusal.specs.declared.Refusal.the-variants.{UnknownBit, WrittenDefault, BadItem, NotRising, NoLag, TooLarge}
-use Rattle.formats.specs.Reading.{Bytes, got, refused, run, _>>=_}
-use Rattle.formats.specs.Formats.{up-to, Format, Test, byte, word, pair, converted, tested, keyed, row, count, counted, whole}
+use Rattle.formats.specs.Reading.{Bytes, Reading, got, refused, run, _>>=_}
+use Rattle.formats.specs.Formats.{up-to, Format, Test, byte, word, presence, pair, converted, tested, keyed, row, count, counted, whole}
 use Rattle.formats.specs.Fields.{Optional, optional-reading, Fields, is-set, fields-reading, fields, map-byte, with-map}
 use Rattle.formats.proofs.Laws.{both-true}
 use Rattle.formats.proofs.Spans.{length-up-to, getD-up-to, Gives, gives-as, first-given, none-given, given-none, Spans, spans-as}
@@ -16,8 +16,8 @@ use Rattle.formats.proofs.Spans.{spans-untested, Unknown, spans-map, Miscounted
 use Rattle.parts.specs.declared.Size.{Size}
 use Rattle.parts.specs.declared.Previous.{Previous}
 use Rattle.parts.specs.declared.Previous.the-variants.{Nothing, Was}
-use Rattle.parts.specs.Parts.{number-as, number, byte-number, measure, measures, item-fields, item, precedence, precedence-tests, lags-zero, lag-row}
-use Rattle.parts.specs.Parts.{lag-list}
+use Rattle.parts.specs.Parts.{number-as, number, byte-number, measure, measures, may-turn, item-fields, item, precedence, precedence-tests}
+use Rattle.parts.specs.Parts.{lags-zero, lag-row, lag-list}
 use Rattle.parts.specs.Precedences.{Arc, unlagged, names-items, above, rises}
 use Rattle.parts.specs.Sizes.{max-measure, no-item}
 use Rattle.parts.proofs.Laws.{lag-laws}
@@ -147,14 +147,22 @@ module _ (s : List ℕ) where
         ],
       ))
 
+  -- whether it may be turned is in the bit alone
+  spans-turn : {A : Type 0} (k : Bool → Reading A) (bit : Bool) {at : ℕ} {x : A} {stop : ℕ} {W : Refusal → Type 0} → Spans s (k bit) at x stop W
+      → Spans s (optional-reading may-turn bit >>= k) at x stop W
+  unfolding may-turn presence _>>=_
+  spans-turn k true σ = σ
+  spans-turn k false σ = σ
+
   -- the faults of the item at m
   abbrev ItemFault : ℕ → Refusal → Type 0
-  ItemFault m e = Unknown s 3 m e ⊎ (MeasureFault m e ⊎ ⊥)
+  ItemFault m e = Unknown s 4 m e ⊎ (MeasureFault m e ⊎ ⊥)
 
   spans-item : (m : ℕ) → Spans s (item .reading) m (item-at s m) (after-item s m) (ItemFault m)
   unfolding item item-fields with-map keyed fields fields-reading after-item
   spans-item m =
-      spans-then s (map-byte 3 .reading) _ (spans-map s 3 m) (spans-measures (λ i. i .size) _ m (spans-done s (item-at s m) (after-item s m)))
+      spans-then s (map-byte 4 .reading) _ (spans-map s 4 m)
+      (spans-measures (λ i. i .size) _ m (spans-turn _ (is-set (byte-at s m) 8) (spans-done s (item-at s m) (after-item s m))))
 
   -- precedence k and the one before it, and its faults
   abbrev nth : ℕ → Arc

@@ -67,7 +67,7 @@ all-before u (suc n) = before-others u 0 max-items ++ all-before (u + 1) n
 pub longest : Sheet
 longest = record {
   container = two;
-  items = replicate max-items (record { size = two });
+  items = replicate max-items (record { size = two; «may_turn» = false });
   precedences = all-before 0 max-items;
   yard-number = 1;
   lags = 1 ∷ replicate 89 0;

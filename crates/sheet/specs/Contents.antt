@@ -18,8 +18,9 @@ module _ (s : List ℕ) where
     shifts = cond (is-set (byte-at s m) 4) (word-at s (m + 1 + two-if (is-set (byte-at s m) 1) + two-if (is-set (byte-at s m) 2))) 1;
   }
 
+  -- "Bit 3 of a piece's map, with no field, allows width and depth to be exchanged"
   abbrev pub item-at : ℕ → Item
-  item-at m = record { size = size-at m }
+  item-at m = record { size = size-at m; «may_turn» = is-set (byte-at s m) 8 }
 
   abbrev pub items-at : List Item
   items-at = up-to (items-on s) (λ k. item-at (item-place s k))

@@ -33,9 +33,9 @@ module _ (s : List ℕ) where
   pub data Fault : Refusal → Type 0 where
     -- 1: "it ends before a byte that is due, the first map byte included"; place: "length of the sheet"
     ends-early : length s < sheet-end s → Fault (EndsEarly (length s))
-    -- 2: "a bit stands that has no meaning"; place: "of the map byte". The sheet's has bits 0 to 7, so no byte meets its line; a piece's has 0 to 2
+    -- 2: "a bit stands that has no meaning"; place: "of the map byte". The sheet's has bits 0 to 7, so no byte meets its line; a piece's has 0 to 3
     unknown-bit : 0 < length s → 256 ≤ byte-at s 0 → Fault (UnknownBit 0)
-    item-unknown-bit : (k : ℕ) → k < items-on s → item-place s k < length s → 8 ≤ byte-at s (item-place s k)
+    item-unknown-bit : (k : ℕ) → k < items-on s → item-place s k < length s → 16 ≤ byte-at s (item-place s k)
         → Fault (UnknownBit (item-place s k))
     -- 3: "a written measure of 0 or 1, or yard number 0"; "3 covers a written width of 0"; place: "of the field"
     container-measure : (p : ℕ) → MeasureAt 0 p → p + 2 ≤ length s → word-at s p ≤ 1 → Fault (WrittenDefault p)

@@ -1,4 +1,4 @@
--- The sheet (document 01, "Sheet bytes"; from document 02: the lags, #101; the walkway, #105).
+-- The sheet (document 01, "Sheet bytes"; from document 02: the lags, #101; the walkway, #105; which pieces may be turned, #106).
 use Rattle.prelude.specs.Names.{ℕ, List, [], eqb, length}
 use Rattle.formats.specs.Formats.{Format, Test, counted}
 use Rattle.formats.specs.Fields.{Optional, Fields, made, field, with-map}

@@ -10,5 +10,5 @@ write-item-spec = tie.close (tie.spec (λ c κs. search answers) (λ c. omega (a
     (λ c. omega (arith, simp length-set at (c .before .before .write-size .kept .0)))
     (λ c. (
       omega (arith, item-length (c .before .before .before .before .before .before .before .args .i)),
-      rw (c .before .before .write-size .ensures .1, c .before .before .before .before .size-flags-of .ensures .0, item-bytes, add-one),
+      rw (c .before .before .write-size .ensures .1, c .before .before .before .before .item-flags-of .ensures, item-bytes, add-one),
     )))
