@@ -23,7 +23,7 @@ pub enum ClearanceAnswer {
     Refused(Refusal),
 }
 
-// Whether the packing is feasible. Positions past the instance's count are ignored.
+// Whether the packing is feasible, with the marked items turned. Positions and marks past the instance's count are ignored.
 pub fn check(instance: Instance, packing: Packing) -> CheckAnswer
     ensures { λ r. ⌜ r ≡ check-answer instance packing ⌝ }
     ensures { λ r. ⌜ Decides instance packing r ⌝ }
@@ -31,19 +31,24 @@ pub fn check(instance: Instance, packing: Packing) -> CheckAnswer
     if !instance.is_valid() {
         return CheckAnswer::Refused(Refusal::InvalidInstance);
     }
-    if !feasible::inside(instance, packing) {
+    let marks = packing.marks;
+    if !turning::marks_allowed(instance, marks) {
+        return CheckAnswer::Refused(Refusal::BadMark);
+    }
+    let turned = turning::turned(instance, marks);
+    if !feasible::inside(turned, packing) {
         return CheckAnswer::NotFeasible;
     }
-    if !feasible::apart(instance, packing) {
+    if !feasible::apart(turned, packing) {
         return CheckAnswer::NotFeasible;
     }
-    if !feasible::ordered(instance, packing) {
+    if !feasible::ordered(turned, packing) {
         return CheckAnswer::NotFeasible;
     }
     CheckAnswer::Feasible
 }
 
-// The clearance of the items u and v on an axis, exact around 0.
+// The clearance of the items u and v on an axis, with the marked items turned, exact around 0.
 pub fn clearance(
     instance: Instance,
     packing: Packing,
@@ -67,5 +72,10 @@ pub fn clearance(
     if 2 < axis {
         return ClearanceAnswer::Refused(Refusal::BadArgument);
     }
-    ClearanceAnswer::Clearance(signed::clearance_on(instance, packing, u, v, axis))
+    let marks = packing.marks;
+    if !turning::marks_allowed(instance, marks) {
+        return ClearanceAnswer::Refused(Refusal::BadMark);
+    }
+    let turned = turning::turned(instance, marks);
+    ClearanceAnswer::Clearance(signed::clearance_on(turned, packing, u, v, axis))
 }

@@ -1,0 +1,4 @@
+pub mod Ten
+pub mod Counts
+pub mod Problems
+pub mod Marks
