@@ -1,7 +1,7 @@
--- The packing by greatest chains.
+-- The starts by greatest chains.
 use Rattle.prelude.specs.Names.{List, _≡_, ℕ, _-_, _≤_, _<_, getD, length}
-use Rattle.instance.specs.declared.Packing.{Packing}
-use Rattle.instance.specs.Meaning.{positions-of}
+use Rattle.instance.specs.declared.Position.{Position}
+use Rattle.instance.specs.Meaning.{start}
 use Rattle.instance.specs.Values.{origin}
 use Rattle.chains.specs.Totals.{table, measure-at}
 
@@ -16,6 +16,6 @@ pub record Startable (n : ℕ) (t : List ℕ) : Type 0 where
   pub whole : (a u : ℕ) → a < 3 → u < n → measure-at t a u ≤ table t 2 a u
 
 -- positions past the items are 0
-pub record Started (n : ℕ) (t : List ℕ) (q : Packing) : Type 0 where
-  pub placed : (a u : ℕ) → a < 3 → u < n → positions-of q a u ≡ start-at t a u
-  pub past : (u : ℕ) → n ≤ u → getD (q .positions) u origin ≡ origin
+pub record Started (n : ℕ) (t : List ℕ) (positions : List Position) : Type 0 where
+  pub placed : (a u : ℕ) → a < 3 → u < n → start a (getD positions u origin) ≡ start-at t a u
+  pub past : (u : ℕ) → n ≤ u → getD positions u origin ≡ origin

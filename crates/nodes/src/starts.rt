@@ -1,4 +1,4 @@
-// The packing of packed domains.
+// Where the items of packed domains start.
 ghost use mathlib.Core.Path.{_≡_};
 ghost use Prim.Native.Nat.{_<_, _≤_};
 ghost use lib.ListN.{length};
@@ -8,7 +8,6 @@ ghost use Rattle.nodes.specs.Starts.{Startable, Started};
 use chains::totals::SIZES;
 use chains::totals::TOTALS;
 use instance::Instance;
-use instance::Packing;
 use instance::Position;
 
 // Where an item starts on an axis: the greatest chain ending in it, less its own measure.
@@ -20,7 +19,7 @@ fn start_at(t: &[u16; TOTALS], a: usize, u: usize) -> u16
 }
 
 // "On each axis a piece starts at the total of the greatest chain ending in it, less its own measure".
-pub fn starts_of(t: &[u16; TOTALS], n: usize) -> Packing
+pub fn starts_of(t: &[u16; TOTALS], n: usize) -> [Position; Instance::MAX_ITEMS]
     requires { ⌜ Startable n (now t) ⌝ }
     ensures { λ r. ⌜ Started n (now (t .entry)) r ⌝ }
 {
@@ -33,5 +32,5 @@ pub fn starts_of(t: &[u16; TOTALS], n: usize) -> Packing
         positions[u] = Position { x, y, t: z };
         u = u + 1;
     }
-    Packing { positions }
+    positions
 }

@@ -6,8 +6,7 @@ use Rattle.model.proofs.Below.{and-both, and-intro, below-three}
 use Rattle.model.specs.Admits.{Sound}
 use Rattle.model.specs.Order.{Proper}
 use Rattle.parts.specs.Precedences.{Arc, arc-of, unlagged, names-items, rises, all-allowed}
-use Rattle.parts.specs.Sizes.{max-measure, in-range, size-in-range, all-in-range, no-item}
-use Rattle.parts.specs.declared.Item.{Item}
+use Rattle.parts.specs.Sizes.{max-measure, in-range, size-in-range, no-item}
 use Rattle.parts.specs.declared.Precedence.{Precedence}
 use Rattle.parts.specs.declared.Previous.{Previous}
 use Rattle.parts.specs.declared.Previous.the-variants.{Nothing, Was}
@@ -15,6 +14,7 @@ use Rattle.parts.specs.declared.Size.{Size}
 use Rattle.instance.specs.Meaning.{measure-on, precedence-of, problem-of}
 use Rattle.instance.specs.Valid.{valid, items-of, precedences-of}
 use Rattle.instance.specs.declared.Instance.{Instance}
+use Rattle.instance.proofs.Ranges.{range-at}
 use Rattle.instance.proofs.Sheets.{valid-says}
 use Rattle.model.specs.Problem as M
 
@@ -27,12 +27,6 @@ range-measures s h =
   where
     both : (v : ℕ) → in-range v ≡ true → (1 ≤ v) × (v ≤ max-measure)
     both v h = let (a, b) = and-both (leb 1 v) (leb v max-measure) h in (leb-true _ _ a, leb-true _ _ b)
-
-range-at : (l : List Item) → all-in-range l ≡ true → (u : ℕ) → u < length l → size-in-range (getD l u no-item .size) ≡ true
-unfolding all-in-range
-range-at [] h u g = absurd (omega arith)
-range-at (i ∷ l) h zero g = and-both _ _ h .0
-range-at (i ∷ l) h (suc u) g = range-at l (and-both (size-in-range (i .size)) (all-in-range l) h .1) u (omega arith)
 
 -- the measures of a valid instance are from 1 to the greatest
 module _ (i : Instance) (h : valid i ≡ true) where

@@ -1,6 +1,2 @@
-pub mod Budget
-pub mod Packing
-pub mod Outcome
+pub mod Series
 pub mod Claim
-pub mod Stepping
-pub mod Complete

@@ -2,18 +2,17 @@
 -- the checkpoint that the last returned, which follows, so none meets a condition of the table.
 use Rattle.prelude.specs.Names.{true, ℕ}
 use Rattle.model.specs.Lists.{Service}
-use Rattle.model.specs.Run.{plan-at}
-use Rattle.instance.specs.Meaning.{problem-of}
+use Rattle.model.specs.Run.{ChoiceCheckpoint, plan-at}
 use Rattle.instance.specs.Values.{opening-checkpoint, origin-packing}
 use Rattle.instance.specs.declared.Checkpoint.{Checkpoint}
 use Rattle.instance.specs.declared.Instance.{Instance}
 use Rattle.instance.specs.declared.Packing.{Packing}
+use Rattle.turning.specs.Turned.{turnable-of}
 use Rattle.tree_paths.specs.Checkpoints.{value-of}
 use Rattle.search.specs.Results.{answer-number, packing-of, search-result}
-use Rattle.model.specs.Search as S
 
 -- what `Instance::opening` and `search::search` return
-abbrev pub values : Instance → Service S.Checkpoint ℕ Checkpoint Packing
+abbrev pub values : Instance → Service ChoiceCheckpoint ℕ Checkpoint Packing
 values i = record {
   opening = opening-checkpoint;
   budget = λ m. m;
@@ -23,6 +22,6 @@ values i = record {
   steps = λ m c. search-result i c m .steps;
   plan = λ m c. search-result i c m .packing;
   hold = value-of;
-  plan-of = λ κ. packing-of (problem-of i) (plan-at (problem-of i) κ);
+  plan-of = λ κ. packing-of (turnable-of i) (plan-at (turnable-of i) κ);
   no-plan = λ m. origin-packing;
 }

@@ -10,8 +10,8 @@ use refusal::Refusal;
 use tree_paths::path;
 
 pub mod answer;
+mod choices;
 mod results;
-mod steps;
 
 // One call: the answer, the steps taken, the checkpoint that they lead to and, where packed, the packing.
 pub fn search(instance: Instance, checkpoint: Checkpoint, budget: u32) -> SearchResult
@@ -24,10 +24,13 @@ pub fn search(instance: Instance, checkpoint: Checkpoint, budget: u32) -> Search
     if !path::is_well_formed(checkpoint) {
         return results::refused(Refusal::NotFollowing, checkpoint);
     }
+    if turning::last_choice(instance) < checkpoint.choice {
+        return results::refused(Refusal::NotFollowing, checkpoint);
+    }
     let status = checkpoint.status;
     match status {
-        Status::Open => steps::run(instance, checkpoint, budget),
-        Status::Infeasible => results::infeasible(0),
-        Status::Packed => steps::repeat(instance, checkpoint),
+        Status::Open => choices::run(instance, checkpoint, budget),
+        Status::Infeasible => choices::repeat_infeasible(instance, checkpoint),
+        Status::Packed => choices::repeat_packed(instance, checkpoint),
     }
 }

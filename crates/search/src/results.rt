@@ -6,6 +6,7 @@ use crate::answer::SearchResult;
 use instance::Checkpoint;
 use instance::Instance;
 use instance::Packing;
+use instance::Position;
 use instance::Status;
 use refusal::Refusal;
 
@@ -22,9 +23,9 @@ pub fn refused(e: Refusal, checkpoint: Checkpoint) -> SearchResult
     }
 }
 
-// No packing, after so many steps.
-pub fn infeasible(steps: u32) -> SearchResult
-    ensures { λ r. ⌜ r ≡ R.infeasible-after steps ⌝ }
+// No packing, after so many steps: with the last choice.
+pub fn infeasible(steps: u32, choice: u16) -> SearchResult
+    ensures { λ r. ⌜ r ≡ R.infeasible-after steps choice ⌝ }
 {
     let packing = Packing::origin();
     let branches = [0u8; Instance::MAX_BRANCHES];
@@ -32,6 +33,7 @@ pub fn infeasible(steps: u32) -> SearchResult
         status: Status::Infeasible,
         length: 0,
         branches,
+        choice,
     };
     SearchResult {
         answer: Answer::Infeasible,
@@ -42,14 +44,20 @@ pub fn infeasible(steps: u32) -> SearchResult
 }
 
 // A budget spent on the way.
-pub fn spent(steps: u32, branches: [u8; Instance::MAX_BRANCHES], length: usize) -> SearchResult
-    ensures { λ r. ⌜ r ≡ R.spent-after steps branches length ⌝ }
+pub fn spent(
+    steps: u32,
+    branches: [u8; Instance::MAX_BRANCHES],
+    length: usize,
+    choice: u16,
+) -> SearchResult
+    ensures { λ r. ⌜ r ≡ R.spent-after steps branches length choice ⌝ }
 {
     let packing = Packing::origin();
     let checkpoint = Checkpoint {
         status: Status::Open,
         length,
         branches,
+        choice,
     };
     SearchResult {
         answer: Answer::BudgetSpent,
@@ -64,15 +72,19 @@ pub fn packed(
     steps: u32,
     branches: [u8; Instance::MAX_BRANCHES],
     length: usize,
-    packing: Packing,
+    choice: u16,
+    positions: [Position; Instance::MAX_ITEMS],
+    marks: [u8; Instance::MAX_ITEMS],
 ) -> SearchResult
-    ensures { λ r. ⌜ r ≡ R.packed-after steps branches length packing ⌝ }
+    ensures { λ r. ⌜ r ≡ R.packed-after steps branches length choice positions marks ⌝ }
 {
     let checkpoint = Checkpoint {
         status: Status::Packed,
         length,
         branches,
+        choice,
     };
+    let packing = Packing { positions, marks };
     SearchResult {
         answer: Answer::Packed,
         steps,

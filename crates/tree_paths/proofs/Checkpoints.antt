@@ -6,12 +6,14 @@ use lib.Seq.{set-set}
 use Rattle.model.proofs.Below.{and-intro, and-both, all-at, all-of}
 use Rattle.model.specs.Below.{all-below}
 use Rattle.model.specs.Branching.{Branch, first, second}
+use Rattle.model.specs.Run.{ChoiceCheckpoint}
+use Rattle.model.specs.Series.{stage}
 use Rattle.nodes.proofs.Loops.{blank-at}
 use Rattle.instance.specs.declared.Checkpoint.{Checkpoint}
 use Rattle.instance.specs.declared.Status.{Status}
 use Rattle.instance.specs.declared.Status.the-variants.{Open, Infeasible, Packed}
-use Rattle.tree_paths.specs.Checkpoints.{branch-of, branch-number, path-of, value-path, with-status, checkpoint-of, length-allowed}
-use Rattle.tree_paths.specs.Checkpoints.{all-branches, well-formed, Bits, branches-of, value-of, PathIn, Backed, some-left, none-left}
+use Rattle.tree_paths.specs.Checkpoints.{branch-of, branch-number, path-of, value-path, with-status, state-of, checkpoint-of, length-allowed}
+use Rattle.tree_paths.specs.Checkpoints.{all-branches, well-formed, Bits, branches-of, value-at, value-of, PathIn, Backed, some-left, none-left}
 use Rattle.model.specs.Search as S
 
 -- a branch and its number
@@ -62,6 +64,11 @@ path-back (b ∷ path) h =
     let l : n < length bs = omega (arith, branches-length path) in
     rw (getD-set-same bs n (branch-number b) 0 l, branch-back, path-set n bs n (branch-number b) (omega arith), path-back path (omega arith))
 
+-- and from the array of a path that was read from an array
+pub given-back : (n : ℕ) (bs : List ℕ) → n ≤ 270 → path-of n (branches-of (path-of n bs)) ≡ path-of n bs
+given-back n bs h =
+    subst (λ (m : ℕ). path-of m (branches-of (path-of n bs)) ≡ path-of n bs) (path-length n bs) (path-back (path-of n bs) (rw path-length h))
+
 set-small : (l : List ℕ) (i j v : ℕ) → v < 2 → getD l j 0 < 2 → getD (set l i v) j 0 < 2
 set-small [] i j v small h = h
 set-small (x ∷ l) zero zero v small h = small
@@ -90,29 +97,44 @@ Short (S.open-at path) = length path ≤ 270
 Short S.infeasible = Unit {0}
 Short (S.packed-at path) = length path ≤ 270
 
-pub value-short : (κ : S.Checkpoint) → Short κ → value-of κ .length ≤ 270
-unfolding value-of
-value-short (S.open-at path) h = h
-value-short S.infeasible h = omega arith
-value-short (S.packed-at path) h = h
+module _ (n : ℕ) where
+  pub value-short : (κ : S.Checkpoint) → Short κ → value-at n κ .length ≤ 270
+  unfolding value-at
+  value-short (S.open-at path) h = h
+  value-short S.infeasible h = omega arith
+  value-short (S.packed-at path) h = h
 
--- a checkpoint comes back from its value, which is well-formed
-pub checkpoint-back : (κ : S.Checkpoint) → Short κ → checkpoint-of (value-of κ) ≡ κ
-unfolding checkpoint-of value-of
-checkpoint-back (S.open-at path) h = ap S.open-at (path-back path h)
-checkpoint-back S.infeasible h = refl
-checkpoint-back (S.packed-at path) h = ap S.packed-at (path-back path h)
+  -- a checkpoint comes back from its value, which is well-formed
+  pub state-back : (κ : S.Checkpoint) → Short κ → state-of (value-at n κ) ≡ κ
+  unfolding state-of value-at
+  state-back (S.open-at path) h = ap S.open-at (path-back path h)
+  state-back S.infeasible h = refl
+  state-back (S.packed-at path) h = ap S.packed-at (path-back path h)
 
-pub value-well-formed : (κ : S.Checkpoint) → Short κ → well-formed (value-of κ) ≡ true
-unfolding well-formed value-of
-value-well-formed (S.open-at path) h = and-intro (le-leb _ _ h) (and-intro refl (branches-bits path (length path)))
-value-well-formed S.infeasible h = and-intro refl (and-intro refl (branches-bits [] 0))
-value-well-formed (S.packed-at path) h = and-intro (le-leb _ _ h) (and-intro refl (branches-bits path (length path)))
+  pub value-choice : (κ : S.Checkpoint) → value-at n κ .choice ≡ n
+  unfolding value-at
+  value-choice (S.open-at path) = refl
+  value-choice S.infeasible = refl
+  value-choice (S.packed-at path) = refl
+
+  pub value-well-formed : (κ : S.Checkpoint) → Short κ → well-formed (value-at n κ) ≡ true
+  unfolding well-formed value-at
+  value-well-formed (S.open-at path) h = and-intro (le-leb _ _ h) (and-intro refl (branches-bits path (length path)))
+  value-well-formed S.infeasible h = and-intro refl (and-intro refl (branches-bits [] 0))
+  value-well-formed (S.packed-at path) h = and-intro (le-leb _ _ h) (and-intro refl (branches-bits path (length path)))
+
+pub checkpoint-back : (s : ChoiceCheckpoint) → Short (s .state) → checkpoint-of (value-of s) ≡ s
+unfolding checkpoint-of
+checkpoint-back s h = rw (state-back (s .number) (s .state) h, value-choice (s .number) (s .state))
 
 -- a checkpoint by its status
-pub checkpoint-as : (c : Checkpoint) {s : Status} → c .status ≡ s → checkpoint-of c ≡ with-status s (value-path c)
+pub state-as : (c : Checkpoint) {s : Status} → c .status ≡ s → state-of c ≡ with-status s (value-path c)
+unfolding state-of
+state-as c e = ap (λ (s : Status). with-status s (value-path c)) e
+
+pub checkpoint-as : (c : Checkpoint) {s : Status} → c .status ≡ s → checkpoint-of c ≡ stage (c .choice) (with-status s (value-path c))
 unfolding checkpoint-of
-checkpoint-as c e = ap (λ (s : Status). with-status s (value-path c)) e
+checkpoint-as c e = ap (stage (c .choice)) (state-as c e)
 
 -- what a well-formed value says of its length and its branches
 pub well-formed-bits : (c : Checkpoint) → well-formed c ≡ true → Bits (c .length) (c .branches)
@@ -148,13 +170,14 @@ module _ (n : ℕ) (bs : List ℕ) (long : length bs ≡ 270) (β : Bits n bs) (
   ])
 
   -- the value of what a value holds is that value, where it is well-formed and 0 past its length
-  pub value-again : (s : Status) → length-allowed s n ≡ true → value-of (with-status s (path-of n bs)) ≡ record { status = s; length = n; branches = bs }
-  unfolding value-of
-  value-again Open a = rw (path-length n bs, branches-again)
-  value-again Packed a = rw (path-length n bs, branches-again)
-  value-again Infeasible a =
+  pub value-again : (m : ℕ) (s : Status) → length-allowed s n ≡ true
+      → value-at m (with-status s (path-of n bs)) ≡ record { status = s; length = n; branches = bs; choice = m }
+  unfolding value-at
+  value-again m Open a = rw (path-length n bs, branches-again)
+  value-again m Packed a = rw (path-length n bs, branches-again)
+  value-again m Infeasible a =
       let z : n ≡ 0 = eqb-true n 0 a in
-      let e : branches-of [] ≡ bs = subst (λ (m : ℕ). branches-of (path-of m bs) ≡ bs) z branches-again in
+      let e : branches-of [] ≡ bs = subst (λ (l : ℕ). branches-of (path-of l bs) ≡ bs) z branches-again in
       rw (z, e)
 
 -- The array of a path within a call

@@ -3,8 +3,9 @@
 use Rattle.prelude.specs.Names.{Bool, true, _&&_, List, [], _∷_, _≡_, ℕ, zero, suc, _≤_, leb, ltb, eqb, length, getD, set, replicate}
 use Rattle.model.specs.Below.{all-below}
 use Rattle.model.specs.Branching.{Branch, first, second}
-use Rattle.model.specs.Problem.{Problem}
-use Rattle.model.specs.Run.{look}
+use Rattle.model.specs.Run.{ChoiceCheckpoint, ChoiceFollows, choice-follows}
+use Rattle.model.specs.Series.{stage}
+use Rattle.model.specs.Turning.{Turnable}
 use Rattle.instance.specs.declared.Checkpoint.{Checkpoint}
 use Rattle.instance.specs.declared.Status.{Status}
 use Rattle.instance.specs.declared.Status.the-variants.{Open, Infeasible, Packed}
@@ -34,8 +35,12 @@ with-status Infeasible path = S.infeasible
 with-status Packed path = S.packed-at path
 
 -- "A note is open, none or placed, with a row of turns"; entries past the length are no part of it
-unfoldable pub checkpoint-of : Checkpoint → S.Checkpoint
-checkpoint-of c = with-status (c .status) (value-path c)
+unfoldable pub state-of : Checkpoint → S.Checkpoint
+state-of c = with-status (c .status) (value-path c)
+
+-- "The note holds the choice"
+unfoldable pub checkpoint-of : Checkpoint → ChoiceCheckpoint
+checkpoint-of c = stage (c .choice) (state-of c)
 
 -- "a none note's row is empty"
 abbrev pub length-allowed : Status → ℕ → Bool
@@ -52,13 +57,13 @@ unfoldable pub well-formed : Checkpoint → Bool
 well-formed c = leb (c .length) max-branches && (length-allowed (c .status) (c .length) && all-branches (c .length) (c .branches))
 
 -- 10 is for any other value than one "that follows its sheet"
-unfoldable pub following : Problem → Checkpoint → Bool
-following p c = well-formed c && S.follows (look p) (checkpoint-of c)
+unfoldable pub following : Turnable → Checkpoint → Bool
+following t c = well-formed c && choice-follows t (checkpoint-of c)
 
 -- the same as a statement. The proofs of `search`, Claim, show that they agree
-pub record Following (p : Problem) (c : Checkpoint) : Type 0 where
+pub record Following (t : Turnable) (c : Checkpoint) : Type 0 where
   pub is-well-formed : well-formed c ≡ true
-  pub follows : S.Follows (look p) (checkpoint-of c)
+  pub follows : ChoiceFollows t (checkpoint-of c)
 
 -- the first n are branches of a path
 pub record Bits (n : ℕ) (bs : List ℕ) : Type 0 where
@@ -70,11 +75,14 @@ unfoldable pub branches-of : List Branch → List ℕ
 branches-of [] = replicate max-branches 0
 branches-of (b ∷ path) = set (branches-of path) (length path) (branch-number b)
 
--- the value that holds a checkpoint
-unfoldable pub value-of : S.Checkpoint → Checkpoint
-value-of (S.open-at path) = record { status = Open; length = length path; branches = branches-of path }
-value-of S.infeasible = record { status = Infeasible; length = 0; branches = branches-of [] }
-value-of (S.packed-at path) = record { status = Packed; length = length path; branches = branches-of path }
+-- the value that holds a checkpoint of a choice
+unfoldable pub value-at : ℕ → S.Checkpoint → Checkpoint
+value-at n (S.open-at path) = record { status = Open; length = length path; branches = branches-of path; choice = n }
+value-at n S.infeasible = record { status = Infeasible; length = 0; branches = branches-of []; choice = n }
+value-at n (S.packed-at path) = record { status = Packed; length = length path; branches = branches-of path; choice = n }
+
+abbrev pub value-of : ChoiceCheckpoint → Checkpoint
+value-of s = value-at (s .number) (s .state)
 
 -- the branches of a path in an array, and how many they are
 pub record PathIn (path : List Branch) (bs : List ℕ) (n : ℕ) : Type 0 where

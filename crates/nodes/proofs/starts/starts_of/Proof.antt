@@ -2,7 +2,7 @@
 use Rattle.prelude.specs.Names.{arith, _≡_, refl, _∙_, ℕ, _+_, _-_, _≤_, _<_, List, getD, length, length-set}
 use Rattle.model.proofs.Below.{below-three}
 use Rattle.instance.specs.declared.Position.{Position}
-use Rattle.instance.specs.Meaning.{start, positions-of}
+use Rattle.instance.specs.Meaning.{start}
 use Rattle.instance.specs.Values.{origin}
 use Rattle.nodes.specs.Starts.{start-at}
 use Rattle.nodes.proofs.Loops.{blank-at, written}
@@ -35,7 +35,6 @@ loop-again c =
     )
 
 returns : tie.Need-returns Inv-loop μ-loop
-unfolding positions-of
 returns c =
     let l = c .before .loop in
     record {

@@ -1,6 +1,6 @@
--- `search::steps::run` meets its contract. Invariant: so many looks have led, along the checkpoint's path and on by steps, to the path whose
+-- `tree_search::run` meets its contract. Invariant: so many looks have led, along the path given and on by steps, to the path whose
 -- domains are in the arrays, with a snapshot of each branching point at which it takes the first branch. Measure: the looks left.
-use Rattle.prelude.specs.Names.{List, [], _≡_, refl, ap, _∙_, subst, ℕ, _+_, _-_, _≤_, _<_, arith, getD, length-replicate, needs, not-true, not-false}
+use Rattle.prelude.specs.Names.{List, [], _≡_, refl, sym, ap, _∙_, subst, ℕ, _+_, _-_, _≤_, _<_, arith, getD, length-replicate, needs, not-true, not-false}
 use Rattle.model.proofs.Slots.{proper-up, proper-wide}
 use Rattle.model.proofs.Theorems.{path-270}
 use Rattle.model.specs.Admits.{Sound}
@@ -11,51 +11,66 @@ use Rattle.model.specs.Run.{look}
 use Rattle.model.specs.Wide.{wide}
 use Rattle.instance.proofs.Arrays.{length-mapped}
 use Rattle.instance.specs.Meaning.{problem-of}
-use Rattle.instance.specs.declared.Checkpoint.{Checkpoint}
 use Rattle.instance.specs.declared.Instance.{Instance}
-use Rattle.tree_paths.specs.Checkpoints.{Backed}
+use Rattle.tree_paths.specs.Checkpoints.{path-of, branches-of, Backed}
 use Rattle.tree_paths.specs.Looks.{Looked}
 use Rattle.domains.specs.declared.Place.{Place}
 use Rattle.tree_paths.specs.declared.outlook.Outlook.{Outlook}
 use Rattle.tree_paths.specs.declared.outlook.Outlook.the-variants.{Conflict, Complete, Fork}
 use Rattle.nodes.proofs.Branches.{branchable}
-use Rattle.tree_paths.proofs.Checkpoints.{branches-length}
-use Rattle.search.proofs.Complete.{startable, started-plan}
+use Rattle.tree_paths.proofs.Checkpoints.{branches-length, given-back}
+use Rattle.tree_search.specs.Results.{tree-result}
+use Rattle.tree_search.specs.declared.TreeResult.{TreeResult}
+use Rattle.tree_search.proofs.Complete.{startable, started-plan}
 use Rattle.opening.proofs.Sound.{valid-sound}
 use Rattle.tree_paths.proofs.SearchState.{Snapshots, State, state-root, same-behind, fork-rising, fork-pair, fork-level, fork-depth, state-next}
 use Rattle.tree_paths.proofs.SearchState.{BackTo, back-branches, back-infeasible, back-exists, back-level, back-below, back-pair}
 use Rattle.tree_paths.proofs.SearchState.{Restored, restored, back-branchable, state-back}
-use Rattle.search.proofs.Stepping.{Progress, progress-root, progress-small, progress-fork, progress-back, not-following}
-use Rattle.search.proofs.Stepping.{result-infeasible, result-packed, result-spent}
+use Rattle.tree_search.proofs.Stepping.{Progress, progress-root, progress-small, progress-fork, progress-back, result-not-following}
+use Rattle.tree_search.proofs.Stepping.{result-infeasible, result-packed, result-spent}
 use lib.ListN as L
 use Rattle.model.specs.Search as S
-use Rattle.search.proofs.steps.run.Tie as tie
+use Rattle.tree_search.proofs.run.Tie as tie
 
 -- what holds before each look: the path that the looks have led to, the state of the search at it, and how far the call has come
-record CallState (i : Instance) (c : Checkpoint) (budget limit : ℕ) (k : Domains) (rows q t : List ℕ) (s : Snapshots) (kept : ℕ) (bs : List ℕ)
-    (depth from looks : ℕ) : Type 0 where
+-- The path is read from the array that the loop begins with, which has the path given.
+record CallState (i : Instance) (given : List ℕ) (n budget limit : ℕ) (k : Domains) (rows q t : List ℕ) (s : Snapshots) (kept : ℕ)
+    (bs : List ℕ) (depth from looks : ℕ) : Type 0 where
   within : looks ≤ limit
   path : List Branch
   state : State (problem-of i) k rows q t s kept depth from path
-  progress : Progress (problem-of i) budget (c .branches) (c .length) looks path bs
+  progress : Progress (problem-of i) budget given n looks path bs
 
 abbrev Inv-loop : tie.InvT-loop
-Inv-loop instance checkpoint budget _ limit _ _ _ _ _ _ _ _ _ _ _ _ _ k rows queue t kd kr kt places kept branches depth from looks =
+Inv-loop instance length budget limit _ _ _ _ _ _ _ _ _ given _ _ _ k rows queue t kd kr kt places kept branches depth from looks =
     let s : Snapshots = record { domains = kd; rows = kr; totals = kt; places = places } in
-    CallState instance checkpoint budget limit k rows queue t s kept branches depth from looks
+    CallState instance given length budget limit k rows queue t s kept branches depth from looks
 
 abbrev μ-loop : tie.MeasureT-loop
-μ-loop _ _ _ _ limit _ _ _ _ _ _ _ _ _ _ _ _ _ _ _ _ _ _ _ _ _ _ _ _ _ looks = limit - looks
+μ-loop _ _ _ limit _ _ _ _ _ _ _ _ _ _ _ _ _ _ _ _ _ _ _ _ _ _ _ _ _ looks = limit - looks
 
 -- the start of the function and the problem, from the head of the loop
 abbrev start : tie.At-loop Inv-loop μ-loop → tie.Start Inv-loop μ-loop
-start h = h .before .before .before .before .before .before .before .before .before .before
+start h = h .before .before .before .before .before .before .before .before .before
 
 abbrev problem : tie.At-loop Inv-loop μ-loop → Problem
 problem h = problem-of (start h .args .instance)
 
 sound : (h : tie.At-loop Inv-loop μ-loop) → Sound (problem h)
 sound h = valid-sound (start h .args .instance) (start h .pre .0) (search length-mapped)
+
+-- the array that the loop begins with has the path given
+given-is : (c : tie.After-path-branches Inv-loop μ-loop) → let a = c .before .before .before .before .before .before .before .before .args in
+    path-of (a .length) (c .path-branches .result) ≡ path-of (a .length) (a .given)
+given-is c =
+    let s = c .before .before .before .before .before .before .before .before in
+    rw (c .path-branches .ensures) (given-back (s .args .length) (s .args .given) (s .pre .1 .within))
+
+-- so what comes of it comes of the path given
+comes-of : (h : tie.At-loop Inv-loop μ-loop) {r : TreeResult} → let a = start h .args in
+    r ≡ tree-result (problem h) (a .budget) (S.open-at (path-of (a .length) (h .before .path-branches .result)))
+    → r ≡ tree-result (problem h) (a .budget) (S.open-at (path-of (a .length) (a .given)))
+comes-of h {r} e = subst (λ (path : List Branch). r ≡ tree-result (problem h) (start h .args .budget) (S.open-at path)) (given-is (h .before)) e
 
 count : (i : Instance) → problem-of i .items ≡ i .«item_count»
 unfolding problem-of
@@ -77,10 +92,10 @@ seen c e =
     subst (Sees c) e (c .look .ensures .1 (problem (head c)) (h .path)
     (record { sound = sound (head c); count = count (start (head c) .args .instance); at = h .state .at; passed = h .state .passed }))
 
-looks-left : (c : tie.After-look Inv-loop μ-loop) → let a = start (head c) .args in head c .loop .looks < a .checkpoint .length + a .budget
+looks-left : (c : tie.After-look Inv-loop μ-loop) → let a = start (head c) .args in head c .loop .looks < a .length + a .budget
 looks-left c = c .before .before .before .before .before .loop-test .taken
 
--- a conflict past the checkpoint's path, where no branch is left, or one to go back to
+-- a conflict past the path given, where no branch is left, or one to go back to
 conflict : (c : tie.After-enum-told Inv-loop μ-loop) → Sees (c .before .before) Conflict
 conflict c = seen (c .before .before) (c .enum-told .given .1)
 
@@ -139,12 +154,12 @@ at-fork c = c .before .before .before .before .before .before .before .before .b
 
 returns : tie.Need-returns Inv-loop μ-loop
 returns c =
-    c .dead-end .ensures (problem-of (c .before .before .before .before .args .instance))
+    c .dead-end .ensures (problem-of (c .before .before .before .before .args .instance)) (c .before .before .before .before .args .given)
     (rw (not-true (c .before .before .before .root-of .result .consistent) (c .before .if1 .taken)) at (c .before .before .before .root-of .ensures))
 
 loop-holds : tie.Need-loop-holds Inv-loop μ-loop
 loop-holds c =
-    let f = c .before .before .before .before .before .before in
+    let f = c .before .before .before .before .before in
     let r = f .before .before .root-of in
     record {
       within = omega arith;
@@ -155,14 +170,14 @@ loop-holds c =
         totals = length-replicate {A = ℕ} 5400 0;
         places = length-replicate {A = ℕ} 90 0;
       });
-      progress = progress-root (c .path-branches .ensures);
+      progress = progress-root (c .path-branches .ensures ∙ ap branches-of (sym (given-is c)));
     }
 
 returns-2 : tie.Need-returns-2 Inv-loop μ-loop
 returns-2 c =
     let h = head (c .before .before .before .before) in
-    c .refused .ensures
-    ∙ not-following (start h .args .checkpoint) (h .loop .inv .progress) (omega (arith, c .before .if2 .taken)) (rw (conflict (c .before .before)))
+    c .not-following .ensures
+    ∙ comes-of h (result-not-following (h .loop .inv .progress) (omega (arith, c .before .if2 .taken)) (rw (conflict (c .before .before))))
 
 returns-3 : tie.Need-returns-3 Inv-loop μ-loop
 returns-3 c =
@@ -170,9 +185,9 @@ returns-3 c =
     let l = b .before .before .before .before .before in
     let h = head l in
     c .infeasible .ensures
-    ∙ result-infeasible (start h .args .checkpoint) (h .loop .inv .progress) (omega (arith, b .before .before .if2 .left)) (looks-left l)
+    ∙ comes-of h (result-infeasible (h .loop .inv .progress) (omega (arith, b .before .before .if2 .left)) (looks-left l)
     (conflict (b .before .before .before))
-    (back-infeasible (problem h) (h .loop .inv .path) (h .loop .inv .state .forks) (backed b) (c .before .if3 .taken))
+    (back-infeasible (problem h) (h .loop .inv .path) (h .loop .inv .state .forks) (backed b) (c .before .if3 .taken)))
 
 loop-again : tie.Need-loop-again Inv-loop μ-loop
 loop-again c =
@@ -193,20 +208,20 @@ loop-again c =
 returns-4 : tie.Need-returns-4 Inv-loop μ-loop
 returns-4 c =
     let h = head (c .before .before .before .before) in
-    c .refused2 .ensures
-    ∙ not-following (start h .args .checkpoint) (h .loop .inv .progress) (omega (arith, c .before .if4 .taken)) (rw (complete (c .before .before) .0))
+    c .not-following2 .ensures
+    ∙ comes-of h (result-not-following (h .loop .inv .progress) (omega (arith, c .before .if4 .taken)) (rw (complete (c .before .before) .0)))
 
 returns-5 : tie.Need-returns-5 Inv-loop μ-loop
 returns-5 c =
     let h = head (c .before .before .before .before .before .before) in
     let i = h .loop .inv in
     let (l, s) = complete (c .before .before .before .before) in
-    let q : L.length (c .before .starts-of .result .positions) ≡ 10 = search length-mapped in
+    let q : L.length (c .before .starts-of .result) ≡ 10 = search length-mapped in
     c .packed .ensures
-    ∙ result-packed (start h .args .checkpoint) (i .progress) (omega (arith, c .before .before .before .if4 .left))
+    ∙ comes-of h (result-packed (i .progress) (omega (arith, c .before .before .before .if4 .left))
     (looks-left (c .before .before .before .before .before .before)) l (i .state .deep)
     (started-plan (problem h) (sound h .limited) (i .path) s (sound h) (i .state .forks)
-    (rw (count (start h .args .instance)) (c .before .starts-of .ensures)) q)
+    (rw (count (start h .args .instance)) (c .before .starts-of .ensures)) q))
 
 loop-again-2 : tie.Need-loop-again-2 Inv-loop μ-loop
 loop-again-2 c =
@@ -231,12 +246,12 @@ returns-6 c =
     let h = c .before .before in
     let more = c .before .loop-test .left in
     c .spent .ensures
-    ∙ result-spent (start h .args .checkpoint) (h .loop .inv .progress) (omega arith) (omega (arith, h .loop .inv .within)) (h .loop .inv .state .deep)
+    ∙ comes-of h (result-spent (h .loop .inv .progress) (omega arith) (omega (arith, h .loop .inv .within)) (h .loop .inv .state .deep))
 
-pub run-spec : {M : Type 1} → Rattle.search.proofs.steps.run.Statement.statement M
+pub run-spec : {M : Type 1} → Rattle.tree_search.proofs.run.Statement.statement M
 run-spec = tie.close (tie.spec Inv-loop μ-loop (λ c κs. search needs) (λ c κs. search needs) returns
-    (λ c. omega (arith, c .before .before .before .before .pre .1 .within))
-    (λ c κs. c .before .before .before .before .before .before .before .before .pre .1) loop-holds
+    (λ c. omega (arith, c .before .before .before .pre .1 .within))
+    (λ c κs. c .before .before .before .before .before .before .before .pre .1) loop-holds
     (λ c. omega (arith, start (c .before) .pre .1 .within)) (λ c κs. let h = c .before .before .before .before .before in
     (rw (count (start h .args .instance)) at (sound h .limited), (wide (problem h), h .loop .inv .state .at .ready))) (λ c. search needs)
     (λ c κs. search needs) returns-2 (λ c κs. let h = head (c .before .before .before .before) in let i = h .loop .inv in (

@@ -1,35 +1,50 @@
-// The path of a checkpoint gone along from the root, and then the steps of a call.
+// The search of one problem: along a path from the root, and then the steps of a call.
 ghost use mathlib.Core.Path.{_≡_};
 ghost use mathlib.Core.Bool.{true};
-ghost use mathlib.Core.List.{[]};
+ghost use mathlib.Core.List.{List, []};
 ghost use Prim.Native.Nat.{ℕ};
 ghost use Rattle.model.specs.Problem.{Problem};
 ghost use Rattle.model.specs.Run as R;
 ghost use Rattle.model.specs.Search as S;
 ghost use Rattle.instance.specs.Valid.{valid};
 ghost use Rattle.instance.specs.Meaning.{problem-of};
-ghost use Rattle.tree_paths.specs.Checkpoints.{Bits, value-path};
-ghost use Rattle.search.specs.Results.{followed};
+ghost use Rattle.tree_paths.specs.Checkpoints.{Bits, path-of};
 ghost use Rattle.nodes.specs.Nodes.{slot-of, slot-coded};
-use crate::answer::Answer;
-use crate::answer::SearchResult;
-use crate::results;
+ghost use Rattle.tree_search.specs.Results.{tree-result};
 use chains::totals::SIZES;
 use domains::DOMAINS;
 use domains::Place;
 use domains::ROWS;
 use domains::queue::code;
-use instance::Checkpoint;
 use instance::Instance;
+use instance::Position;
 use nodes::branching::apply_branch;
 use nodes::levels;
 use nodes::levels::MAX_LEVELS;
 use nodes::starts;
 use pairs::pair_number;
-use refusal::Refusal;
 use tree_paths::outlook::Outlook;
 use tree_paths::outlook::look;
 use tree_paths::path;
+
+mod results;
+
+// What a call comes to: a packing, none, the budget spent on the way, or a path that does not follow the problem.
+pub enum Outcome {
+    Packed,
+    Infeasible,
+    Spent,
+    NotFollowing,
+}
+
+// The outcome, the steps taken, the path that they lead to and, where packed, the positions.
+pub struct TreeResult {
+    pub outcome: Outcome,
+    pub steps: u32,
+    pub length: usize,
+    pub branches: [u8; Instance::MAX_BRANCHES],
+    pub positions: [Position; Instance::MAX_ITEMS],
+}
 
 // The place of a number.
 fn place_of(number: u16) -> Place
@@ -44,11 +59,11 @@ fn place_of(number: u16) -> Place
 }
 
 // The call where the opening domains are inconsistent.
-fn dead_end(checkpoint: Checkpoint, budget: u32) -> SearchResult
-    ensures { λ r. ⌜ ((p : Problem) → R.look p [] ≡ S.conflict → r ≡ followed p budget checkpoint (S.open-at (value-path checkpoint))) ⌝ }
+fn dead_end(length: usize, budget: u32) -> TreeResult
+    ensures { λ r. ⌜ ((p : Problem) (given : List ℕ) → R.look p [] ≡ S.conflict → r ≡ tree-result p budget (S.open-at (path-of length given))) ⌝ }
 {
-    if checkpoint.length != 0 {
-        return results::refused(Refusal::NotFollowing, checkpoint);
+    if length != 0 {
+        return results::not_following();
     }
     if budget == 0 {
         let branches = [0u8; Instance::MAX_BRANCHES];
@@ -57,19 +72,22 @@ fn dead_end(checkpoint: Checkpoint, budget: u32) -> SearchResult
     results::infeasible(1)
 }
 
-// The call on an open checkpoint: its path from the root on, a look a branch, then a look a step, while the budget lasts. `branches` has the
-// branch to take at each branching point: the path's, and past it 0, the first.
-pub fn run(instance: Instance, checkpoint: Checkpoint, budget: u32) -> SearchResult
+// The call on an open path: from the root on, a look a branch, then a look a step, while the budget lasts. `branches` has the branch to take at
+// each branching point: the path's, and past it 0, the first.
+pub fn run(
+    instance: Instance,
+    given: [u8; Instance::MAX_BRANCHES],
+    length: usize,
+    budget: u32,
+) -> TreeResult
     requires { ⌜ valid instance ≡ true ⌝ }
-    requires { ⌜ Bits (checkpoint .length) (checkpoint .branches) ⌝ }
-    ensures { λ r. ⌜ r ≡ followed (problem-of instance) budget checkpoint (S.open-at (value-path checkpoint)) ⌝ }
+    requires { ⌜ Bits length given ⌝ }
+    ensures { λ r. ⌜ r ≡ tree-result (problem-of instance) budget (S.open-at (path-of length given)) ⌝ }
 {
     let root = opening::root_of(instance);
     if !root.consistent {
-        return dead_end(checkpoint, budget);
+        return dead_end(length, budget);
     }
-    let given = checkpoint.branches;
-    let length = checkpoint.length;
     let limit = length + budget as usize;
     let mut k = root.domains;
     let mut rows = root.rows;
@@ -96,7 +114,7 @@ pub fn run(instance: Instance, checkpoint: Checkpoint, budget: u32) -> SearchRes
         ) {
             Outlook::Conflict => {
                 if looks <= length {
-                    return results::refused(Refusal::NotFollowing, checkpoint);
+                    return results::not_following();
                 }
                 depth = path::back(&mut branches, depth);
                 if depth == 0 {
@@ -112,10 +130,10 @@ pub fn run(instance: Instance, checkpoint: Checkpoint, budget: u32) -> SearchRes
             }
             Outlook::Complete => {
                 if looks <= length {
-                    return results::refused(Refusal::NotFollowing, checkpoint);
+                    return results::not_following();
                 }
-                let packing = starts::starts_of(&t, instance.item_count);
-                return results::packed((looks - length) as u32, branches, depth, packing);
+                let positions = starts::starts_of(&t, instance.item_count);
+                return results::packed((looks - length) as u32, branches, depth, positions);
             }
             Outlook::Fork(place) => {
                 levels::save_domains(&mut kept_domains, kept, &k);
@@ -133,25 +151,21 @@ pub fn run(instance: Instance, checkpoint: Checkpoint, budget: u32) -> SearchRes
     results::spent(budget, branches, depth)
 }
 
-// The call on a packed checkpoint: one step from its path, which is none of this call, must come to it again.
-pub fn repeat(instance: Instance, checkpoint: Checkpoint) -> SearchResult
+// The call on a packed path: one step from it, which is none of this call, must come to it again.
+pub fn repeat(instance: Instance, given: [u8; Instance::MAX_BRANCHES], length: usize) -> TreeResult
     requires { ⌜ valid instance ≡ true ⌝ }
-    requires { ⌜ Bits (checkpoint .length) (checkpoint .branches) ⌝ }
-    ensures { λ r. ⌜ ((budget : ℕ) → r ≡ followed (problem-of instance) budget checkpoint (S.packed-at (value-path checkpoint))) ⌝ }
+    requires { ⌜ Bits length given ⌝ }
+    ensures { λ r. ⌜ ((budget : ℕ) → r ≡ tree-result (problem-of instance) budget (S.packed-at (path-of length given))) ⌝ }
 {
-    let again = run(instance, checkpoint, 1);
-    let answer = again.answer;
-    let end = again.checkpoint;
-    let packing = again.packing;
-    match answer {
-        Answer::Packed => SearchResult {
-            answer,
-            steps: 0,
-            checkpoint: end,
-            packing,
-        },
-        Answer::Infeasible => results::refused(Refusal::NotFollowing, checkpoint),
-        Answer::BudgetSpent => results::refused(Refusal::NotFollowing, checkpoint),
-        Answer::Refused(_) => results::refused(Refusal::NotFollowing, checkpoint),
+    let again = run(instance, given, length, 1);
+    let outcome = again.outcome;
+    let depth = again.length;
+    let branches = again.branches;
+    let positions = again.positions;
+    match outcome {
+        Outcome::Packed => results::packed(0, branches, depth, positions),
+        Outcome::Infeasible => results::not_following(),
+        Outcome::Spent => results::not_following(),
+        Outcome::NotFollowing => results::not_following(),
     }
 }

@@ -1,22 +1,20 @@
--- How far a call has come: along the checkpoint's path, or some steps on from it; and what the call comes to from there.
+-- How far a call has come: along the path given, or some steps on from it; and what the call comes to from there.
 use Rattle.prelude.specs.Names.{true, false, List, [], _∷_, _≡_, refl, sym, ap, _∙_, ℕ, _+_, _-_, _≤_, _<_, decLt, arith, length, getD}
 use Rattle.model.proofs.Run.{forking-exactly}
 use Rattle.model.specs.Branching.{Branch, second, plan}
 use Rattle.model.specs.Problem.{Problem}
 use Rattle.model.specs.Run.{look}
-use Rattle.refusal.specs.declared.Refusal.the-variants.{NotFollowing}
-use Rattle.instance.specs.declared.Checkpoint.{Checkpoint}
-use Rattle.instance.specs.declared.Packing.{Packing}
-use Rattle.tree_paths.specs.Checkpoints.{branch-of, path-of, value-path, branches-of, PathIn}
-use Rattle.search.specs.Results.{packing-of, result-refused, followed, infeasible-after, spent-after, packed-after}
-use Rattle.search.specs.declared.answer.SearchResult.{SearchResult}
-use Rattle.search.proofs.Budget.{Rest, rest-start, rest-next, rest-finished, rest-spent}
+use Rattle.instance.specs.declared.Position.{Position}
+use Rattle.tree_paths.specs.Checkpoints.{branch-of, path-of, branches-of, PathIn}
+use Rattle.tree_search.specs.Results.{positions-list, not-following, infeasible-after, spent-after, packed-after, tree-result}
+use Rattle.tree_search.specs.declared.TreeResult.{TreeResult}
+use Rattle.tree_search.proofs.Budget.{Rest, rest-start, rest-next, rest-finished, rest-spent}
 use Rattle.tree_paths.proofs.Checkpoints.{path-length, path-next, branch-back, branches-past, branches-small, first-held, again-at}
-use Rattle.search.proofs.Outcome.{forking-fails, comes-infeasible, comes-spent, comes-packed, refused-result}
+use Rattle.tree_search.proofs.Outcomes.{forking-fails, comes-infeasible, comes-spent, comes-packed, result-unfollowed}
 use Rattle.tree_paths.proofs.SearchState.{BackTo}
 use Rattle.model.specs.Search as S
 
--- the path of a checkpoint is gone along, and some steps lead on from it
+-- the path given is gone along, and some steps lead on from it
 pub record PastPath (p : Problem) (budget : ℕ) (start : List Branch) (steps : ℕ) (path : List Branch) (bs : List ℕ) : Type 0 where
   pub start-forks : S.Forking (look p) start
   pub rest : Rest (look p) budget (S.open-at start) steps (S.open-at path)
@@ -27,7 +25,7 @@ pub record Progress (p : Problem) (budget : ℕ) (given : List ℕ) (n looks : �
   pub early : looks < n → (path ≡ path-of looks given) × (bs ≡ branches-of (path-of n given))
   pub late : n ≤ looks → PastPath p budget (path-of n given) (looks - n) path bs
 
--- where the path of the checkpoint ends
+-- where the path given ends
 module _ {p : Problem} {budget n : ℕ} (given : List ℕ) where
   arrived : {looks : ℕ} {path : List Branch} {bs : List ℕ} → looks ≡ n → path ≡ path-of looks given → bs ≡ branches-of (path-of n given)
       → S.Forking (look p) path → PastPath p budget (path-of n given) (looks - n) path bs
@@ -83,37 +81,36 @@ module _ {p : Problem} {budget : ℕ} {given : List ℕ} {n : ℕ} where
       late = λ _. record { start-forks = ω .late h .start-forks; rest = rw (τ .back) at (steps-on h l e); held = δ .entries };
     }
 
--- What the call on a checkpoint comes to
-module _ (c : Checkpoint) {p : Problem} {budget looks : ℕ} {path : List Branch} {bs : List ℕ}
-    (ω : Progress p budget (c .branches) (c .length) looks path bs) where
+-- What the call on the path given comes to
+module _ {p : Problem} {budget : ℕ} {given : List ℕ} {n looks : ℕ} {path : List Branch} {bs : List ℕ} (ω : Progress p budget given n looks path bs) where
   abbrev κ : S.Checkpoint
-  κ = S.open-at (value-path c)
+  κ = S.open-at (path-of n given)
 
-  abbrev Result : SearchResult → Type 0
-  Result r = r ≡ followed p budget c κ
+  abbrev Result : TreeResult → Type 0
+  Result r = r ≡ tree-result p budget κ
 
   -- a beginning that is no branching point
-  pub not-following : looks < c .length → S.is-fork (look p path) ≡ false → Result (result-refused NotFollowing c)
-  not-following h e = refused-result p budget c κ (forking-fails (look p) (c .branches) looks (c .length) h (rw (ω .early h .0) at e))
+  pub result-not-following : looks < n → S.is-fork (look p path) ≡ false → Result not-following
+  result-not-following h e = result-unfollowed p budget κ (forking-fails (look p) given looks n h (rw (ω .early h .0) at e))
 
-  module _ (h : c .length ≤ looks) where
+  module _ (h : n ≤ looks) where
     follows : S.follows (look p) κ ≡ true
-    follows = forking-exactly (look p) (value-path c) .1 (ω .late h .start-forks)
+    follows = forking-exactly (look p) (path-of n given) .1 (ω .late h .start-forks)
 
     held : {depth : ℕ} → depth ≡ length path → PathIn path bs depth
     held d = record { many = d; entries = ω .late h .held }
 
     -- "if none is left, the note is none with an empty row"
-    pub result-infeasible : looks < c .length + budget → look p path ≡ S.conflict → S.backtrack path ≡ S.infeasible
-        → Result (infeasible-after (looks + 1 - c .length))
-    result-infeasible l e b = comes-infeasible p budget c κ follows (rest-finished (look p) budget κ (rw b at (steps-on ω h l e)) tt)
+    pub result-infeasible : looks < n + budget → look p path ≡ S.conflict → S.backtrack path ≡ S.infeasible
+        → Result (infeasible-after (looks + 1 - n))
+    result-infeasible l e b = comes-infeasible p budget κ follows (rest-finished (look p) budget κ (rw b at (steps-on ω h l e)) tt)
 
     -- "each pair has 'before' known: placed"
-    pub result-packed : looks < c .length + budget → look p path ≡ S.complete → {depth : ℕ} → depth ≡ length path → {q : Packing}
-        → q ≡ packing-of p (plan p path) → Result (packed-after (looks + 1 - c .length) bs depth q)
-    result-packed l e d q = comes-packed p budget c κ follows (held d) q (rest-finished (look p) budget κ (steps-on ω h l e) tt)
+    pub result-packed : looks < n + budget → look p path ≡ S.complete → {depth : ℕ} → depth ≡ length path → {q : List Position}
+        → q ≡ positions-list p (plan p path) → Result (packed-after (looks + 1 - n) bs depth q)
+    result-packed l e d q = comes-packed p budget κ follows (held d) q (rest-finished (look p) budget κ (steps-on ω h l e) tt)
 
-    pub result-spent : looks ≡ c .length + budget → {depth : ℕ} → depth ≡ length path → Result (spent-after budget bs depth)
+    pub result-spent : looks ≡ n + budget → {depth : ℕ} → depth ≡ length path → Result (spent-after budget bs depth)
     result-spent e d =
-        let s : looks - c .length ≡ budget = omega arith in
-        comes-spent p budget c κ follows (held d) (rest-spent (look p) budget κ (rw s at (ω .late h .rest)) (omega arith))
+        let s : looks - n ≡ budget = omega arith in
+        comes-spent p budget κ follows (held d) (rest-spent (look p) budget κ (rw s at (ω .late h .rest)) (omega arith))

@@ -1,0 +1,2 @@
+-- The search of one problem as values.
+pub mod Results
