@@ -1,16 +1,18 @@
 -- Laws of checkpoints as bytes.
-use Rattle.prelude.specs.Names.{true, false, _&&_, List, [], _∷_, _≡_, refl, sym, _∙_, ℕ, zero, suc, _+_, _*_, _/_, _%_, _≤_, _<_, arith, add-one}
-use Rattle.prelude.specs.Names.{eq-eqb, ne-eqb, eqb-true, ltb, eqb, length, getD, take, drop, set, length-drop, drop-of-length-le, sets, drop-cons}
-use Rattle.prelude.specs.Names.{getD-drop, take-all}
-use lib.Seq.{drop-append-add}
+use Rattle.prelude.specs.Names.{true, false, _&&_, List, [], _∷_, _++_, _≡_, refl, sym, _∙_, ℕ, zero, suc, _+_, _*_, _/_, _%_, _≤_, _<_, arith, add-one}
+use Rattle.prelude.specs.Names.{eq-eqb, ne-eqb, eqb-true, ltb, eqb, length, getD, take, drop, set, length-append, length-drop, drop-of-length-le, sets}
+use Rattle.prelude.specs.Names.{drop-cons, getD-drop, getD-take, getD-append-add, length-take-le, take-all, take-at}
+use lib.ListN.{take-append-drop}
+use lib.Seq.{getD-at}
 use Rattle.model.proofs.Below.{and-both}
 use Rattle.formats.specs.Reading.{Bytes}
-use Rattle.formats.proofs.Stores.{sets-next, sets-append}
+use Rattle.formats.proofs.Stores.{sets-next, stores-joined}
+use Rattle.sheet.specs.Places.{word-at}
 use Rattle.instance.specs.declared.Checkpoint.{Checkpoint}
 use Rattle.instance.specs.declared.Status.{Status}
 use Rattle.instance.specs.declared.Status.the-variants.{Open, Infeasible, Packed}
 use Rattle.buffers.specs.Bytes.{word-bytes}
-use Rattle.buffers.specs.Checkpoints.{status-byte, status-of, checkpoint-bytes, checkpoint-in, all-zero, is-checkpoint}
+use Rattle.buffers.specs.Checkpoints.{status-byte, status-of, checkpoint-bytes, branches-in, checkpoint-in, all-zero, is-checkpoint}
 use Rattle.buffers.proofs.Bytes.{word-back, fills}
 
 -- 0 from a place on
@@ -51,43 +53,59 @@ status-small Infeasible = refl
 status-small Packed = refl
 
 -- a checkpoint comes back from its bytes
-pub checkpoint-back : (c : Checkpoint) → checkpoint-in (checkpoint-bytes c) ≡ c
-unfolding checkpoint-in checkpoint-bytes
-checkpoint-back c = rw (status-back (c .status), word-back (c .length))
+module _ (c : Checkpoint) (long : length (c .branches) ≡ 270) where
+  branches-back : branches-in (checkpoint-bytes c) ≡ c .branches
+  unfolding checkpoint-bytes
+  branches-back = take-at (c .branches) (word-bytes (c .choice)) 270 long
 
-pub checkpoint-length : (c : Checkpoint) → length (c .branches) ≡ 270 → length (checkpoint-bytes c) ≡ 273
-unfolding checkpoint-bytes
-checkpoint-length c h = omega arith
+  choice-back : word-at (checkpoint-bytes c) 273 ≡ c .choice
+  unfolding checkpoint-bytes
+  choice-back =
+      let low : getD (c .branches ++ word-bytes (c .choice)) 270 0 ≡ c .choice % 256 = getD-at (c .branches) _ _ 0 270 long in
+      let high : getD (c .branches ++ word-bytes (c .choice)) 271 0 ≡ c .choice / 256 =
+      let e : 271 ≡ length (c .branches) + 1 = omega arith in rw e (getD-append-add (c .branches) (word-bytes (c .choice)) 1 0) in
+      rw (low, high) (word-back (c .choice))
 
--- a checkpoint with 0 past its length is held by its bytes
-pub bytes-hold : (c : Checkpoint) → ((j : ℕ) → c .length ≤ j → getD (c .branches) j 0 ≡ 0) → is-checkpoint (checkpoint-bytes c) ≡ true
-unfolding is-checkpoint checkpoint-bytes
-bytes-hold c h =
-    let d : drop (3 + c .length) (status-byte (c .status) ∷ c .length % 256 ∷ c .length / 256 ∷ c .branches) ≡ drop (c .length) (c .branches) =
-    drop-append-add (status-byte (c .status) ∷ c .length % 256 ∷ c .length / 256 ∷ []) (c .branches) (c .length) in
-    rw (status-small (c .status), word-back (c .length), d)
-    (zero-all (drop (c .length) (c .branches)) (λ i. getD-drop (c .length) (c .branches) i 0 ∙ h (c .length + i) (omega arith)))
+  pub checkpoint-back : checkpoint-in (checkpoint-bytes c) ≡ c
+  unfolding checkpoint-in checkpoint-bytes
+  checkpoint-back = rw (status-back (c .status), word-back (c .length), branches-back, choice-back)
 
--- the three parts one after the other fill the buffer
-pub checkpoint-fills : (c : Checkpoint) (out : List ℕ) → length out ≡ 273 → length (c .branches) ≡ 270
-    → sets (sets (set out 0 (status-byte (c .status))) 1 (word-bytes (c .length))) 3 (c .branches) ≡ checkpoint-bytes c
-unfolding checkpoint-bytes
-checkpoint-fills c out h l =
-    sets-append (word-bytes (c .length)) (c .branches) (set out 0 (status-byte (c .status))) 1
-    ∙ fills (checkpoint-bytes c) out (h ∙ sym (checkpoint-length c l))
+  pub checkpoint-length : length (checkpoint-bytes c) ≡ 275
+  unfolding checkpoint-bytes
+  checkpoint-length = simp length-append (omega arith)
+
+  -- a checkpoint with 0 past its length is held by its bytes
+  pub bytes-hold : ((j : ℕ) → c .length ≤ j → getD (c .branches) j 0 ≡ 0) → is-checkpoint (checkpoint-bytes c) ≡ true
+  unfolding is-checkpoint checkpoint-bytes
+  bytes-hold h =
+      rw (status-small (c .status), word-back (c .length), branches-back)
+      (zero-all (drop (c .length) (c .branches)) (λ i. getD-drop (c .length) (c .branches) i 0 ∙ h (c .length + i) (omega arith)))
+
+  -- the four parts one after the other fill the buffer
+  pub checkpoint-fills : (out : List ℕ) → length out ≡ 275
+      → sets (sets (sets (set out 0 (status-byte (c .status))) 1 (word-bytes (c .length))) 3 (c .branches)) 273 (word-bytes (c .choice)) ≡ checkpoint-bytes c
+  unfolding checkpoint-bytes
+  checkpoint-fills out h = at 273 (omega arith)
+    where
+      at : (k : ℕ) → k ≡ 3 + length (c .branches)
+          → sets (sets (sets (set out 0 (status-byte (c .status))) 1 (word-bytes (c .length))) 3 (c .branches)) k (word-bytes (c .choice)) ≡ checkpoint-bytes c
+      at k e =
+          rw e (stores-joined out 0 ((status-byte (c .status) ∷ []) ∷ word-bytes (c .length) ∷ c .branches ∷ word-bytes (c .choice) ∷ [])
+          ∙ fills (checkpoint-bytes c) out (h ∙ sym checkpoint-length))
 
 -- the branches, read one by one
-pub branches-next : (note bs : List ℕ) (i : ℕ) → length note ≡ 273 → i < 270
-    → set (sets bs 0 (take i (drop 3 note))) i (getD note (3 + i) 0) ≡ sets bs 0 (take (i + 1) (drop 3 note))
-branches-next note bs i h l =
-    let d : i < length (drop 3 note) = simp length-drop (omega arith) in
-    let z : 0 + i ≡ i = omega arith in
-    rw z at (rw getD-drop at (sets-next bs (drop 3 note) 0 i d))
+module _ (note bs : List ℕ) (whole : length note ≡ 275) where
+  branches-length : length (branches-in note) ≡ 270
+  branches-length = length-take-le 270 (drop 3 note) (simp length-drop (omega arith))
 
-pub branches-read : (note bs : List ℕ) → length note ≡ 273 → length bs ≡ 270 → sets bs 0 (take 270 (drop 3 note)) ≡ drop 3 note
-branches-read note bs h l =
-    let d : length (drop 3 note) ≡ 270 = simp length-drop (omega arith) in
-    rw (take-all 270 (drop 3 note) (omega arith)) (fills (drop 3 note) bs (l ∙ sym d))
+  pub branches-next : (i : ℕ) → i < 270 → set (sets bs 0 (take i (branches-in note))) i (getD note (3 + i) 0) ≡ sets bs 0 (take (i + 1) (branches-in note))
+  branches-next i l =
+      let d : i < length (branches-in note) = omega (arith, branches-length) in
+      let z : 0 + i ≡ i = omega arith in
+      rw z at (rw (getD-take 270 (drop 3 note) i 0 l, getD-drop) at (sets-next bs (branches-in note) 0 i d))
+
+  pub branches-read : length bs ≡ 270 → sets bs 0 (take 270 (branches-in note)) ≡ branches-in note
+  branches-read l = rw (take-all 270 (branches-in note) (omega (arith, branches-length))) (fills (branches-in note) bs (l ∙ sym branches-length))
 
 -- Bytes that hold a checkpoint are its bytes
 
@@ -103,7 +121,17 @@ status-again (suc zero) h = refl
 status-again (suc (suc zero)) h = refl
 status-again (suc (suc (suc b))) h = absurd (omega arith)
 
-pub bytes-again : (note : List ℕ) → Bytes note → length note ≡ 273 → getD note 0 0 < 3 → checkpoint-bytes (checkpoint-in note) ≡ note
+-- the last two bytes are those of the choice
+ends-again : (bs : List ℕ) → length bs ≡ 272 → getD bs 270 0 < 256
+    → take 270 bs ++ word-bytes (getD bs 270 0 + 256 * getD bs 271 0) ≡ bs
+ends-again bs l h =
+    let m : (getD bs 270 0 + 256 * getD bs 271 0) % 256 ≡ getD bs 270 0 = omega arith in
+    let d : (getD bs 270 0 + 256 * getD bs 271 0) / 256 ≡ getD bs 271 0 = omega arith in
+    let two : drop 270 bs ≡ getD bs 270 0 ∷ getD bs 271 0 ∷ [] =
+    drop-cons bs 270 0 (omega arith) ∙ rw (drop-cons bs 271 0 (omega arith), drop-of-length-le bs {i = 272} (omega arith)) in
+    rw (m, d, ← two) (take-append-drop 270 bs)
+
+pub bytes-again : (note : List ℕ) → Bytes note → length note ≡ 275 → getD note 0 0 < 3 → checkpoint-bytes (checkpoint-in note) ≡ note
 unfolding checkpoint-bytes checkpoint-in
 bytes-again [] β l h = absurd (omega arith)
 bytes-again (s ∷ []) β l h = absurd (omega arith)
@@ -112,4 +140,4 @@ bytes-again (s ∷ a ∷ b ∷ bs) β l h =
     let x : a < 256 = β 1 in
     let m : (a + 256 * b) % 256 ≡ a = omega arith in
     let d : (a + 256 * b) / 256 ≡ b = omega arith in
-    rw (status-again s h, m, d)
+    rw (status-again s h, m, d, ends-again bs (omega arith) (β 273))

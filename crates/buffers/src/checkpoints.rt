@@ -1,15 +1,19 @@
-// Note bytes: status, length of the path, 270 branches.
+// Note bytes: status, length of the path, 270 branches, choice.
 ghost use Rattle.buffers.specs.Lengths.{note-length};
 ghost use Rattle.sheet.specs.Sheet.{max-branches};
 ghost use mathlib.Core.Path.{_≡_};
 ghost use Prim.Native.Nat.{_+_, _≤_};
 ghost use lib.ListN.{length, drop};
 ghost use lib.Seq.{sets};
-ghost use Rattle.buffers.specs.Checkpoints.{status-byte, status-of, checkpoint-bytes, checkpoint-in, all-zero, is-checkpoint};
+ghost use Rattle.buffers.specs.Checkpoints.{status-byte, status-of, checkpoint-bytes, branches-in, checkpoint-in, all-zero, is-checkpoint};
 use crate::words;
 use instance::Checkpoint;
 use instance::Instance;
 use instance::Status;
+
+const BRANCHES_AT: usize = 3;
+
+const CHOICE_AT: usize = BRANCHES_AT + Instance::MAX_BRANCHES;
 
 fn status_byte(status: Status) -> u8
     ensures { λ r. ⌜ r ≡ status-byte status ⌝ }
@@ -47,7 +51,7 @@ fn zero_from(s: &[u8], from: usize) -> bool
     true
 }
 
-// Whether the bytes hold a checkpoint: a status of the three, and 0 past the path's length.
+// Whether the bytes hold a checkpoint: a status of the three, and branches that are 0 past the path's length.
 pub fn is_checkpoint(note: &[u8]) -> bool
     requires { ⌜ length (now note) ≡ note-length ⌝ }
     ensures { λ r. ⌜ r ≡ is-checkpoint (now (note .entry)) ⌝ }
@@ -55,17 +59,18 @@ pub fn is_checkpoint(note: &[u8]) -> bool
     if 2 < note[0] {
         return false;
     }
-    zero_from(note, 3 + words::word_at(note, 1) as usize)
+    let branches = &note[BRANCHES_AT..CHOICE_AT];
+    zero_from(branches, words::word_at(note, 1) as usize)
 }
 
 fn read_branches(note: &[u8]) -> [u8; Instance::MAX_BRANCHES]
     requires { ⌜ length (now note) ≡ note-length ⌝ }
-    ensures { λ r. ⌜ r ≡ drop 3 (now (note .entry)) ⌝ }
+    ensures { λ r. ⌜ r ≡ branches-in (now (note .entry)) ⌝ }
 {
     let mut branches = [0u8; Instance::MAX_BRANCHES];
     let mut i: usize = 0;
     while i < Instance::MAX_BRANCHES {
-        branches[i] = note[3 + i];
+        branches[i] = note[BRANCHES_AT + i];
         i = i + 1;
     }
     branches
@@ -78,10 +83,12 @@ pub fn read_checkpoint(note: &[u8]) -> Checkpoint
     let status = status_of(note[0]);
     let branches = read_branches(note);
     let length = words::word_at(note, 1) as usize;
+    let choice = words::word_at(note, CHOICE_AT);
     Checkpoint {
         status,
         length,
         branches,
+        choice,
     }
 }
 
@@ -91,7 +98,7 @@ fn write_branches(out: &mut [u8], branches: [u8; Instance::MAX_BRANCHES])
 {
     let mut i: usize = 0;
     while i < Instance::MAX_BRANCHES {
-        out[3 + i] = branches[i];
+        out[BRANCHES_AT + i] = branches[i];
         i = i + 1;
     }
 }
@@ -106,4 +113,5 @@ pub fn write_checkpoint(out: &mut [u8], checkpoint: Checkpoint)
     out[0] = status_byte(status);
     words::write_word(out, 1, checkpoint.length as u16);
     write_branches(out, branches);
+    words::write_word(out, CHOICE_AT, checkpoint.choice);
 }

@@ -1,13 +1,14 @@
 -- What search refuses of the bytes that it is lent: exactly what the table does, and then it leaves the buffers.
 use Rattle.prelude.specs.Names.{Bool, true, false, List, _↔_, _⊎_, inl, inr, ⊎-elim, _≡_, refl, sym, ap, _∙_, ℕ, _+_, _≤_, _<_, arith}
 use Rattle.model.proofs.Below.{and-both, clash, test-false}
-use Rattle.model.specs.Problem.{Problem, Positions}
-use Rattle.model.specs.Run.{look, machine, plan-at, search}
+use Rattle.model.specs.Run.{ChoiceCheckpoint, ChoiceFollows, machine, plan-at, search}
+use Rattle.model.specs.Series.{stage}
+use Rattle.model.specs.Turning.{Turnable, Plan}
 use Rattle.refusal.specs.Numbers.{number-of}
 use Rattle.formats.specs.Reading.{Bytes}
 use Rattle.instance.proofs.Readings.{decode-refuses}
-use Rattle.instance.specs.Meaning.{problem-of}
 use Rattle.instance.specs.Reads.{Reads}
+use Rattle.turning.specs.Turned.{turnable-of}
 use Rattle.search.proofs.Claim.{following-exactly, answered-small, zero-is-spent}
 use Rattle.tree_paths.specs.Checkpoints.{checkpoint-of, following}
 use Rattle.search.specs.declared.answer.SearchResult.{SearchResult}
@@ -29,11 +30,11 @@ use Rattle.model.specs.Search as S
 use Rattle.search.specs.Results as R
 
 -- the checkpoint that a note holds follows, where the test says so
-in-follows : (p : Problem) (note : List ℕ) → note-follows p note ≡ true → S.Follows (look p) (checkpoint-of (checkpoint-in note))
+in-follows : (t : Turnable) (note : List ℕ) → note-follows t note ≡ true → ChoiceFollows t (checkpoint-of (checkpoint-in note))
 unfolding note-follows
-in-follows p note e =
-    let (k, f) = and-both (is-checkpoint note) (following p (checkpoint-in note)) e in
-    following-exactly p (checkpoint-in note) .0 f .follows
+in-follows t note e =
+    let (k, f) = and-both (is-checkpoint note) (following t (checkpoint-in note)) e in
+    following-exactly t (checkpoint-in note) .0 f .follows
 
 -- A call by the table: a fault's number, or the search's
 
@@ -44,9 +45,9 @@ number r = R.answer-number (r .answer)
 -- what a call is where nothing is refused: the search from a checkpoint that follows
 record Searched (sheet : List ℕ) (allowance : ℕ) (r : SearchResult) : Type 0 where
   reads : Reads sheet
-  start : S.Checkpoint
-  follows : S.Follows (look (problem-of (reads .instance))) start
-  is : r ≡ R.result-of (problem-of (reads .instance)) (search (problem-of (reads .instance)) allowance start)
+  start : ChoiceCheckpoint
+  follows : ChoiceFollows (turnable-of (reads .instance)) start
+  is : r ≡ R.result-of (turnable-of (reads .instance)) (search (turnable-of (reads .instance)) allowance start)
 
 module _ (sheet note steps plan : List ℕ) (allowance : ℕ) where
   abbrev call : SearchResult
@@ -58,15 +59,15 @@ module _ (sheet note steps plan : List ℕ) (allowance : ℕ) where
   abbrev Fault : ℕ → Type 0
   Fault n = SearchBytesFault sheet note steps plan n
 
-  abbrev problem : Reads sheet → Problem
-  problem r = problem-of (r .instance)
+  abbrev turnable : Reads sheet → Turnable
+  turnable r = turnable-of (r .instance)
 
   -- the tests of 8 and 10
   abbrev fit : Reads sheet → Bool
   fit r = buffers-fit (r .instance) note steps plan
 
   abbrev follow : Reads sheet → Bool
-  follow r = note-follows (problem-of (r .instance)) note
+  follow r = note-follows (turnable-of (r .instance)) note
 
   read-is : (r : Reads sheet) {l f : Bool} → fit r ≡ l → follow r ≡ f → call ≡ searched-if l f (r .instance) note allowance
   unfolding search-call instance-searched
@@ -76,8 +77,8 @@ module _ (sheet note steps plan : List ℕ) (allowance : ℕ) where
     fit-exactly : (r : Reads sheet) → (fit r ≡ true) ↔ Lengths (r .instance) note steps plan
     fit-exactly r = lengths-exactly (r .instance) note steps plan
 
-    follow-exactly : (r : Reads sheet) → Lengths (r .instance) note steps plan → (follow r ≡ true) ↔ NoteFollows (problem r) note
-    follow-exactly r h = note-follows-exactly (problem r) (reads-sound sheet bytes r) note note-is (h .note-is)
+    follow-exactly : (r : Reads sheet) → Lengths (r .instance) note steps plan → (follow r ≡ true) ↔ NoteFollows (turnable r) note
+    follow-exactly r h = note-follows-exactly (turnable r) (reads-sound sheet bytes r) note note-is (h .note-is)
 
     fault-code : {n : ℕ} → Fault n → code ≡ 100 + n
     unfolding search-call R.result-refused
@@ -97,7 +98,7 @@ module _ (sheet note steps plan : List ℕ) (allowance : ℕ) where
             inr (record { reads = r; start = checkpoint-of (checkpoint-in note); follows = in-follows _ note e; is = read-is r d e })
 
     small : Searched sheet allowance call → code < 100
-    small σ = let p = problem (σ .reads) in omega (arith, ap number (σ .is), answered-small p (search p allowance (σ .start)))
+    small σ = let t = turnable (σ .reads) in omega (arith, ap number (σ .is), answered-small t (search t allowance (σ .start)))
 
     abbrev served : {A : Type 0} → code < 100 → (Searched sheet allowance call → A) → A
     served = served-by-table code Fault by-table (λ n φ. fault-code φ) small
@@ -112,21 +113,23 @@ module _ (sheet note steps plan : List ℕ) (allowance : ℕ) where
     placed-fits e = served (omega arith) go
       where
         -- the plan bytes that an answer leaves
-        left : Reads sheet → C.Answer Positions → List ℕ
-        left r a = when-packed (R.answer-of a) plan (packing-bytes (r .instance .«item_count») (R.packing-with (problem r) a))
+        left : Reads sheet → C.Answer Plan → List ℕ
+        left r a = when-packed (R.answer-of a) plan (packing-bytes (r .instance .«item_count») (R.packing-with (turnable r) a))
 
-        fits : (r : Reads sheet) (μ : S.Checkpoint) → S.Follows (look (problem r)) μ → let a = C.answer-at (machine (problem r)) (plan-at (problem r)) μ in
+        fits : (r : Reads sheet) (n : ℕ) (κ : S.Checkpoint) → ChoiceFollows (turnable r) (stage n κ)
+            → let a = C.answer-at (machine (turnable r)) (plan-at (turnable r)) (stage n κ) in
             R.answer-number (R.answer-of a) ≡ 1 → check-code sheet (left r a) ≡ 1
-        fits r (S.open-at path) f e = absurd (omega arith)
-        fits r S.infeasible f e = absurd (omega arith)
-        fits r (S.packed-at path) f e =
-            placed-checks sheet bytes r (plan-at (problem r) (S.packed-at path)) (T.packed-feasible (problem r) (reads-sound sheet bytes r) path f)
+        fits r n (S.open-at path) f e = absurd (omega arith)
+        fits r n S.infeasible f e = absurd (omega arith)
+        fits r n (S.packed-at path) f e =
+            placed-checks sheet bytes r (plan-at (turnable r) (stage n (S.packed-at path))) (T.packed-fits (turnable r) (reads-sound sheet bytes r) n path f)
 
         go : Searched sheet allowance call → check-code sheet (plan-after sheet note allowance steps plan) ≡ 1
         go σ =
-            let p = problem (σ .reads) in
-            let f = T.reached-follows p allowance (σ .start) (σ .follows) in
-            rw (σ .reads .reads, σ .is) (fits (σ .reads) (Machine.steps (machine p) allowance (σ .start)) f (sym (ap number (σ .is)) ∙ e))
+            let t = turnable (σ .reads) in
+            let f = T.reached-follows t (reads-sound sheet bytes (σ .reads)) allowance (σ .start) (σ .follows) in
+            let end = Machine.steps (machine t) allowance (σ .start) in
+            rw (σ .reads .reads, σ .is) (fits (σ .reads) (end .number) (end .state) f (sym (ap number (σ .is)) ∙ e))
 
     -- "spent has taken exactly the allowance", whatever note was lent
     pub spent-exactly : code ≡ 0 → steps-in (steps-after sheet note allowance steps plan) ≡ allowance
@@ -135,9 +138,9 @@ module _ (sheet note steps plan : List ℕ) (allowance : ℕ) where
       where
         go : Searched sheet allowance call → steps-in (steps-after sheet note allowance steps plan) ≡ allowance
         go σ =
-            let p = problem (σ .reads) in
-            let spent = zero-is-spent (search p allowance (σ .start) .answer) (sym (ap number (σ .is)) ∙ e) in
-            rw (σ .is, spent, steps-back) (T.spent-exactly p allowance (σ .start) spent)
+            let t = turnable (σ .reads) in
+            let spent = zero-is-spent (search t allowance (σ .start) .answer) (sym (ap number (σ .is)) ∙ e) in
+            rw (σ .is, spent, steps-back) (T.spent-exactly t allowance (σ .start) spent)
 
   -- "Every refusal leaves lent buffers untouched": 100 and above are a refusal's numbers
   pub untouched : 100 ≤ code

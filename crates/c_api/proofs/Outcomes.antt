@@ -1,15 +1,16 @@
 -- What a call comes to, case by case, and that a path that is to be written has room in a note.
 use Rattle.prelude.specs.Names.{true, false, List, _↔_, _≡_, refl, sym, subst, ℕ, _*_, _≤_, _<_, arith, eqb, length, eqb-true, eq-eqb}
 use Rattle.model.proofs.Below.{and-both}
-use Rattle.model.specs.Problem.{Positions}
+use Rattle.model.specs.Admits.{Sound}
 use Rattle.model.specs.Machine.{steps}
 use Rattle.model.specs.Run.{machine, plan-at}
+use Rattle.model.specs.Turning.{Turnable, Plan}
 use Rattle.refusal.specs.declared.Refusal.the-variants.{BadArgument, NotFollowing}
-use Rattle.instance.specs.Meaning.{problem-of}
 use Rattle.instance.specs.Valid.{valid}
 use Rattle.instance.specs.declared.Checkpoint.{Checkpoint}
 use Rattle.instance.specs.declared.Instance.{Instance}
 use Rattle.instance.specs.declared.Packing.{Packing}
+use Rattle.turning.specs.Turned.{turnable-of}
 use Rattle.packing.specs.Check.{check-answer, check-number}
 use Rattle.packing.specs.declared.CheckAnswer.{CheckAnswer}
 use Rattle.tree_paths.proofs.Checkpoints.{value-short}
@@ -31,7 +32,7 @@ use Rattle.search.specs.Results as R
 pub lengths-exactly : (i : Instance) (note steps plan : List ℕ) → (buffers-fit i note steps plan ≡ true) ↔ Lengths i note steps plan
 lengths-exactly i note steps plan = (
   (λ h.
-      let (a, b) = and-both (eqb (length note) 273) _ h in
+      let (a, b) = and-both (eqb (length note) 275) _ h in
       let (d, e) = and-both (eqb (length steps) 4) (plan-fits i (length plan)) b in
       record { note-is = eqb-true _ _ a; steps-are = eqb-true _ _ d; plan-is = eqb-true _ _ e }),
   (λ l. rw (eq-eqb _ _ (l .note-is), eq-eqb _ _ (l .steps-are), eq-eqb _ _ (l .plan-is))),
@@ -55,7 +56,14 @@ module _ (i : Instance) (note : List ℕ) (allowance : ℕ) (steps plan : List �
 
 -- "A row of turns has at most .. entries": what is written of a result fits a note
 module _ (i : Instance) (v : valid i ≡ true) (long : length (i .items) ≡ 10) where
-  fits : (a : C.Answer Positions) (n : ℕ) → n ≤ 270 → PathFits (R.answer-of a) n
+  abbrev t : Turnable
+  t = turnable-of i
+
+  sound : Sound (t .given)
+  unfolding turnable-of
+  sound = valid-sound i v long
+
+  fits : (a : C.Answer Plan) (n : ℕ) → n ≤ 270 → PathFits (R.answer-of a) n
   fits C.budget-spent n h = h
   fits C.no-packing n h = h
   fits (C.packing q) n h = h
@@ -72,14 +80,13 @@ module _ (i : Instance) (v : valid i ≡ true) (long : length (i .items) ≡ 10)
       go (invalid d r) = subst Fit (sym r) tt
       go (not-following d n r) = subst Fit (sym r) tt
       go (searched d φ r) =
-          let p = problem-of i in
-          let μ = steps (machine p) budget (checkpoint-of c) in
-          let f = T.reached-follows p budget (checkpoint-of c) (φ .follows) in
-          let s = value-short μ (short p (valid-sound i v long) μ f) in
-          subst Fit (sym r) (fits (C.answer-at (machine p) (plan-at p) μ) (value-of μ .length) s)
+          let end = steps (machine t) budget (checkpoint-of c) in
+          let f = T.reached-follows t sound budget (checkpoint-of c) (φ .follows) in
+          let s = value-short (end .number) (end .state) (short t sound end f) in
+          subst Fit (sym r) (fits (C.answer-at (machine t) (plan-at t) end) (value-of end .length) s)
 
 -- the check of a plan of the right length
-pub checked-is : (i : Instance) (plan : List ℕ) (q : Packing) (r : CheckAnswer) → length plan ≡ 6 * i .«item_count»
+pub checked-is : (i : Instance) (plan : List ℕ) (q : Packing) (r : CheckAnswer) → length plan ≡ 7 * i .«item_count»
     → q ≡ packing-in plan → r ≡ check-answer i q → check-number r ≡ check-number (instance-checked i plan)
 checked-is i plan q r h e k = rw (eq-eqb _ _ h, ← e, k)
 

@@ -1,12 +1,12 @@
 -- What check, pieces and search return and leave in the lent buffers (document 01, "Refusals": "The planning screen, written in C, ..").
 use Rattle.prelude.specs.Names.{Bool, true, false, _&&_, List, ℕ, _+_, _*_, _≤_, eqb, length}
-use Rattle.model.specs.Problem.{Problem}
+use Rattle.model.specs.Turning.{Turnable}
 use Rattle.refusal.specs.Numbers.{number-of}
 use Rattle.refusal.specs.declared.Refusal.the-variants.{BadArgument}
 use Rattle.formats.specs.Reading.{Read, got, refused}
 use Rattle.instance.specs.Sheets.{decode}
-use Rattle.instance.specs.Meaning.{problem-of}
 use Rattle.instance.specs.declared.Instance.{Instance}
+use Rattle.turning.specs.Turned.{turnable-of}
 use Rattle.packing.specs.Check.{check-answer, check-number}
 use Rattle.packing.specs.declared.CheckAnswer.{CheckAnswer}
 use Rattle.tree_paths.specs.Checkpoints.{checkpoint-of, following}
@@ -16,19 +16,19 @@ use Rattle.search.specs.declared.answer.SearchResult.{SearchResult}
 use Rattle.buffers.specs.Bytes.{packing-bytes, packing-in, step-bytes}
 use Rattle.buffers.specs.Checkpoints.{checkpoint-bytes, checkpoint-in, is-checkpoint}
 use Rattle.sheet.specs.Sheet.{max-branches}
-use Rattle.buffers.specs.Lengths.{note-length, steps-length, position-length}
+use Rattle.buffers.specs.Lengths.{note-length, steps-length, piece-length}
 use Rattle.packing.specs.declared.CheckAnswer.the-variants as K
 use Rattle.search.specs.Results as R
 
--- 8: "plan bytes not 6 for each piece"
+-- "8 asks for 7 plan bytes a piece and 275 note bytes" (document 02, #106)
 abbrev pub plan-fits : Instance → ℕ → Bool
-plan-fits i plan = eqb plan (position-length * i .«item_count»)
+plan-fits i plan = eqb plan (piece-length * i .«item_count»)
 
 -- 8: "step bytes not 4"
 abbrev pub outputs-fit : Instance → ℕ → ℕ → Bool
 outputs-fit i steps plan = eqb steps steps-length && plan-fits i plan
 
--- 8: "note bytes not 273"
+-- and for the note bytes too
 abbrev pub lengths-fit : Instance → ℕ → ℕ → ℕ → Bool
 lengths-fit i note steps plan = eqb note note-length && outputs-fit i steps plan
 
@@ -55,7 +55,7 @@ checked (got i at rest) plan = instance-checked i plan
 unfoldable pub check-code : List ℕ → List ℕ → ℕ
 check-code sheet plan = check-number (checked (decode sheet) plan)
 
--- Pieces: ours, beside the two functions of document 01. A screen learns from it how many plan bytes a sheet needs, 6 for each piece,
+-- Pieces: ours, beside the two functions of document 01. A screen learns from it how many plan bytes a sheet needs, 7 for each piece,
 -- and need not try one length after the other.
 
 -- the number of pieces, or 100 plus the number of a refusal, as check and search return it
@@ -69,13 +69,13 @@ pieces-code sheet = pieces-number (decode sheet)
 -- Search
 
 -- 10: "a note that doesn't follow its sheet"; "other contents get 10"
-unfoldable pub note-follows : Problem → List ℕ → Bool
-note-follows p note = is-checkpoint note && following p (checkpoint-in note)
+unfoldable pub note-follows : Turnable → List ℕ → Bool
+note-follows t note = is-checkpoint note && following t (checkpoint-in note)
 
 -- "8 before 10"
 abbrev pub searched-if : Bool → Bool → Instance → List ℕ → ℕ → SearchResult
 searched-if false f i note allowance = R.result-refused BadArgument (checkpoint-in note)
-searched-if true f i note allowance = R.followed-if f (problem-of i) allowance (checkpoint-in note) (checkpoint-of (checkpoint-in note))
+searched-if true f i note allowance = R.followed-if f (turnable-of i) allowance (checkpoint-in note) (checkpoint-of (checkpoint-in note))
 
 -- "Every refusal leaves lent buffers untouched"
 abbrev pub rewritten : Answer → List ℕ → List ℕ → List ℕ
@@ -112,7 +112,7 @@ plan-left n r plan = when-packed (r .answer) plan (packing-bytes n (r .packing))
 -- the call with these bytes lent, on a sheet that reads as i: its result, its number, and what it leaves in the buffers
 module _ (i : Instance) (note : List ℕ) (allowance : ℕ) (steps plan : List ℕ) where
   unfoldable pub instance-searched : SearchResult
-  instance-searched = searched-if (buffers-fit i note steps plan) (note-follows (problem-of i) note) i note allowance
+  instance-searched = searched-if (buffers-fit i note steps plan) (note-follows (turnable-of i) note) i note allowance
 
   abbrev pub instance-code : ℕ
   instance-code = R.answer-number (instance-searched .answer)

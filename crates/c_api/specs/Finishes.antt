@@ -12,7 +12,7 @@ use Rattle.search.specs.Results.{answer-number}
 use Rattle.makespan.specs.Results.{finish-refused, finish-result}
 use Rattle.makespan.specs.declared.finish.Finish.{Finish}
 use Rattle.buffers.specs.Bytes.{packing-bytes, step-bytes, word-bytes}
-use Rattle.buffers.specs.Lengths.{finish-length, steps-length, position-length}
+use Rattle.buffers.specs.Lengths.{finish-length, steps-length, piece-length}
 use Rattle.c_api.specs.Calls.{outputs-fit, rewritten, when-packed, items-in}
 
 -- 8: length bytes not 2; step bytes and plan bytes as for the search
@@ -77,11 +77,11 @@ module _ (sheet : List ℕ) (allowance : ℕ) (finish steps plan : List ℕ) whe
 pub record FinishLengths (i : Instance) (finish steps plan : List ℕ) : Type 0 where
   pub length-is : length finish ≡ finish-length
   pub steps-are : length steps ≡ steps-length
-  pub plan-is : length plan ≡ position-length * i .«item_count»
+  pub plan-is : length plan ≡ piece-length * i .«item_count»
 
 -- it refuses with the number n
 pub data FinishBytesFault (sheet finish steps plan : List ℕ) (n : ℕ) : Type 0 where
   -- 1 to 7, 11 and 12: the sheet's first fault
   unread : (e : Refusal) → FirstFault sheet e → n ≡ number-of e → FinishBytesFault sheet finish steps plan n
-  -- 8: "plan bytes not 6 for each piece; .. step bytes not 4", and length bytes not 2
+  -- "8 asks for 7 plan bytes a piece"; "step bytes not 4", and length bytes not 2
   eight : (r : Reads sheet) → (FinishLengths (r .instance) finish steps plan → ⊥) → n ≡ 8 → FinishBytesFault sheet finish steps plan n

@@ -1,15 +1,14 @@
 -- A list of calls on bytes (document 01, "The search": "A list is all in values or all on the screen").
 use Rattle.prelude.specs.Names.{Bool, false, List, ℕ, _≤_, length, replicate}
 use Rattle.model.specs.Lists.{Service}
-use Rattle.model.specs.Run.{plan-at}
-use Rattle.instance.specs.Meaning.{problem-of}
+use Rattle.model.specs.Run.{ChoiceCheckpoint, plan-at}
 use Rattle.instance.specs.declared.Instance.{Instance}
+use Rattle.turning.specs.Turned.{turnable-of}
 use Rattle.search.specs.Results.{packing-of}
 use Rattle.buffers.specs.Bytes.{packing-bytes, steps-in}
 use Rattle.c_api.specs.Calls.{lengths-fit, search-code, note-after, steps-after, plan-after}
 use Rattle.c_api.specs.Notes.{note-bytes}
 use Rattle.buffers.specs.Lengths.{note-length}
-use Rattle.model.specs.Search as S
 
 -- what a call is handed beside the sheet and the note: its allowance, and what the step bytes and the plan bytes hold before it
 pub record Lent : Type 0 where
@@ -36,19 +35,19 @@ abbrev pub own-note : (sheet : List ℕ) → Call sheet → List ℕ → List �
 own-note sheet (own c) x = note-after sheet x (c .allowance) (c .steps) (c .plan)
 own-note sheet (other note c refused) x = x
 
--- not "plan bytes not 6 for each piece; note bytes not 273; step bytes not 4"
+-- what 8 asks for: "7 plan bytes a piece and 275 note bytes"; and not "step bytes not 4"
 abbrev pub lengths-right : {sheet : List ℕ} → Instance → Call sheet → Bool
 lengths-right i (own c) = lengths-fit i note-length (length (c .steps)) (length (c .plan))
 lengths-right i (other note c refused) = false
 
 -- "the run's whole plan, on the screen as plan bytes"
-abbrev pub plan-bytes : Instance → S.Checkpoint → List ℕ
-plan-bytes i κ = packing-bytes (i .«item_count») (packing-of (problem-of i) (plan-at (problem-of i) κ))
+abbrev pub plan-bytes : Instance → ChoiceCheckpoint → List ℕ
+plan-bytes i s = packing-bytes (i .«item_count») (packing-of (turnable-of i) (plan-at (turnable-of i) s))
 
 -- what `hallplan_search` returns and leaves; i is the instance that the sheet reads as
-abbrev pub on-bytes : (sheet : List ℕ) → Instance → Service S.Checkpoint (Call sheet) (List ℕ) (List ℕ)
+abbrev pub on-bytes : (sheet : List ℕ) → Instance → Service ChoiceCheckpoint (Call sheet) (List ℕ) (List ℕ)
 on-bytes sheet i = record {
-  -- "A search opens with 273 zeros"
+  -- "A search opens with 273 zeros"; "the opening note holds 0" as its choice: 275 zeros
   opening = replicate note-length 0;
   budget = λ c. lent c .allowance;
   admitted = lengths-right i;

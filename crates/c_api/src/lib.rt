@@ -1,7 +1,7 @@
 // Check, pieces and search for a C program: numbers and byte slices.
 ghost use Rattle.sheet.specs.Sheet.{max-items};
 ghost use Rattle.buffers.specs.Bytes.{packing-bytes, step-bytes};
-ghost use Rattle.buffers.specs.Lengths.{note-length, steps-length, position-length};
+ghost use Rattle.buffers.specs.Lengths.{note-length, steps-length, piece-length};
 ghost use mathlib.Core.Path.{_≡_};
 ghost use mathlib.Core.Bool.{true};
 ghost use Prim.Native.Nat.{_+_, _*_, _≤_};
@@ -15,7 +15,7 @@ ghost use Rattle.c_api.specs.Calls.{check-code, pieces-code, search-code
 ghost use Rattle.c_api.specs.Calls.{instance-checked, outputs-fit, lengths-fit, instance-code, instance-note, instance-steps, instance-plan};
 ghost use Rattle.c_api.specs.Calls.{PathFits, when-packed, note-left, steps-left, plan-left};
 use buffers::checkpoints;
-use buffers::positions;
+use buffers::plans;
 use buffers::words;
 use instance::Instance;
 use instance::Packing;
@@ -93,10 +93,10 @@ fn check_instance(instance: Instance, plan: &[u8]) -> u32
     ensures { λ r. ⌜ r ≡ check-number (instance-checked instance (now (plan .entry))) ⌝ }
 {
     let n = instance.item_count;
-    if plan.len() != buffers::POSITION_BYTES * n {
+    if plan.len() != buffers::PIECE_BYTES * n {
         return refusal_code(Refusal::BadArgument);
     }
-    let packing = positions::read_packing(plan, n);
+    let packing = plans::read_packing(plan, n);
     match packing::check(instance, packing) {
         CheckAnswer::NotFeasible => 0,
         CheckAnswer::Feasible => 1,
@@ -112,7 +112,7 @@ fn outputs_fit(instance: Instance, steps: usize, plan: usize) -> bool
     if steps != buffers::STEP_BYTES {
         return false;
     }
-    plan == buffers::POSITION_BYTES * instance.item_count
+    plan == buffers::PIECE_BYTES * instance.item_count
 }
 
 // Whether the buffers lent to the search are as long as they must be.
@@ -160,7 +160,7 @@ fn hand_over(
     plan: &mut [u8],
 ) -> u32
     requires { ⌜ PathFits (result .answer) (result .checkpoint .length) ⌝ }
-    requires { ⌜ (length (now note) ≡ note-length) × (length (now steps) ≡ steps-length) × (length (now plan) ≡ position-length * n) × (n ≤ max-items) ⌝ }
+    requires { ⌜ (length (now note) ≡ note-length) × (length (now steps) ≡ steps-length) × (length (now plan) ≡ piece-length * n) × (n ≤ max-items) ⌝ }
     ensures { λ r. ⌜ r ≡ answer-number (result .answer) ⌝ }
     ensures { λ _. ⌜ now (note .exit) ≡ note-left result (now (note .entry)) ⌝ }
     ensures { λ _. ⌜ now (steps .exit) ≡ steps-left result (now (steps .entry)) ⌝ }
@@ -186,7 +186,7 @@ fn put_answer(
     steps: &mut [u8],
     plan: &mut [u8],
 ) -> u32
-    requires { ⌜ (length (now steps) ≡ steps-length) × (length (now plan) ≡ position-length * n) × (n ≤ max-items) ⌝ }
+    requires { ⌜ (length (now steps) ≡ steps-length) × (length (now plan) ≡ piece-length * n) × (n ≤ max-items) ⌝ }
     ensures { λ r. ⌜ r ≡ answer-number answer ⌝ }
     ensures { λ _. ⌜ now (steps .exit) ≡ step-bytes taken ⌝ }
     ensures { λ _. ⌜ now (plan .exit) ≡ when-packed answer (now (plan .entry)) (packing-bytes n packing) ⌝ }
@@ -194,7 +194,7 @@ fn put_answer(
     words::write_steps(steps, taken);
     let code = words::code(answer.number());
     if code == 1 {
-        positions::write_packing(plan, packing, n);
+        plans::write_packing(plan, packing, n);
     }
     code
 }

@@ -3,7 +3,7 @@ use Rattle.prelude.specs.Names.{Bool, true, false, _↔_, _≡_, refl, ap, ℕ,
 use Rattle.model.proofs.Below.{clash}
 use Rattle.model.specs.Earliest.{earliest-finish}
 use Rattle.refusal.specs.declared.Refusal.the-variants.{InvalidInstance}
-use Rattle.instance.specs.Meaning.{problem-of}
+use Rattle.turning.specs.Turned.{turnable-of}
 use Rattle.instance.specs.Valid.{valid}
 use Rattle.instance.specs.Values.{origin-packing}
 use Rattle.instance.specs.declared.Instance.{Instance}
@@ -13,7 +13,7 @@ use Rattle.makespan.specs.Results.{finish-of, finish-refused, finish-res
 use Rattle.makespan.specs.declared.finish.Finish.{Finish}
 
 module _ (i : Instance) (budget : ℕ) where
-  pub valid-is : valid i ≡ true → finish-result i budget ≡ finish-of (problem-of i) (earliest-finish (problem-of i) budget)
+  pub valid-is : valid i ≡ true → finish-result i budget ≡ finish-of (turnable-of i) (earliest-finish (turnable-of i) budget)
   unfolding finish-result
   valid-is v = rw v
 
@@ -27,7 +27,7 @@ module _ (i : Instance) (budget : ℕ) where
 
   pub small : valid i ≡ true → answer-number (finish-result i budget .answer) < 100
   unfolding finish-of
-  small v = omega (arith, ap number (valid-is v), answer-small (earliest-finish (problem-of i) budget .answer))
+  small v = omega (arith, ap number (valid-is v), answer-small (earliest-finish (turnable-of i) budget .answer))
 
   pub finish-refuses : (n : ℕ) → (answer-number (finish-result i budget .answer) ≡ 100 + n) ↔ ((valid i ≡ false) × (n ≡ 9))
   unfolding finish-refused

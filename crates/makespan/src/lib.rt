@@ -1,12 +1,12 @@
 // The earliest finish: the least number of shifts in which an instance has a packing.
 ghost use mathlib.Core.Path.{_≡_};
 ghost use mathlib.Core.Bool.{true};
-ghost use Prim.Native.Nat.{_≤_};
+ghost use Prim.Native.Nat.{_≤_, _*_};
 ghost use Rattle.model.specs.Earliest.{earliest-finish};
-ghost use Rattle.instance.specs.Meaning.{problem-of};
 ghost use Rattle.instance.specs.Reads.{Full};
 ghost use Rattle.instance.specs.Valid.{valid};
-ghost use Rattle.makespan.specs.Results.{finish-of, finish-result, ConflictIf, LastConflict};
+ghost use Rattle.turning.specs.Turned.{turnable-of};
+ghost use Rattle.makespan.specs.Results.{finish-of, finish-result, choices-of, ConflictIf, LastConflict};
 use crate::finish::Finish;
 use instance::Instance;
 use refusal::Refusal;
@@ -23,19 +23,21 @@ pub fn earliest_finish(instance: Instance, budget: u32) -> Finish
     if !instance.is_valid() {
         return results::refused(Refusal::InvalidInstance);
     }
-    let known = conflicts(instance);
-    if budget < known as u32 {
-        return results::spent(budget as u16, budget);
+    let choices = turning::last_choice(instance) as u32 + 1;
+    let known = conflicts(instance, choices);
+    let affordable = budget / choices;
+    if affordable < known as u32 {
+        return results::spent(affordable as u16, budget);
     }
-    try_lengths(instance, known, budget)
+    try_lengths(instance, known, known as u32 * choices, budget)
 }
 
-// Whether the opening domains are inconsistent: the first step says none.
-fn in_conflict(instance: Instance) -> bool
-    requires { ⌜ valid instance ≡ true ⌝ }
-    ensures { λ r. ⌜ ConflictIf (problem-of instance) r ⌝ }
+// Whether the opening domains of every choice are inconsistent: so many steps as there are choices say none.
+fn in_conflict(instance: Instance, choices: u32) -> bool
+    requires { ⌜ (valid instance ≡ true) × (choices ≡ choices-of (turnable-of instance)) ⌝ }
+    ensures { λ r. ⌜ ConflictIf (turnable-of instance) r ⌝ }
 {
-    let first = search::search(instance, Instance::opening(), 1);
+    let first = search::search(instance, Instance::opening(), choices);
     let answer = first.answer;
     match answer {
         Answer::Infeasible => true,
@@ -45,11 +47,11 @@ fn in_conflict(instance: Instance) -> bool
     }
 }
 
-// The greatest length at which the opening domains are inconsistent, 0 if there is none. They are so at every shorter one, and one step
-// shows each of these impossible: so they need not be tried.
-fn conflicts(instance: Instance) -> u16
-    requires { ⌜ valid instance ≡ true ⌝ }
-    ensures { λ r. ⌜ LastConflict (problem-of instance) r ⌝ }
+// The greatest length at which the opening domains of every choice are inconsistent, 0 if there is none. They are so at every shorter one, and one
+// step a choice shows each of these impossible: so they need not be tried.
+fn conflicts(instance: Instance, choices: u32) -> u16
+    requires { ⌜ (valid instance ≡ true) × (choices ≡ choices-of (turnable-of instance)) ⌝ }
+    ensures { λ r. ⌜ LastConflict (turnable-of instance) r ⌝ }
 {
     let mut shortened = instance;
     let mut low: u16 = 0;
@@ -57,7 +59,7 @@ fn conflicts(instance: Instance) -> u16
     while low < high {
         let middle = high - (high - low) / 2;
         shortened.container.shifts = middle;
-        if in_conflict(shortened) {
+        if in_conflict(shortened, choices) {
             low = middle;
         } else {
             high = middle - 1;
@@ -66,15 +68,16 @@ fn conflicts(instance: Instance) -> u16
     low
 }
 
-// The lengths past those known impossible, one after the other, each searched from the opening under what is left of the budget.
-fn try_lengths(instance: Instance, known: u16, budget: u32) -> Finish
-    requires { ⌜ (valid instance ≡ true) × (known ≤ budget) × LastConflict (problem-of instance) known ⌝ }
-    ensures { λ r. ⌜ r ≡ finish-of (problem-of instance) (earliest-finish (problem-of instance) budget) ⌝ }
+// The lengths past those known impossible, which take `before` steps, one after the other, each searched from the opening under what is left of the budget.
+fn try_lengths(instance: Instance, known: u16, before: u32, budget: u32) -> Finish
+    requires { ⌜ (valid instance ≡ true) × (before ≡ known * choices-of (turnable-of instance)) × (before ≤ budget)
+        × LastConflict (turnable-of instance) known ⌝ }
+    ensures { λ r. ⌜ r ≡ finish-of (turnable-of instance) (earliest-finish (turnable-of instance) budget) ⌝ }
 {
     let mut shortened = instance;
     let most = shortened.container.shifts;
     let mut length = known;
-    let mut left = budget - known as u32;
+    let mut left = budget - before;
     while length < most {
         let next = length + 1;
         shortened.container.shifts = next;

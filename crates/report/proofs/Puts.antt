@@ -79,11 +79,21 @@ pub fields-short : (k : ℕ) (ns : List ℕ) → Small k ns → length (text-fie
 fields-short k [] h = omega arith
 fields-short k (n ∷ ns) h = rw length-append (omega (arith, decimal-short k n (h .0), fields-short k ns (h .1)))
 
+-- three numbers of at most 5 digits and a byte
+pub item-short : (x y t mark : ℕ) → x < 65536 → y < 65536 → t < 65536 → mark < 256 → length (text-fields (x ∷ y ∷ t ∷ mark ∷ [])) ≤ 23
+item-short x y t mark hx hy ht hm = simp length-append (omega (
+  arith,
+  decimal-short 4 x (omega arith),
+  decimal-short 4 y (omega arith),
+  decimal-short 4 t (omega arith),
+  decimal-short 2 mark (omega arith),
+))
+
 module _ (q : Packing) where
   pub items-none : item-lines q 0 ≡ []
   unfolding item-lines
   items-none = refl
 
-  pub items-next : (u : ℕ) → item-lines q (u + 1) ≡ item-lines q u ++ item-line u (getD (q .positions) u origin)
+  pub items-next : (u : ℕ) → item-lines q (u + 1) ≡ item-lines q u ++ item-line u (getD (q .positions) u origin) (getD (q .marks) u 0)
   unfolding item-lines
   items-next u = rw add-one

@@ -7,9 +7,9 @@ use Rattle.instance.specs.declared.Position.{Position}
 use Rattle.instance.specs.Values.{origin}
 use Rattle.report.specs.Decimal.{decimal}
 
--- no text is longer: an answer with its steps and ten lines of at most 20 characters
+-- no text is longer: an answer with its steps and ten lines of at most 24 characters
 abbrev pub max-text : ℕ
-max-text = 218
+max-text = 258
 
 -- a buffer with a text at its front, and the rest as it was
 abbrev pub with-front : List ℕ → List ℕ → List ℕ
@@ -41,14 +41,14 @@ spent-word = 0x73 ∷ 0x70 ∷ 0x65 ∷ 0x6e ∷ 0x74 ∷ []
 abbrev pub refused-word : List ℕ
 refused-word = 0x72 ∷ 0x65 ∷ 0x66 ∷ 0x75 ∷ 0x73 ∷ 0x65 ∷ 0x64 ∷ []
 
--- "one line a piece: number, x, y, t"
-unfoldable pub item-line : ℕ → Position → List ℕ
-item-line u p = line (decimal u) (p .x ∷ p .y ∷ p .t ∷ [])
+-- "one line a piece: number, x, y, t", and the mark "printed as a fifth column, 0 or 1"
+unfoldable pub item-line : ℕ → Position → ℕ → List ℕ
+item-line u p mark = line (decimal u) (p .x ∷ p .y ∷ p .t ∷ mark ∷ [])
 
 -- the lines of the first n items
 unfoldable pub item-lines : Packing → ℕ → List ℕ
 item-lines q zero = []
-item-lines q (suc u) = item-lines q u ++ item-line u (getD (q .positions) u origin)
+item-lines q (suc u) = item-lines q u ++ item-line u (getD (q .positions) u origin) (getD (q .marks) u 0)
 
 -- "the answer word and steps"
 abbrev pub answer-line : List ℕ → ℕ → List ℕ

@@ -10,8 +10,8 @@ use refusal::Refusal;
 
 mod put;
 
-// No text is longer: an answer's line has at most 18 bytes, and each of ten items' lines at most 20.
-pub const MAX_TEXT: usize = 218;
+// No text is longer: an answer's line has at most 18 bytes, and each of ten items' lines at most 24.
+pub const MAX_TEXT: usize = 258;
 
 // A packing of n items, found after so many steps.
 pub fn packed(out: &mut [u8], steps: u32, packing: Packing, n: usize) -> usize
@@ -48,5 +48,5 @@ pub fn refused(out: &mut [u8], e: Refusal) -> usize
     ensures { λ _. ⌜ now (out .exit) ≡ with-front (refused-text e) (now (out .entry)) ⌝ }
 {
     let a = put::put_bytes(out, 0, b"refused");
-    put::put_fields(out, a, [e.number() as u64, e.place() as u64, 0], 2)
+    put::put_fields(out, a, [e.number() as u64, e.place() as u64, 0, 0], 2)
 }

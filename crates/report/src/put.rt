@@ -48,8 +48,8 @@ fn put_field(out: &mut [u8], at: usize, n: u64) -> usize
 }
 
 // The first n numbers, a space before each, and the end of the line.
-pub fn put_fields(out: &mut [u8], at: usize, numbers: [u64; 3], n: usize) -> usize
-    requires { ⌜ (n ≤ 3) × (at + length (text-fields (take n numbers)) ≤ length (now out)) ⌝ }
+pub fn put_fields(out: &mut [u8], at: usize, numbers: [u64; 4], n: usize) -> usize
+    requires { ⌜ (n ≤ 4) × (at + length (text-fields (take n numbers)) ≤ length (now out)) ⌝ }
     ensures { λ r. ⌜ r ≡ at + length (text-fields (take n numbers)) ⌝ }
     ensures { λ _. ⌜ now (out .exit) ≡ sets (now (out .entry)) at (text-fields (take n numbers)) ⌝ }
 {
@@ -70,30 +70,31 @@ pub fn put_answer(out: &mut [u8], word: &[u8], steps: u32) -> usize
     ensures { λ _. ⌜ now (out .exit) ≡ with-front (answer-line (now (word .entry)) steps) (now (out .entry)) ⌝ }
 {
     let a = put_bytes(out, 0, word);
-    put_fields(out, a, [steps as u64, 0, 0], 1)
+    put_fields(out, a, [steps as u64, 0, 0, 0], 1)
 }
 
 // An item's line.
-fn put_item(out: &mut [u8], at: usize, u: usize, p: Position) -> usize
-    requires { ⌜ (u < max-items) × (at + 20 ≤ length (now out)) ⌝ }
-    ensures { λ r. ⌜ (r ≡ at + length (item-line u p)) × (r ≤ at + 20) ⌝ }
-    ensures { λ _. ⌜ now (out .exit) ≡ sets (now (out .entry)) at (item-line u p) ⌝ }
+fn put_item(out: &mut [u8], at: usize, u: usize, p: Position, mark: u8) -> usize
+    requires { ⌜ (u < max-items) × (at + 24 ≤ length (now out)) ⌝ }
+    ensures { λ r. ⌜ (r ≡ at + length (item-line u p mark)) × (r ≤ at + 24) ⌝ }
+    ensures { λ _. ⌜ now (out .exit) ≡ sets (now (out .entry)) at (item-line u p mark) ⌝ }
 {
     let a = put_decimal(out, at, u as u64);
-    put_fields(out, a, [p.x as u64, p.y as u64, p.t as u64], 3)
+    put_fields(out, a, [p.x as u64, p.y as u64, p.t as u64, mark as u64], 4)
 }
 
 // The lines of n items.
 pub fn put_items(out: &mut [u8], at: usize, packing: Packing, n: usize) -> usize
-    requires { ⌜ (n ≤ max-items) × (at + 20 * n ≤ length (now out)) ⌝ }
-    ensures { λ r. ⌜ (r ≡ at + length (item-lines packing n)) × (r ≤ at + 20 * n) ⌝ }
+    requires { ⌜ (n ≤ max-items) × (at + 24 * n ≤ length (now out)) ⌝ }
+    ensures { λ r. ⌜ (r ≡ at + length (item-lines packing n)) × (r ≤ at + 24 * n) ⌝ }
     ensures { λ _. ⌜ now (out .exit) ≡ sets (now (out .entry)) at (item-lines packing n) ⌝ }
 {
     let positions = packing.positions;
+    let marks = packing.marks;
     let mut k = at;
     let mut u: usize = 0;
     while u < n {
-        k = put_item(out, k, u, positions[u]);
+        k = put_item(out, k, u, positions[u], marks[u]);
         u = u + 1;
     }
     k

@@ -1,11 +1,13 @@
 -- `makespan::try_lengths` meets its contract. The invariant: what is asked for is what the lengths left come to under the rest of the budget, after the
 -- steps taken; `shortened` is the instance but for its shifts. `most - length` falls.
 use Rattle.prelude.specs.Names.{_≡_, refl, sym, ap, _∙_, subst, ℕ, suc, _+_, _-_, _≤_, _<_, arith, needs}
-use Rattle.model.proofs.Shorter.{before-twice}
 use Rattle.model.specs.Earliest.{steps-before, finish-from, earliest-finish}
-use Rattle.model.specs.Problem.{Problem}
+use Rattle.model.specs.Turning.{Turnable}
 use Rattle.refusal.specs.declared.Refusal.{Refusal}
 use Rattle.instance.specs.Meaning.{problem-of}
+use Rattle.turning.specs.Turned.{turnable-of}
+use Rattle.opening.proofs.Sound.{valid-sound}
+use Rattle.instance.proofs.Arrays.{length-mapped}
 use Rattle.instance.specs.Reads.{Full}
 use Rattle.instance.specs.Values.{opening-checkpoint}
 use Rattle.instance.specs.declared.Instance.{Instance}
@@ -15,24 +17,30 @@ use Rattle.search.specs.declared.answer.Answer.the-variants.{Packed, Infeasible
 use Rattle.search.specs.declared.answer.SearchResult.{SearchResult}
 use Rattle.makespan.specs.declared.finish.Finish.{Finish}
 use Rattle.makespan.specs.Results.{finish-of, spent-finish, packed-finish, no-finish}
+use Rattle.makespan.proofs.Openings.{before-twice}
 use Rattle.makespan.proofs.Lengths.{with-shifts, steps-most, next-none, next-packed, next-spent, next-refused, steps-added, before-added, past-known}
 use Rattle.makespan.proofs.try_lengths.Tie as tie
 
 abbrev Inv-loop : tie.InvT-loop
-Inv-loop known budget shortened₀ most length₀ left₀ shortened length left =
+Inv-loop known before budget shortened₀ most length₀ left₀ shortened length left =
     (shortened ≡ with-shifts shortened₀ (shortened .container .shifts)) × (length ≤ most) × (left ≤ budget)
-    × (earliest-finish (problem-of shortened₀) budget
-    ≡ steps-before (budget - left) (finish-from (problem-of shortened₀) (most - length) length left))
+    × (earliest-finish (turnable-of shortened₀) budget
+    ≡ steps-before (budget - left) (finish-from (turnable-of shortened₀) (most - length) length left))
 
 abbrev μ-loop : tie.MeasureT-loop
-μ-loop known budget shortened₀ most length₀ left₀ shortened length left = most - length
+μ-loop known before budget shortened₀ most length₀ left₀ shortened length left = most - length
 
-started : (c : tie.Start Inv-loop μ-loop) → let a = c .args in let left = a .budget - a .known in
-    Inv-loop (a .known) (a .budget) (a .instance) (a .instance .container .shifts) (a .known) left (a .instance) (a .known) left
-unfolding problem-of
+started : (c : tie.Start Inv-loop μ-loop) → let a = c .args in let left = a .budget - a .before in
+    Inv-loop (a .known) (a .before) (a .budget) (a .instance) (a .instance .container .shifts) (a .known) left (a .instance) (a .known) left
+unfolding turnable-of problem-of
 started c =
-    let a = c .args in
-    (refl, c .pre .2 .most, omega arith, past-known (problem-of (a .instance)) (a .known) (a .budget) (c .pre .2) (c .pre .1))
+    let a = c .args in (
+      refl,
+      c .pre .3 .most,
+      omega arith,
+      past-known (turnable-of (a .instance)) (valid-sound (a .instance) (c .pre .0) (search length-mapped)) (a .known) (a .budget)
+          (c .pre .3) (c .pre .1) (c .pre .2),
+    )
 
 -- One length searched, by the answer
 module _ (c : tie.After-search Inv-loop μ-loop) where
@@ -42,8 +50,8 @@ module _ (c : tie.After-search Inv-loop μ-loop) where
   abbrev i : Instance
   i = looped .before .args .instance
 
-  abbrev p : Problem
-  p = problem-of i
+  abbrev t : Turnable
+  t = turnable-of i
 
   abbrev n : ℕ
   n = looped .loop .length
@@ -58,7 +66,7 @@ module _ (c : tie.After-search Inv-loop μ-loop) where
   taken = looped .before .args .budget - left
 
   abbrev asked : Finish
-  asked = finish-of p (earliest-finish p (looped .before .args .budget))
+  asked = finish-of t (earliest-finish t (looped .before .args .budget))
 
   within : n < i .container .shifts
   within = c .before .before .before .loop-test .taken
@@ -79,13 +87,13 @@ module _ (c : tie.After-search Inv-loop μ-loop) where
   steps-fit : c .search .result .steps ≤ left
   steps-fit = subst (λ (r : SearchResult). r .steps ≤ left) (sym result-is) (steps-most i (looped .before .pre .0) full n within left)
 
-  rest-is : finish-from p (i .container .shifts - n) n left ≡ finish-from p (suc more) n left
+  rest-is : finish-from t (i .container .shifts - n) n left ≡ finish-from t (suc more) n left
   rest-is = let next : i .container .shifts - n ≡ suc more = omega (arith, c .before .before .before .loop-test .taken) in rw next refl
 
-  comes : {f : Finish} → finish-of p (finish-from p (suc more) n left) ≡ f → asked ≡ steps-added taken f
+  comes : {f : Finish} → finish-of t (finish-from t (suc more) n left) ≡ f → asked ≡ steps-added taken f
   comes e =
-      ap (finish-of p) (looped .loop .inv .3 ∙ ap (steps-before taken) rest-is)
-      ∙ (before-added p taken (finish-from p (suc more) n left) ∙ ap (steps-added taken) e)
+      ap (finish-of t) (looped .loop .inv .3 ∙ ap (steps-before taken) rest-is)
+      ∙ (before-added t taken (finish-from t (suc more) n left) ∙ ap (steps-added taken) e)
 
   packed-here : c .search .result .answer ≡ Packed → let r = c .search .result in packed-finish (n + 1) (taken + r .steps) (r .packing) ≡ asked
   unfolding packed-finish
@@ -102,27 +110,27 @@ module _ (c : tie.After-search Inv-loop μ-loop) where
       sym (comes (next-spent i (looped .before .pre .0) full n within left more (answer-is e)) ∙ ap (spent-finish n) all)
 
   none-here : c .search .result .answer ≡ Infeasible → let m = c .search .result .steps in let budget = looped .before .args .budget in
-      earliest-finish p budget ≡ steps-before (budget - (left - m)) (finish-from p (i .container .shifts - (n + 1)) (n + 1) (left - m))
+      earliest-finish t budget ≡ steps-before (budget - (left - m)) (finish-from t (i .container .shifts - (n + 1)) (n + 1) (left - m))
   none-here e =
       let m = c .search .result .steps in
       let next : suc n ≡ n + 1 = omega arith in
       let sum : taken + m ≡ looped .before .args .budget - (left - m) = omega (arith, looped .loop .inv .2, steps-fit) in
-      let later = subst (λ (r : SearchResult). finish-from p (suc more) n left ≡ steps-before (r .steps) (finish-from p more (suc n) (left - r .steps)))
+      let later = subst (λ (r : SearchResult). finish-from t (suc more) n left ≡ steps-before (r .steps) (finish-from t more (suc n) (left - r .steps)))
       (sym result-is) (next-none i (looped .before .pre .0) full n within left more (answer-is e)) in
-      rw (← next, ← sum) (looped .loop .inv .3 ∙ (ap (steps-before taken) (rest-is ∙ later) ∙ before-twice taken m (finish-from p more (suc n) (left - m))))
+      rw (← next, ← sum) (looped .loop .inv .3 ∙ (ap (steps-before taken) (rest-is ∙ later) ∙ before-twice taken m (finish-from t more (suc n) (left - m))))
 
   refused-not : (e : Refusal) → c .search .result .answer ≡ Refused e → ⊥
   refused-not r e = next-refused i (looped .before .pre .0) full n within left r (answer-is e)
 
 -- no length left
-none-left : (p : Problem) (most length budget left : ℕ) → most ≤ length
-    → no-finish (budget - left) ≡ finish-of p (steps-before (budget - left) (finish-from p (most - length) length left))
+none-left : (t : Turnable) (most length budget left : ℕ) → most ≤ length
+    → no-finish (budget - left) ≡ finish-of t (steps-before (budget - left) (finish-from t (most - length) length left))
 unfolding finish-of no-finish
-none-left p most length budget left h = let zero : most - length ≡ 0 = omega arith in rw zero (ap no-finish (omega arith))
+none-left t most length budget left h = let zero : most - length ≡ 0 = omega arith in rw zero (ap no-finish (omega arith))
 
 pub try-lengths-spec : {M : Type 1} → Rattle.makespan.proofs.try_lengths.Statement.statement M
 try-lengths-spec = tie.close (tie.spec Inv-loop μ-loop
-    (λ c. c .pre .1) started
+    (λ c. c .pre .2) started
     (λ c. omega arith) (λ c κs. search needs) (λ c κs. search needs)
     (λ c. search needs) (λ c. omega (arith, c .before .before .before .before .before .before .before .loop .inv .2))
     (λ c. omega (arith, steps-fit (c .before .before .before .before), c .before .before .before .before .before .before .before .before .loop .inv .2))
@@ -141,6 +149,6 @@ try-lengths-spec = tie.close (tie.spec Inv-loop μ-loop
     (λ c. absurd (refused-not (c .before .before .before .before .before) _ (c .before .before .answer .given .1)))
     (λ c. omega (arith, c .before .loop .inv .2)) (λ c κs. search needs)
     (λ c. let l = c .before .before in
-    c .infeasible .ensures ∙ (none-left (problem-of (l .before .args .instance)) (l .before .args .instance .container .shifts) (l .loop .length)
+    c .infeasible .ensures ∙ (none-left (turnable-of (l .before .args .instance)) (l .before .args .instance .container .shifts) (l .loop .length)
     (l .before .args .budget) (l .loop .left) (omega (arith, c .before .loop-test .left))
-    ∙ ap (finish-of (problem-of (l .before .args .instance))) (sym (l .loop .inv .3)))))
+    ∙ ap (finish-of (turnable-of (l .before .args .instance))) (sym (l .loop .inv .3)))))

@@ -1,10 +1,11 @@
 -- `buffers::checkpoints::read_branches` meets its contract. Invariant: the first i branches are read. Measure: the branches left.
-use Rattle.prelude.specs.Names.{_≡_, refl, _∙_, _-_, _≤_, arith, length, take, drop, replicate, length-set, sets}
+use Rattle.prelude.specs.Names.{_≡_, refl, _∙_, _-_, _≤_, arith, length, take, replicate, length-set, sets}
+use Rattle.buffers.specs.Checkpoints.{branches-in}
 use Rattle.buffers.proofs.CheckpointBytes.{branches-next, branches-read}
 use Rattle.buffers.proofs.checkpoints.read_branches.Tie as tie
 
 abbrev Inv-loop : tie.InvT-loop
-Inv-loop note branches₀ i₀ branches i = (i ≤ 270) × (branches ≡ sets branches₀ 0 (take i (drop 3 note))) × (length branches ≡ 270)
+Inv-loop note branches₀ i₀ branches i = (i ≤ 270) × (branches ≡ sets branches₀ 0 (take i (branches-in note))) × (length branches ≡ 270)
 
 abbrev μ-loop : tie.MeasureT-loop
 μ-loop note branches₀ i₀ branches i = 270 - i
@@ -13,7 +14,7 @@ loop-again : tie.Need-loop-again Inv-loop μ-loop
 loop-again c =
     let l = c .before .before .loop in
     let note = c .before .before .before .args .note .now in
-    (omega arith, rw (l .inv .1) (branches-next note (replicate 270 0) (l .i) (omega arith) (omega arith)), simp length-set (l .inv .2))
+    (omega arith, rw (l .inv .1) (branches-next note (replicate 270 0) (omega arith) (l .i) (omega arith)), simp length-set (l .inv .2))
 
 returns : tie.Need-returns Inv-loop μ-loop
 returns c =

@@ -1,6 +1,6 @@
 -- `report::put::put_item` meets its contract.
 use Rattle.prelude.specs.Names.{needs, arith, [], _∷_}
-use Rattle.report.proofs.Puts.{fields-short, line-put}
+use Rattle.report.proofs.Puts.{item-short, line-put}
 use Rattle.report.specs.Decimal.{decimal}
 use Rattle.report.specs.Text.{item-line}
 use Rattle.report.proofs.Decimals.{decimal-short}
@@ -12,7 +12,8 @@ put-fields-requires c κs =
     let start = number .before .before .before in
     let p = start .args .p in
     let w = number .put-decimal in
-    let s = fields-short 4 (p .x ∷ p .y ∷ p .t ∷ []) (omega (arith, c .before .before), (omega (arith, c .before), (omega arith, tt))) in
+    let s = item-short (p .x) (p .y) (p .t) (start .args .mark)
+    (omega (arith, c .before .before)) (omega (arith, c .before)) (omega arith) (omega (arith, start .fits .mark)) in
     (omega arith, omega (arith, w .kept .0, w .ensures .0, decimal-short 0 (start .args .u) (omega (arith, start .pre))))
 
 returns : tie.Need-returns
@@ -25,10 +26,10 @@ returns c =
     let p = a .p in
     let w = number .put-decimal .ensures in
     let f = c .before .before .put-fields .ensures in
-    let s = fields-short 4 (p .x ∷ p .y ∷ p .t ∷ [])
-    (omega (arith, last .before .before), (omega (arith, last .before), (omega arith, tt))) in
+    let s = item-short (p .x) (p .y) (p .t) (a .mark)
+    (omega (arith, last .before .before)) (omega (arith, last .before)) (omega arith) (omega (arith, start .fits .mark)) in
     let d = decimal-short 0 (a .u) (omega (arith, start .pre)) in
-    let l = line-put (a .out .now) (decimal (a .u)) (p .x ∷ p .y ∷ p .t ∷ []) (a .at) w f in
+    let l = line-put (a .out .now) (decimal (a .u)) (p .x ∷ p .y ∷ p .t ∷ a .mark ∷ []) (a .at) w f in
     ((l .0, omega (arith, w .0, f .0)), l .1)
 
 pub put-item-spec : {M : Type 1} → Rattle.report.proofs.put.put_item.Statement.statement M
