@@ -1,6 +1,6 @@
 -- The mission's first demand, as one theorem: that every function answers, what is refused and with which number, and what a refusal
 -- leaves. The table's conditions stand beside the definitions that test them: c_api Faults (check and search in bytes) and Finishes, search Results
--- (`SearchFault`), sheet Faults (reading, with document 02's 11 and 12), writer and item_record Refusing, packing Clearance.
+-- (`SearchFault`), sheet Faults (reading, with document 02's 11 and 12), writer and item_record Refusing, packing Check and Clearance (with 02's 13).
 use Rattle.prelude.specs.Names.{true, false, List, [], _↔_, _⊎_, inl, inr, _≡_, ℕ, _+_, _≤_, _<_, ℤ, length, getD}
 use Rattle.refusal.specs.Numbers.{number-of, place-of}
 use Rattle.refusal.specs.declared.Refusal.{Refusal}
@@ -11,7 +11,7 @@ use Rattle.sheet.specs.Faults.{Fault, FirstFault}
 use Rattle.sheet.specs.Contents.{sheet-at}
 use Rattle.sheet.specs.Sheet.{max-items}
 use Rattle.instance.specs.Answers.{read-result, read-values}
-use Rattle.instance.specs.Meaning.{problem-of, positions-of}
+use Rattle.instance.specs.Meaning.{positions-of}
 use Rattle.instance.specs.Reads.{Reads}
 use Rattle.instance.specs.Sheets.{instance-of, decode, encode}
 use Rattle.instance.specs.Valid.{valid}
@@ -23,7 +23,8 @@ use Rattle.item_record.specs.Record.{item-record, item-record-code, refusal-cod
 use Rattle.item_record.specs.Refusing.{RecordFault}
 use Rattle.writer.specs.Answers.{write-answer, write-values, written-room}
 use Rattle.writer.specs.Refusing.{WriteFault}
-use Rattle.packing.specs.Check.{check-answer, check-number}
+use Rattle.turning.specs.Turned.{MarksAllowed}
+use Rattle.packing.specs.Check.{turned-by, check-answer, check-number, CheckFault}
 use Rattle.packing.specs.Clearance.{clearance-between, clearance-answer, clearance-values, ClearanceFault}
 use Rattle.search.specs.Results.{answer-number, search-result, SearchFault}
 use Rattle.makespan.specs.Results.{finish-result}
@@ -70,9 +71,8 @@ pub record Demand1 : Type 2 where
       ↔ ((valid i ≡ true) × (length (encode i) ≤ room) × (n ≡ length (encode i)))
   pub room-untouched : (i : Instance) (room : List ℕ) (n place : ℕ)
       → write-values (write-answer i (length room)) ≡ inr (n, place) → written-room i room ≡ room
-  -- Check in values: 9; otherwise 0 or 1
-  pub check-refuses : (i : Instance) (q : Packing) (n : ℕ)
-      → (check-number (check-answer i q) ≡ 100 + n) ↔ ((valid i ≡ false) × (n ≡ 9))
+  -- Check in values: 9, then 13; otherwise 0 or 1
+  pub check-refuses : (i : Instance) (q : Packing) (n : ℕ) → (check-number (check-answer i q) ≡ 100 + n) ↔ CheckFault i q n
   pub check-answers : (i : Instance) (q : Packing) → let n = check-number (check-answer i q) in (n ≤ 1) ⊎ (100 ≤ n)
   -- Search in values: 9, then 10; otherwise 0, 1 or 2; "a refused search hands its note back with 0 steps"
   pub search-refuses : (i : Instance) (c : Checkpoint) (budget n : ℕ)
@@ -97,13 +97,13 @@ pub record Demand1 : Type 2 where
       → (length-after sheet allowance finish steps plan ≡ finish)
       × (finish-steps-after sheet allowance finish steps plan ≡ steps)
       × (finish-plan-after sheet allowance finish steps plan ≡ plan)
-  -- Clearance: 9, then 5, then 8, each with place 0; otherwise the number
+  -- Clearance: 9, then 5, then 8, then 13, each with place 0; otherwise the number
   pub clearance-refuses : (i : Instance) (q : Packing) (u v a n place : ℕ)
-      → (clearance-values (clearance-answer i q u v a) ≡ inr (n, place)) ↔ (ClearanceFault i u v a n × (place ≡ 0))
+      → (clearance-values (clearance-answer i q u v a) ≡ inr (n, place)) ↔ (ClearanceFault i q u v a n × (place ≡ 0))
   pub clearance-answers : (i : Instance) (q : Packing) (u v a : ℕ) (z : ℤ)
       → (clearance-values (clearance-answer i q u v a) ≡ inl z)
-      ↔ ((valid i ≡ true) × (u < i .«item_count») × (v < i .«item_count») × (a < 3)
-      × (z ≡ clearance-between (problem-of i) (positions-of q) a u v))
+      ↔ ((valid i ≡ true) × (u < i .«item_count») × (v < i .«item_count») × (a < 3) × MarksAllowed i (q .marks)
+      × (z ≡ clearance-between (turned-by i q) (positions-of q) a u v))
   -- An item's record: the sheet's number and place, then 5 and 0, and the part is empty; otherwise 0 and 0, and the part is the
   -- bytes that the item was read from
   pub record-refuses : (sheet : List ℕ) (k : ℕ) (e : Refusal)
