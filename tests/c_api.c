@@ -1,14 +1,15 @@
 /* Check, pieces, search and finish as a C client calls them: every row of document 01's "Small halls", sheets with lags, measures about
- * 4,095 and walkways, alone and as lists of calls with refused calls among them; earliest finishes under each allowance; wrong lengths; damaged notes.
- * The buffers are compared whole, with a guard byte on each side. */
+ * 4,095, walkways and pieces that may turn, alone and as lists of calls with refused calls among them; choices above 255; marks; earliest finishes under
+ * each allowance; wrong lengths; damaged notes. The buffers are compared whole, with a guard byte on each side. */
 #include "hallplan.h"
 
 #include <stdio.h>
 #include <string.h>
 
 #define GUARD 0xA5
-#define MOST_PIECES 5
-#define MOST_STEPS 4
+#define MOST_PIECES 10
+#define MOST_STEPS 12
+#define CHOICE 273
 #define MOST_LENGTHS 4095
 #define ALL_ALLOWANCES 300
 
@@ -19,7 +20,8 @@ struct lent {
     uint8_t plan[1 + HALLPLAN_PIECE_BYTES * MOST_PIECES + 1];
 };
 
-/* A row of the table: what it gives, after how many steps, the starts of a placed plan and the row of turns after each step. */
+/* A row of the table: what it gives, after how many steps, the starts of a placed plan and the row of turns after each step, with its choice and a
+ * colon before it where that is not 0. */
 struct row {
     const char *name, *sheet;
     size_t len, pieces;
@@ -115,6 +117,40 @@ static const struct row rows[] = {
     {"bit 7 of a piece", BYTES("\x88\x01\x80\x05"), 0, REFUSED(2)},
 };
 
+/* A row with pieces that may turn, and the marks of a placed plan. */
+struct turn_row {
+    struct row row;
+    const char *marks;
+};
+
+/* Worked out by hand: compare/src/table.rs says how. A choice in which a piece is above the hall takes the one step that opens the next. */
+#define SLABS_2 "\x02\x09\x02\x00\x09\x02\x00"
+static const struct turn_row turn_rows[] = {
+    {{"1x2x1; 2x1x1, which may turn", BYTES("\x0A\x02\x00\x01\x09\x02\x00"), 1, HALLPLAN_PLACED, 2, {"", "1:", "1:"}, {0}}, "1"},
+    {{"1x2x1; 2x1x1, which may not", BYTES("\x0A\x02\x00\x01\x01\x02\x00"), 1, HALLPLAN_NONE, 1, {"", ""}, {0}}, ""},
+    {{"1x1x1; 2x1x1, which may turn", BYTES("\x08\x01\x09\x02\x00"), 1, HALLPLAN_NONE, 2, {"", "1:", "1:"}, {0}}, ""},
+    {{"1x1x2; 2x1x1, which may turn", BYTES("\x0C\x02\x00\x01\x09\x02\x00"), 1, HALLPLAN_NONE, 2, {"", "1:", "1:"}, {0}}, ""},
+    {{"1x1x1; 1x1x1, which may turn", BYTES("\x08\x01\x08"), 1, HALLPLAN_PLACED, 1, {"", ""}, {0}}, "0"},
+    {{"1x1x1; 2x2x1 and 1x1x1, which may turn", BYTES("\x08\x02\x0B\x02\x00\x02\x00\x08"), 2, HALLPLAN_NONE, 4, {"", "1:", "2:", "3:", "3:"}, {0}}, ""},
+    {{"3x2x1; 3x1x1, 1x3x1; both may turn", BYTES("\x0B\x03\x00\x02\x00\x02\x09\x03\x00\x0A\x03\x00"), 2, HALLPLAN_PLACED, 4,
+      {"", "1:", "2:", "2:0", "2:0"}, {0, 0, 0, 0, 1, 0}}, "01"},
+    {{"3x2x1; 1x3x1, 3x1x1; both may turn", BYTES("\x0B\x03\x00\x02\x00\x02\x0A\x03\x00\x09\x03\x00"), 2, HALLPLAN_PLACED, 3,
+      {"", "1:", "1:0", "1:0"}, {0, 0, 0, 0, 1, 0}}, "10"},
+    {{"3x2x1; 3x1x1, 1x3x1; the second may turn", BYTES("\x0B\x03\x00\x02\x00\x02\x01\x03\x00\x0A\x03\x00"), 2, HALLPLAN_PLACED, 3,
+      {"", "1:", "1:0", "1:0"}, {0, 0, 0, 0, 1, 0}}, "01"},
+    {{"2x1x1; three of 1x1x1; 0 and 2 may turn", BYTES("\x09\x02\x00\x03\x08\x00\x08"), 3, HALLPLAN_NONE, 12,
+      {"", "0", "1", "1:", "1:0", "1:1", "2:", "2:0", "2:1", "3:", "3:0", "3:1", "3:"}, {0}}, ""},
+    {{"3x2x1; two of 2x1x1 that may turn; walkway 1", BYTES("\x8B\x03\x00\x02\x00" SLABS_2 "\x01"), 2, HALLPLAN_PLACED, 5,
+      {"", "1:", "2:", "3:", "3:0", "3:0"}, {0, 0, 0, 2, 0, 0}}, "11"},
+    {{"the same, walkway 2", BYTES("\x8B\x03\x00\x02\x00" SLABS_2 "\x02"), 2, HALLPLAN_NONE, 4, {"", "1:", "2:", "3:", "3:"}, {0}}, ""},
+    {{"1x2x4; two of 2x1x1 that may turn; order 0,1, lag 2", BYTES("\x5E\x02\x00\x04\x00" SLABS_2 "\x01\x00\x01\x02"), 2, HALLPLAN_PLACED, 4,
+      {"", "1:", "2:", "3:", "3:"}, {0, 0, 0, 0, 0, 3}}, "11"},
+    {{"the same in 3 shifts", BYTES("\x5E\x02\x00\x03\x00" SLABS_2 "\x01\x00\x01\x02"), 2, HALLPLAN_NONE, 4, {"", "1:", "2:", "3:", "3:"}, {0}}, ""},
+    {{"bit 4 of a piece", BYTES("\x08\x01\x10"), 0, REFUSED(2)}, ""},
+    {{"bits 3 and 4 of a piece", BYTES("\x08\x01\x18"), 0, REFUSED(2)}, ""},
+    {{"a byte after a piece that may turn", BYTES("\x08\x01\x08\x00"), 0, REFUSED(7)}, ""},
+};
+
 static int failed;
 
 static void expect(int line, const char *name, uint32_t got, uint32_t want)
@@ -146,12 +182,28 @@ static struct lent opening(void)
     return lent;
 }
 
+/* Starts and marks in plan bytes; a text of marks that is too short has zeros at its end. */
+static void put_plan(uint8_t *plan, size_t pieces, const uint8_t *starts, const char *marks)
+{
+    memset(plan, 0, HALLPLAN_PIECE_BYTES * pieces);
+    for (size_t i = 0; i < 3 * pieces; i++) {
+        plan[HALLPLAN_PIECE_BYTES * (i / 3) + 2 * (i % 3)] = starts[i];
+    }
+    for (size_t piece = 0; piece < pieces && marks[piece]; piece++) {
+        plan[HALLPLAN_PIECE_BYTES * piece + 6] = (uint8_t)(marks[piece] - '0');
+    }
+}
+
 /* The buffers after a call that took the run from `from` to `to` steps: document 01's claim, from what the table says. */
-static struct lent left_by(const struct row *row, uint32_t from, uint32_t to)
+static struct lent left_by(const struct row *row, const char *marks, uint32_t from, uint32_t to)
 {
     struct lent lent = opening();
     const char *turns = row->turns[to];
     int placed = to == row->steps && row->answer == HALLPLAN_PLACED;
+    if (strchr(turns, ':')) {
+        lent.note[1 + CHOICE] = (uint8_t)(turns[0] - '0');
+        turns += 2;
+    }
     lent.note[1] = to < row->steps ? 0 : placed ? 2 : 1;
     lent.note[2] = (uint8_t)strlen(turns);
     for (size_t i = 0; turns[i]; i++) {
@@ -159,9 +211,8 @@ static struct lent left_by(const struct row *row, uint32_t from, uint32_t to)
     }
     memset(lent.steps + 1, 0, HALLPLAN_STEP_BYTES);
     lent.steps[1] = (uint8_t)(to - from);
-    for (size_t i = 0; placed && i < 3 * row->pieces; i++) {
-        lent.plan[1 + 2 * i] = row->starts[i];
-        lent.plan[2 + 2 * i] = 0;
+    if (placed) {
+        put_plan(lent.plan + 1, row->pieces, row->starts, marks);
     }
     return lent;
 }
@@ -178,11 +229,11 @@ static void refused(const struct row *row, struct lent lent, size_t note, size_t
 static void refused_calls(const struct row *row, struct lent lent)
 {
     static const struct row cut = {"a sheet cut short", BYTES("\x01\x02"), 0, REFUSED(1)};
-    static const size_t lengths[][3] = {{272, 4, 0}, {274, 4, 0}, {0, 4, 0}, {273, 3, 0}, {273, 5, 0}, {273, 4, 1}, {273, 4, 6}, {272, 5, 1}};
-    static const size_t damages[][2] = {{0, 3}, {2, 2}, {3, 2}, {272, 1}};
+    static const size_t lengths[][3] = {{274, 4, 0}, {276, 4, 0}, {273, 4, 0}, {0, 4, 0}, {275, 3, 0}, {275, 5, 0}, {275, 4, 1}, {275, 4, 7}, {274, 5, 1}};
+    static const size_t damages[][2] = {{0, 3}, {2, 2}, {3, 2}, {272, 1}, {273, 16}, {274, 1}, {274, 255}};
     size_t plan = HALLPLAN_PIECE_BYTES * row->pieces;
     int sheet_reads = row->answer < HALLPLAN_REFUSED;
-    refused(&cut, lent, 273, 4, plan, cut.answer);
+    refused(&cut, lent, HALLPLAN_NOTE_BYTES, 4, plan, cut.answer);
     for (size_t k = 0; k < sizeof lengths / sizeof lengths[0]; k++) {
         size_t wrong = lesser(plan + lengths[k][2], HALLPLAN_PIECE_BYTES * MOST_PIECES + 1);
         refused(row, lent, lengths[k][0], lengths[k][1], wrong, sheet_reads ? HALLPLAN_REFUSED + 8 : row->answer);
@@ -190,12 +241,12 @@ static void refused_calls(const struct row *row, struct lent lent)
     for (size_t k = 0; k < sizeof damages / sizeof damages[0]; k++) {
         struct lent damaged = lent;
         damaged.note[1 + damages[k][0]] = (uint8_t)damages[k][1];
-        refused(row, damaged, 273, 4, plan, sheet_reads ? HALLPLAN_REFUSED + 10 : row->answer);
+        refused(row, damaged, HALLPLAN_NOTE_BYTES, 4, plan, sheet_reads ? HALLPLAN_REFUSED + 10 : row->answer);
     }
 }
 
 /* A list of calls from the opening note, with refused calls before each. */
-static void list_of_calls(const struct row *row, const uint32_t *allowances, size_t calls)
+static void list_of_calls(const struct row *row, const char *marks, const uint32_t *allowances, size_t calls)
 {
     struct lent lent = opening();
     uint32_t sum = 0;
@@ -204,10 +255,10 @@ static void list_of_calls(const struct row *row, const uint32_t *allowances, siz
         refused_calls(row, lent);
         uint32_t from = sum;
         sum = lesser(row->steps, lesser(row->steps, allowances[k]) + sum);
-        struct lent want = row->answer < HALLPLAN_REFUSED ? left_by(row, from, sum) : opening();
+        struct lent want = row->answer < HALLPLAN_REFUSED ? left_by(row, marks, from, sum) : opening();
         memset(lent.steps + 1, GUARD, HALLPLAN_STEP_BYTES);
         memset(lent.plan + 1, GUARD, plan);
-        uint32_t answer = hallplan_search(sheet_of(row), row->len, lent.note + 1, 273, allowances[k], lent.steps + 1, 4, lent.plan + 1, plan);
+        uint32_t answer = hallplan_search(sheet_of(row), row->len, lent.note + 1, HALLPLAN_NOTE_BYTES, allowances[k], lent.steps + 1, 4, lent.plan + 1, plan);
         EXPECT(row->name, answer, sum < row->steps ? HALLPLAN_SPENT : row->answer);
         EXPECT(row->name, memcmp(&lent, &want, sizeof lent) == 0, 1);
         if (answer == HALLPLAN_PLACED) {
@@ -222,7 +273,157 @@ static void small_halls(void)
         {1000000, 0, 1, 7, 1000000}, {0, 1, 1, 1, 1}, {1, 1, 1, 1, 1}, {2, 2, 2, 2, 2}, {0, 0, 3, 0, 0}, {0xFFFFFFFF, 0xFFFFFFFF, 1, 0, 2}};
     for (size_t r = 0; r < sizeof rows / sizeof rows[0]; r++) {
         for (size_t k = 0; k < sizeof lists / sizeof lists[0]; k++) {
-            list_of_calls(&rows[r], lists[k], 5);
+            list_of_calls(&rows[r], "", lists[k], 5);
+        }
+    }
+    static const uint32_t one_by_one[MOST_STEPS + 1] = {1, 1, 1, 1, 1, 1, 1, 1, 1, 1, 1, 1, 1};
+    for (size_t r = 0; r < sizeof turn_rows / sizeof turn_rows[0]; r++) {
+        const struct row *row = &turn_rows[r].row;
+        for (size_t k = 0; k < sizeof lists / sizeof lists[0]; k++) {
+            list_of_calls(row, turn_rows[r].marks, lists[k], 5);
+        }
+        list_of_calls(row, turn_rows[r].marks, one_by_one, MOST_STEPS + 1);
+        /* over the choices, split at every step */
+        for (uint32_t split = 0; split <= row->steps; split++) {
+            uint32_t in_two[3] = {split, row->steps - split, 1};
+            list_of_calls(row, turn_rows[r].marks, in_two, 3);
+        }
+    }
+}
+
+/* Nine or ten pieces that may turn, one after another in a hall 1 x 2: all of 1 x 1 but the last, so many modules wide. With 2 it is too wide until
+ * it is turned, in the first choice with its digit, 256 or 512; with 3 it is too wide or too deep in each of 512 or 1,024. Each choice takes a step. */
+struct chain {
+    uint8_t sheet[64];
+    size_t len, pieces;
+    uint32_t steps, last;
+};
+
+static struct chain chain_of(uint8_t pieces, uint8_t width)
+{
+    struct chain c = {{0x1E, 2, 0, pieces, 0, pieces}, 6, pieces, 0, 0};
+    for (uint8_t piece = 1; piece < pieces; piece++) {
+        c.sheet[c.len++] = 8;
+    }
+    c.sheet[c.len++] = 9;
+    c.sheet[c.len++] = width;
+    c.sheet[c.len++] = 0;
+    c.sheet[c.len++] = (uint8_t)(pieces - 1);
+    for (uint8_t piece = 1; piece < pieces; piece++) {
+        c.sheet[c.len++] = (uint8_t)(piece - 1);
+        c.sheet[c.len++] = piece;
+    }
+    c.last = width == 2 ? 1u << (pieces - 1) : (1u << pieces) - 1;
+    c.steps = c.last + 1;
+    return c;
+}
+
+static void put_choice(uint8_t *note, uint32_t choice)
+{
+    note[CHOICE] = (uint8_t)(choice % 256);
+    note[CHOICE + 1] = (uint8_t)(choice / 256);
+}
+
+/* The buffers after as many steps, of which the last call took some. */
+static struct lent left_by_chain(const struct chain *c, int placed, uint32_t from, uint32_t to)
+{
+    static const uint8_t starts[3 * MOST_PIECES] = {0, 0, 0, 0, 0, 1, 0, 0, 2, 0, 0, 3, 0, 0, 4, 0, 0, 5, 0, 0, 6, 0, 0, 7, 0, 0, 8, 0, 0, 9};
+    struct lent lent = opening();
+    put_choice(lent.note + 1, lesser(to, c->last));
+    lent.note[1] = to < c->steps ? 0 : placed ? 2 : 1;
+    lent.steps[1] = (uint8_t)((to - from) % 256);
+    lent.steps[2] = (uint8_t)((to - from) / 256);
+    lent.steps[3] = lent.steps[4] = 0;
+    if (to == c->steps && placed) {
+        put_plan(lent.plan + 1, c->pieces, starts, c->pieces == 9 ? "000000001" : "0000000001");
+    }
+    return lent;
+}
+
+/* One call on the note that the steps before it leave. */
+static void call_on_chain(const struct chain *c, int placed, uint32_t from, uint32_t allowance)
+{
+    uint32_t to = lesser(c->steps, from + allowance);
+    struct lent lent = left_by_chain(c, placed, from, from), want = left_by_chain(c, placed, from, to);
+    size_t plan = HALLPLAN_PIECE_BYTES * c->pieces;
+    memset(lent.steps + 1, GUARD, HALLPLAN_STEP_BYTES);
+    memset(lent.plan + 1, GUARD, plan);
+    uint32_t answer = hallplan_search(c->sheet, c->len, lent.note + 1, HALLPLAN_NOTE_BYTES, allowance, lent.steps + 1, 4, lent.plan + 1, plan);
+    EXPECT("a chain", answer, to < c->steps ? HALLPLAN_SPENT : placed ? HALLPLAN_PLACED : HALLPLAN_NONE);
+    EXPECT("a chain", memcmp(&lent, &want, sizeof lent) == 0, 1);
+    if (answer == HALLPLAN_PLACED) {
+        EXPECT("a chain", hallplan_check(c->sheet, c->len, lent.plan + 1, plan), HALLPLAN_YES);
+    }
+}
+
+/* A note with this state and choice and an empty row, in a call without steps. */
+static uint32_t chain_note(const struct chain *c, uint8_t state, uint32_t choice)
+{
+    struct lent lent = opening();
+    lent.note[1] = state;
+    put_choice(lent.note + 1, choice);
+    return hallplan_search(c->sheet, c->len, lent.note + 1, HALLPLAN_NOTE_BYTES, 0, lent.steps + 1, 4, lent.plan + 1, HALLPLAN_PIECE_BYTES * c->pieces);
+}
+
+/* Choices above 255: step by step, in lists of two calls split at each step of nine pieces, and at some of ten; notes with choices up to the last and
+ * beyond it, open and none. */
+static void choices_above_255(void)
+{
+    for (uint8_t pieces = 9; pieces <= 10; pieces++) {
+        for (uint8_t width = 2; width <= 3; width++) {
+            struct chain c = chain_of(pieces, width);
+            int placed = width == 2;
+            for (uint32_t split = 0; split <= c.steps; split++) {
+                call_on_chain(&c, placed, split, 1);
+                if (pieces == 9 || split % 64 == 0 || split % 256 < 2 || split % 256 == 255) {
+                    call_on_chain(&c, placed, 0, split);
+                    call_on_chain(&c, placed, split, c.steps - split);
+                }
+            }
+            call_on_chain(&c, placed, c.steps, 7);
+            uint32_t last = (1u << pieces) - 1;
+            static const uint32_t beyond[] = {1, 2, 256, 512, 1024, 2048};
+            for (uint32_t choice = 0; choice <= last; choice++) {
+                EXPECT("an open note", chain_note(&c, 0, choice), HALLPLAN_SPENT);
+                EXPECT("a none note", chain_note(&c, 1, choice), choice == last ? HALLPLAN_NONE : HALLPLAN_REFUSED + 10);
+            }
+            for (size_t k = 0; k < sizeof beyond / sizeof beyond[0]; k++) {
+                EXPECT("an open note, beyond", chain_note(&c, 0, last + beyond[k]), HALLPLAN_REFUSED + 10);
+                EXPECT("a none note, beyond", chain_note(&c, 1, last + beyond[k]), HALLPLAN_REFUSED + 10);
+            }
+            EXPECT("choice 65535", chain_note(&c, 0, 65535), HALLPLAN_REFUSED + 10);
+        }
+    }
+}
+
+/* Check with marks: 3x1x1, which may turn, and 2x1x1, which may or may not, in a hall of 3x3x1. */
+static void checks_with_marks(void)
+{
+    static const struct {
+        uint8_t map, first[3], second[3]; /* x, y, mark */
+        uint32_t want;
+    } plans[] = {
+        {9, {0, 0, 0}, {0, 1, 0}, HALLPLAN_YES}, {9, {0, 0, 1}, {1, 0, 0}, HALLPLAN_YES}, {9, {0, 0, 1}, {1, 0, 1}, HALLPLAN_YES},
+        {9, {0, 0, 0}, {1, 0, 1}, HALLPLAN_NO}, {9, {0, 0, 0}, {2, 1, 1}, HALLPLAN_YES}, {9, {0, 0, 0}, {2, 1, 0}, HALLPLAN_NO},
+        {9, {0, 0, 0}, {2, 2, 1}, HALLPLAN_NO}, {9, {2, 0, 1}, {0, 0, 0}, HALLPLAN_YES}, {9, {2, 0, 0}, {0, 0, 0}, HALLPLAN_NO},
+        {9, {0, 1, 1}, {1, 0, 0}, HALLPLAN_NO}, {1, {0, 0, 1}, {1, 0, 0}, HALLPLAN_YES}, {1, {0, 0, 1}, {1, 0, 1}, HALLPLAN_REFUSED + 13},
+        {1, {0, 0, 0}, {0, 0, 1}, HALLPLAN_REFUSED + 13}, {9, {0, 0, 0}, {0, 1, 2}, HALLPLAN_REFUSED + 13}, {9, {0, 0, 2}, {0, 1, 0}, HALLPLAN_REFUSED + 13},
+        {9, {0, 0, 255}, {0, 1, 1}, HALLPLAN_REFUSED + 13}, {9, {0, 0, 1}, {1, 0, 255}, HALLPLAN_REFUSED + 13},
+        {9, {0, 0, 128}, {0, 0, 0}, HALLPLAN_REFUSED + 13}};
+    EXPECT("HALLPLAN_BAD_MARK", HALLPLAN_BAD_MARK, 13);
+    for (size_t k = 0; k < sizeof plans / sizeof plans[0]; k++) {
+        uint8_t sheet[] = {0x0B, 3, 0, 3, 0, 2, 9, 3, 0, plans[k].map, 2, 0}, plan[3 * HALLPLAN_PIECE_BYTES] = {0};
+        const uint8_t *pieces[] = {plans[k].first, plans[k].second};
+        for (size_t piece = 0; piece < 2; piece++) {
+            plan[HALLPLAN_PIECE_BYTES * piece] = pieces[piece][0];
+            plan[HALLPLAN_PIECE_BYTES * piece + 2] = pieces[piece][1];
+            plan[HALLPLAN_PIECE_BYTES * piece + 6] = pieces[piece][2];
+        }
+        for (size_t len = 0; len <= sizeof plan; len++) {
+            EXPECT("marks", hallplan_check(sheet, sizeof sheet, plan, len), len == 2 * HALLPLAN_PIECE_BYTES ? plans[k].want : HALLPLAN_REFUSED + 8);
+        }
+        for (size_t len = 0; len < sizeof sheet; len++) {
+            EXPECT("marks, cut", hallplan_check(sheet, len, plan, 2 * HALLPLAN_PIECE_BYTES), HALLPLAN_REFUSED + 1);
         }
     }
 }
@@ -243,12 +444,12 @@ static void small_hall_in_parts(void)
 static void checks(void)
 {
     const struct row *row = &rows[1];
-    static const uint8_t fits[18] = {0, 0, 0, 0, 1, 0}, late[12] = {0, 0, 0, 0, 0, 1}, at_once[12] = {0};
-    EXPECT("fits", hallplan_check(sheet_of(row), row->len, fits, 12), HALLPLAN_YES);
-    EXPECT("past the last shift", hallplan_check(sheet_of(row), row->len, late, 12), HALLPLAN_NO);
-    EXPECT("in one place", hallplan_check(sheet_of(row), row->len, at_once, 12), HALLPLAN_NO);
+    static const uint8_t fits[21] = {0, 0, 0, 0, 1, 0}, late[14] = {0, 0, 0, 0, 0, 1}, at_once[14] = {0};
+    EXPECT("fits", hallplan_check(sheet_of(row), row->len, fits, 14), HALLPLAN_YES);
+    EXPECT("past the last shift", hallplan_check(sheet_of(row), row->len, late, 14), HALLPLAN_NO);
+    EXPECT("in one place", hallplan_check(sheet_of(row), row->len, at_once, 14), HALLPLAN_NO);
     for (size_t n = 0; n <= sizeof fits; n++) {
-        EXPECT("length", hallplan_check(sheet_of(row), row->len, fits, n), n == 12 ? HALLPLAN_YES : HALLPLAN_REFUSED + 8);
+        EXPECT("length", hallplan_check(sheet_of(row), row->len, fits, n), n == 14 ? HALLPLAN_YES : HALLPLAN_REFUSED + 8);
     }
     for (size_t len = 0; len < row->len; len++) {
         EXPECT("cut", hallplan_check(sheet_of(row), len, fits, len), HALLPLAN_REFUSED + 1);
@@ -318,8 +519,8 @@ static void one_too_large(uint8_t *sheet, size_t place)
     EXPECT("4095", hallplan_pieces(sheet, LONGEST_SHEET), 10);
 }
 
-/* The longest sheet: its pieces, and 1 wherever it is cut; a byte more; each measure above 4,095; a walkway of 0; lags of 0, whole, cut, and
- * with a walkway and a byte after them. */
+/* The longest sheet: its pieces, and 1 wherever it is cut; a byte more; each measure above 4,095; pieces that may turn, and bit 4 of their maps; a walkway
+ * of 0; lags of 0, whole, cut, and with a walkway and a byte after them. */
 static void longest_sheet(void)
 {
     uint8_t sheet[LONGEST_SHEET + 1];
@@ -358,6 +559,12 @@ static void longest_sheet(void)
         for (size_t axis = 0; axis < 3; axis++) {
             one_too_large(sheet, start + 2 * axis);
         }
+    }
+    for (size_t map = 8; map < 78; map += 7) {
+        sheet[map] |= 0x10;
+        EXPECT("bit 4 of a map", hallplan_pieces(sheet, LONGEST_SHEET), HALLPLAN_REFUSED + 2);
+        sheet[map] = 0x0F;
+        EXPECT("a piece that may turn", hallplan_pieces(sheet, LONGEST_SHEET), 10);
     }
     sheet[LONGEST_SHEET - 1] = 0;
     EXPECT("a walkway of 0", hallplan_pieces(sheet, LONGEST_SHEET), HALLPLAN_REFUSED + 3);
@@ -398,6 +605,13 @@ static void pieces(void)
         uint32_t want = rows[r].answer < HALLPLAN_REFUSED ? (uint32_t)rows[r].pieces : rows[r].answer;
         EXPECT(rows[r].name, hallplan_pieces(sheet_of(&rows[r]), rows[r].len), want);
     }
+    for (size_t r = 0; r < sizeof turn_rows / sizeof turn_rows[0]; r++) {
+        const struct row *row = &turn_rows[r].row;
+        EXPECT(row->name, hallplan_pieces(sheet_of(row), row->len), row->answer < HALLPLAN_REFUSED ? (uint32_t)row->pieces : row->answer);
+        for (size_t len = 0; row->answer < HALLPLAN_REFUSED && len < row->len; len++) {
+            EXPECT("cut", hallplan_pieces(sheet_of(row), len), HALLPLAN_REFUSED + 1);
+        }
+    }
     for (size_t k = 0; k < sizeof sheets / sizeof sheets[0]; k++) {
         EXPECT(sheets[k].name, hallplan_pieces((const uint8_t *)sheets[k].sheet, sheets[k].len), sheets[k].want);
     }
@@ -410,17 +624,18 @@ static void pieces(void)
 }
 
 /* Notes that get 10 on the printed example, which places at once: a state, a length, a turn that are none; bytes past the length;
- * a row where there is no branching point; a none note with a row. */
+ * a row where there is no branching point; a none note with a row; a choice, where no piece may turn. */
 static void notes(void)
 {
-    static const size_t bad[][4] = {{0, 3, 0, 0}, {1, 15, 2, 1}, {1, 1, 3, 2}, {3, 1, 3, 1}, {272, 1, 0, 0}, {0, 1, 1, 1}, {1, 1, 0, 0}, {0, 2, 1, 1}};
+    static const size_t bad[][4] = {{0, 3, 0, 0}, {1, 15, 2, 1}, {1, 1, 3, 2}, {3, 1, 3, 1}, {272, 1, 0, 0}, {0, 1, 1, 1}, {1, 1, 0, 0}, {0, 2, 1, 1},
+                                    {273, 1, 0, 0}, {274, 1, 0, 0}, {0, 1, 273, 1}, {0, 2, 274, 1}, {0, 2, 273, 2}};
     for (size_t k = 0; k < sizeof bad / sizeof bad[0]; k++) {
         struct lent lent = opening();
         lent.note[1 + bad[k][0]] = (uint8_t)bad[k][1];
         if (bad[k][2]) {
             lent.note[1 + bad[k][2]] = (uint8_t)bad[k][3];
         }
-        refused(&rows[1], lent, 273, 4, 12, HALLPLAN_REFUSED + 10);
+        refused(&rows[1], lent, HALLPLAN_NOTE_BYTES, 4, 14, HALLPLAN_REFUSED + 10);
     }
 }
 
@@ -484,6 +699,22 @@ static const struct finish_row finish_rows[] = {
     {"no pieces, 9 shifts, walkway 255", BYTES("\x84\x09\x00\xFF"), 0, 1, HALLPLAN_PLACED, {0}, {0}},
 };
 
+/* With pieces that may turn, and the marks: each length in all choices. */
+static const struct {
+    struct finish_row row;
+    const char *marks;
+} turn_finish_rows[] = {
+    {{"1x2x9; 2x1x3, which may turn", BYTES("\x0E\x02\x00\x09\x00\x01\x0D\x02\x00\x03\x00"), 1, 3, HALLPLAN_PLACED, {2, 2, 2}, {0}}, "1"},
+    {{"1x1x3; 2x1x1, which may turn", BYTES("\x0C\x03\x00\x01\x09\x02\x00"), 1, 3, HALLPLAN_NONE, {2, 2, 2}, {0}}, ""},
+    {{"2x1x4; three of 1x1x1 that may turn", BYTES("\x0D\x02\x00\x04\x00\x03\x08\x08\x08"), 3, 2, HALLPLAN_PLACED, {24, 5}, {0, 0, 0, 1, 0, 0, 1, 0, 1}}, ""},
+    {{"2x2x4; 2x1x1, 1x2x1; the second may turn", BYTES("\x0F\x02\x00\x02\x00\x04\x00\x02\x01\x02\x00\x0A\x02\x00"), 2, 1, HALLPLAN_PLACED, {3},
+      {0, 0, 0, 0, 1, 0}}, "01"},
+    {{"3x2x5; two of 2x1x2 that may turn; walkway 1", BYTES("\x8F\x03\x00\x02\x00\x05\x00\x02\x0D\x02\x00\x02\x00\x0D\x02\x00\x02\x00\x01"), 2, 2,
+      HALLPLAN_PLACED, {4, 5}, {0, 0, 0, 2, 0, 0}}, "11"},
+    {{"1x2x9; two of 2x1x1 that may turn; order 0,1, lag 2", BYTES("\x5E\x02\x00\x09\x00" SLABS_2 "\x01\x00\x01\x02"), 2, 4, HALLPLAN_PLACED, {4, 4, 4, 4},
+      {0, 0, 0, 0, 0, 3}}, "11"},
+};
+
 static struct finish_lent nothing_finished(void)
 {
     struct finish_lent lent;
@@ -492,7 +723,7 @@ static struct finish_lent nothing_finished(void)
 }
 
 /* The buffers after a call with this allowance, from what the row says, and the answer. */
-static struct finish_lent finish_left_by(const struct finish_row *row, uint32_t allowance, uint32_t *answer)
+static struct finish_lent finish_left_by(const struct finish_row *row, const char *marks, uint32_t allowance, uint32_t *answer)
 {
     struct finish_lent lent = nothing_finished();
     uint32_t sum = 0, length = 0;
@@ -509,19 +740,18 @@ static struct finish_lent finish_left_by(const struct finish_row *row, uint32_t 
     for (size_t i = 0; i < HALLPLAN_LENGTH_BYTES; i++) {
         lent.length[1 + i] = (uint8_t)(length >> 8 * i);
     }
-    for (size_t i = 0; *answer == HALLPLAN_PLACED && i < 3 * row->pieces; i++) {
-        lent.plan[1 + 2 * i] = row->starts[i];
-        lent.plan[2 + 2 * i] = 0;
+    if (*answer == HALLPLAN_PLACED) {
+        put_plan(lent.plan + 1, row->pieces, row->starts, marks);
     }
     return lent;
 }
 
-static void finish_under(const struct finish_row *row, uint32_t allowance)
+static void finish_under(const struct finish_row *row, const char *marks, uint32_t allowance)
 {
     const uint8_t *sheet = (const uint8_t *)row->sheet;
     size_t plan = HALLPLAN_PIECE_BYTES * row->pieces;
     uint32_t want_answer;
-    struct finish_lent lent = nothing_finished(), want = finish_left_by(row, allowance, &want_answer);
+    struct finish_lent lent = nothing_finished(), want = finish_left_by(row, marks, allowance, &want_answer);
     EXPECT(row->name, hallplan_finish(sheet, row->len, allowance, lent.length + 1, 2, lent.steps + 1, 4, lent.plan + 1, plan), want_answer);
     EXPECT(row->name, memcmp(&lent, &want, sizeof lent) == 0, 1);
     if (want_answer == HALLPLAN_PLACED) {
@@ -542,7 +772,7 @@ static void finish_refused(const char *name, const char *sheet, size_t len, size
 /* Other lengths of the three buffers: 8, and on a sheet that is refused or cut its own number first. */
 static void finish_lengths(const char *name, const char *sheet, size_t len, size_t pieces, uint32_t answer)
 {
-    static const size_t lengths[][3] = {{1, 4, 0}, {3, 4, 0}, {0, 4, 0}, {2, 3, 0}, {2, 5, 0}, {2, 0, 0}, {2, 4, 1}, {2, 4, 6}, {1, 5, 1}};
+    static const size_t lengths[][3] = {{1, 4, 0}, {3, 4, 0}, {0, 4, 0}, {2, 3, 0}, {2, 5, 0}, {2, 0, 0}, {2, 4, 1}, {2, 4, 7}, {1, 5, 1}};
     for (size_t k = 0; k < sizeof lengths / sizeof lengths[0]; k++) {
         size_t plan = lesser(HALLPLAN_PIECE_BYTES * pieces + lengths[k][2], HALLPLAN_PIECE_BYTES * MOST_PIECES + 1);
         finish_refused(name, sheet, len, lengths[k][0], lengths[k][1], plan, answer < HALLPLAN_REFUSED ? HALLPLAN_REFUSED + 8 : answer);
@@ -561,10 +791,18 @@ static void finishes(void)
         const struct finish_row *row = &finish_rows[r];
         uint32_t first = row->lengths > ALL_ALLOWANCES ? (uint32_t)row->lengths - 10 : 0;
         for (uint32_t allowance = first; allowance < row->lengths + 10; allowance++) {
-            finish_under(row, allowance);
+            finish_under(row, "", allowance);
         }
-        finish_under(row, 1000000);
-        finish_under(row, 0xFFFFFFFF);
+        finish_under(row, "", 1000000);
+        finish_under(row, "", 0xFFFFFFFF);
+        finish_lengths(row->name, row->sheet, row->len, row->pieces, row->answer);
+    }
+    for (size_t r = 0; r < sizeof turn_finish_rows / sizeof turn_finish_rows[0]; r++) {
+        const struct finish_row *row = &turn_finish_rows[r].row;
+        for (uint32_t allowance = 0; allowance < 40; allowance++) {
+            finish_under(row, turn_finish_rows[r].marks, allowance);
+        }
+        finish_under(row, turn_finish_rows[r].marks, 0xFFFFFFFF);
         finish_lengths(row->name, row->sheet, row->len, row->pieces, row->answer);
     }
     for (size_t r = 0; r < sizeof rows / sizeof rows[0]; r++) {
@@ -582,7 +820,9 @@ int main(void)
     checks();
     checks_with_lags();
     checks_with_walkway();
+    checks_with_marks();
     checks_far();
+    choices_above_255();
     pieces();
     longest_sheet();
     notes();

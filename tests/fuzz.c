@@ -13,10 +13,12 @@
 #define GUARD_BYTES 32
 #define GUARD 0xA5
 #define MOST_ALLOWANCE 200
-#define NUMBERS 13
+#define NUMBERS 14
 #define LONGEST_SHEET 352
 #define NO_LAG (HALLPLAN_REFUSED + 11)
 #define TOO_LARGE (HALLPLAN_REFUSED + 12)
+#define BAD_MARK (HALLPLAN_REFUSED + 13)
+#define CHOICE 273
 #define GREATEST_MEASURE 4095
 
 struct bytes {
@@ -120,13 +122,14 @@ static void put_walkway(struct bytes *b)
     put(b, below(12) == 0 ? 0 : below(3) ? 1 + below(3) : 1 + below(255));
 }
 
-/* A sheet that mostly reads, now and then one of the longest: the number of its pieces, and whether a measure is above the greatest. */
-static unsigned make_sheet(struct bytes *sheet, int *above)
+/* A sheet that mostly reads, now and then one of the longest: the number of its pieces, whether a measure is above the greatest, and where the map of
+ * each piece stands. */
+static unsigned make_sheet(struct bytes *sheet, int *above, size_t *maps_at)
 {
     static const unsigned maps[] = {0x0F, 0x1F, 0x2F, 0x3F, 0x5F, 0x7F, 0x8F, 0x9F, 0xDF};
     int full = below(64) == 0;
     unsigned map = full ? 0xFF : below(8) ? maps[below(9)] : below(256), pieces = map >> 3 & 1 ? full ? 10 : 1 + below(10) : 0;
-    unsigned bound = 1 + below(6), orders = 0;
+    unsigned bound = 1 + below(6), orders = 0, turning = below(3);
     sheet->len = 0;
     put(sheet, map);
     *above = put_size(sheet, map, 3 * bound);
@@ -135,6 +138,8 @@ static unsigned make_sheet(struct bytes *sheet, int *above)
     }
     for (unsigned u = 0; u < pieces; u++) {
         unsigned bits = full ? 7 : below(8);
+        bits |= turning && below(turning) == 0 ? 8 : 0;
+        maps_at[u] = sheet->len;
         put(sheet, bits);
         *above |= put_size(sheet, bits, bound);
     }
@@ -179,7 +184,7 @@ static void damage(struct bytes *b)
     }
 }
 
-/* A note by chance: the opening one, a row of turns, any bytes. */
+/* A note by chance: the opening one, a row of turns, any bytes; often with a choice. */
 static void make_note(struct bytes *note)
 {
     memset(note->at, 0, ROOM);
@@ -199,17 +204,24 @@ static void make_note(struct bytes *note)
             note->at[3 + i] = (uint8_t)below(2);
         }
     }
+    if (note->len == HALLPLAN_NOTE_BYTES && below(2)) {
+        unsigned choice = below(1u << below(12));
+        note->at[CHOICE] = (uint8_t)(choice % 256);
+        note->at[CHOICE + 1] = (uint8_t)(choice / 256);
+    }
 }
 
-/* A plan with starts below a bound, mostly of the length that the sheet asks for. */
+/* A plan with starts below a bound, mostly of the length that the sheet asks for, and mostly with marks of 0 and 1. */
 static void make_plan(struct bytes *plan, unsigned pieces)
 {
-    make_random(plan, 70);
+    make_random(plan, 80);
     if (below(8)) {
-        unsigned bound = 1 + below(10);
+        unsigned bound = 1 + below(10), marks = below(3);
         plan->len = HALLPLAN_PIECE_BYTES * pieces;
         for (size_t i = 0; i < plan->len; i++) {
-            plan->at[i] = (uint8_t)(i % 2 && below(30) ? 0 : below(bound));
+            size_t place = i % HALLPLAN_PIECE_BYTES;
+            unsigned start = place % 2 && below(30) ? 0 : below(bound), mark = below(30) ? below(2) : below(256);
+            plan->at[i] = (uint8_t)(place < 6 ? start : marks ? mark * (below(marks) == 0) : 0);
         }
     }
 }
@@ -260,7 +272,8 @@ static uint32_t check(const struct bytes *sheet, const struct bytes *plan)
 {
     uint32_t answer = check_on(sheet, plan, 0);
     must(answer == check_on(sheet, plan, GUARD_BYTES), "check answers twice");
-    must(answer <= HALLPLAN_YES || (answer > HALLPLAN_REFUSED && answer <= HALLPLAN_REFUSED + 8) || is_new(answer), "an answer of check");
+    int numbered = (answer > HALLPLAN_REFUSED && answer <= HALLPLAN_REFUSED + 8) || is_new(answer) || answer == BAD_MARK;
+    must(answer <= HALLPLAN_YES || numbered, "an answer of check");
     checks[answer < 2 ? answer : 2 + answer - HALLPLAN_REFUSED]++;
     return answer;
 }
@@ -446,7 +459,7 @@ static void without_walkway(const struct bytes *sheet, const struct bytes *plan,
     without.at[0] ^= 0x80;
     without.len--;
     uint32_t plain = check(&without, plan);
-    if (plain > HALLPLAN_REFUSED && plain != HALLPLAN_REFUSED + 8) {
+    if (plain > HALLPLAN_REFUSED && plain != HALLPLAN_REFUSED + 8 && plain != BAD_MARK) {
         must(checked == plain, "an earlier fault than the walkway's");
         return;
     }
@@ -463,12 +476,41 @@ static void without_walkway(const struct bytes *sheet, const struct bytes *plan,
     }
 }
 
+/* The sheet, which is whole, as check answered it: 13 exactly where a mark of a plan of the right length may not stand. And beside the same sheet with no
+ * piece that may turn: it is refused by the same number, a plan without marks fits it as it fits the other, one with a mark gets 13, and where the
+ * sheet has none in a few steps the other has no plan in as many. */
+static void without_turning(const struct bytes *sheet, unsigned pieces, const size_t *maps_at, const struct bytes *plan, uint32_t checked)
+{
+    struct bytes upright = *sheet;
+    int bad = 0, marked = 0;
+    for (unsigned u = 0; u < pieces; u++) {
+        unsigned mark = plan->len == HALLPLAN_PIECE_BYTES * (size_t)pieces ? plan->at[HALLPLAN_PIECE_BYTES * u + 6] : 0;
+        bad |= mark > 1 || (mark == 1 && !(sheet->at[maps_at[u]] & 8));
+        marked |= mark > 0;
+        upright.at[maps_at[u]] &= 0xF7;
+    }
+    uint32_t plain = check(&upright, plan);
+    if (checked > HALLPLAN_REFUSED && checked != BAD_MARK) {
+        must(plain == checked, "a refusal of the sheet without turning");
+        return;
+    }
+    must((checked == BAD_MARK) == bad, "13 exactly where a mark may not stand");
+    must((plain == BAD_MARK) == marked, "13 where no piece may turn");
+    must(marked || plain == checked, "a plan without marks");
+    uint8_t note[HALLPLAN_NOTE_BYTES] = {0}, again[HALLPLAN_NOTE_BYTES] = {0}, steps[HALLPLAN_STEP_BYTES], found[HALLPLAN_MAX_PLAN_BYTES];
+    uint32_t with = hallplan_search(sheet->at, sheet->len, note, sizeof note, 50, steps, sizeof steps, found, plan->len);
+    uint32_t without = hallplan_search(upright.at, upright.len, again, sizeof again, 50, steps, sizeof steps, found, plan->len);
+    must(!(with == HALLPLAN_NONE && without == HALLPLAN_PLACED), "placed only without turning");
+    must(!(without == HALLPLAN_PLACED && with != HALLPLAN_PLACED), "placed upright, and not at once");
+}
+
 static void one_case(void)
 {
     static struct bytes sheet;
     static struct lent lent;
+    size_t maps_at[HALLPLAN_MAX_PIECES];
     int above, whole = 1;
-    unsigned pieces = make_sheet(&sheet, &above);
+    unsigned pieces = make_sheet(&sheet, &above, maps_at);
     switch (below(16)) {
     case 0:
     case 1:
@@ -483,6 +525,9 @@ static void one_case(void)
     /* orders without pieces are left out of the bytes, so that a walkway would be read as their count */
     if (whole && sheet.at[0] >> 7 && (sheet.at[0] >> 3 & 3) != 2) {
         without_walkway(&sheet, &lent.plan, checked);
+    }
+    if (whole) {
+        without_turning(&sheet, pieces, maps_at, &lent.plan, checked);
     }
     count_pieces(&sheet, &lent.plan, checked);
     make_note(&lent.note);

@@ -3,12 +3,12 @@ earliest finishes.
 
     python3 tests/make_vectors.py            writes both files
     python3 tests/make_vectors.py --check    says whether they are what it would write
-    python3 tests/make_vectors.py --before STDIN STDOUT    says whether the cases of the pair of files from before request #105 are among
-                                             those that it would write, in their sequence and with their lines; only a first map byte
-                                             with bit 7 may have another line
+    python3 tests/make_vectors.py --before STDIN STDOUT    says whether the cases of the pair of files from before request #106 are among
+                                             those that it would write, in their sequence and with their lines, the marks added; only
+                                             where an item's map byte with bit 3 got 2 may there be another line
 
 The expected lines come from tests/reference.py. The cases under "by hand" were worked out from document 01 and requests #101 and #103 to
-#105: their lines stand here, and the reference has to agree with them.
+#106: their lines stand here, and the reference has to agree with them.
 
 A case is an op byte, the payload's length in 2 bytes, and the payload; numbers have the low byte first.
 
@@ -16,19 +16,21 @@ A case is an op byte, the payload's length in 2 bytes, and the payload; numbers 
     1 read        a sheet                                      read .. or refused NUMBER PLACE
     2 write       instance, room (2), fill (1)                 written LENGTH HEX or refused NUMBER PLACE HEX
     3 record      k (8), a sheet                               record NUMBER PLACE [HEX]
-    4 check       instance, positions                          feasible, not feasible or refused ..
-    5 clearance   instance, positions, u (8), v (8), axis (1)  clearance N or refused ..
+    4 check       instance, packing                            feasible, not feasible or refused ..
+    5 clearance   instance, packing, u (8), v (8), axis (1)    clearance N or refused ..
     6 rewrite     a sheet, read and then written               rewritten LENGTH HEX or refused ..
     7 valid       instance                                     valid, not valid
     8 run         a sheet                                      what the program prints, and an empty line
-    9 finish      instance, allowance (4)                      finish ANSWER LENGTH STEPS and ten positions, or refused ..
+    9 finish      instance, allowance (4)                      finish ANSWER LENGTH STEPS and the packing, or refused ..
 
-An instance is 355 bytes: container (6), item count (8), ten items (6 each), precedence count (8), ninety
-precedences (3 each: u, v, lag), yard number (2), walkway (1). Positions are ten times x, y, t, 2 bytes each.
-A line `read` is WIDTH DEPTH SHIFTS items N and their measures, precedences M and for each U V, and `lag L` where L is above 0, yard
-NUMBER, `walkway W` where W is above 0, rest zero or not zero: whether anything past the counts is other than 0.
+An instance is 365 bytes: container (6), item count (8), ten items (6 each), precedence count (8), ninety
+precedences (3 each: u, v, lag), yard number (2), walkway (1), and for each of the ten items a byte: other than 0 where it may turn.
+A packing is 70 bytes: ten times x, y, t, 2 bytes each, then ten marks.
+A line `read` is WIDTH DEPTH SHIFTS items N and for each its measures, and `turn` where it may turn, precedences M and for each U V, and
+`lag L` where L is above 0, yard NUMBER, `walkway W` where W is above 0, rest zero or not zero: whether anything past the counts is other
+than 0, or may turn.
 A write gets a room of that many bytes, all of them fill; its HEX is the room and the 4 fill bytes after it.
-The ANSWER of a finish is 0 spent, 1 placed, 2 none; its positions are x, y, t, ten times.
+The ANSWER of a finish is 0 spent, 1 placed, 2 none; its packing is x, y, t, mark, ten times.
 """
 
 import os
@@ -40,7 +42,7 @@ READ, WRITE, RECORD, CHECK, CLEARANCE, REWRITE, VALID, RUN, FINISH = range(1, 10
 KINDS = ["", "read", "write", "record", "check", "clearance", "rewrite", "valid", "run", "finish"]
 GUARD = 4
 MOST_ROOM = 400
-MOST_STDIN = 1572864
+MOST_STDIN = 2097152
 MOST_PAYLOAD = 16384
 GREATEST = 2 ** 32 - 1
 ANSWERS = ["spent", "placed", "none"]
@@ -57,12 +59,13 @@ def order(entries):
     return (list(entries) + [0])[:3]
 
 
-def instance(container, items=(), precedences=(), yard=0, walkway=0):
-    """The instance with these entries, and 0 past them. A precedence is u, v or u, v, lag."""
+def instance(container, items=(), precedences=(), yard=0, walkway=0, turn=()):
+    """The instance with these entries, and 0 past them. A precedence is u, v or u, v, lag; `turn` has the items that may turn."""
     return {
         "container": list(container),
         "item_count": len(items),
         "items": [list(items[i]) if i < len(items) else [0, 0, 0] for i in range(10)],
+        "may_turn": [int(i in turn) for i in range(10)],
         "precedence_count": len(precedences),
         "precedences": [order(precedences[i] if i < len(precedences) else [0, 0]) for i in range(90)],
         "yard_number": yard,
@@ -75,6 +78,7 @@ def copied(value):
         "container": list(value["container"]),
         "item_count": value["item_count"],
         "items": [list(item) for item in value["items"]],
+        "may_turn": list(value["may_turn"]),
         "precedence_count": value["precedence_count"],
         "precedences": [list(precedence) for precedence in value["precedences"]],
         "yard_number": value["yard_number"],
@@ -82,9 +86,14 @@ def copied(value):
     }
 
 
+def marked(entries):
+    """x, y, t and the mark, which may be left out."""
+    return (list(entries) + [0])[:4]
+
+
 def packing(*starts):
-    """The packing with these positions, and 0 past them."""
-    return [list(starts[i]) if i < len(starts) else [0, 0, 0] for i in range(10)]
+    """The packing with these entries, and 0 past them. An entry is x, y, t or x, y, t, mark."""
+    return [marked(starts[i] if i < len(starts) else [0, 0, 0]) for i in range(10)]
 
 
 def little(number, size):
@@ -98,13 +107,15 @@ def instance_bytes(value):
     out += little(value["precedence_count"], 8)
     for u, v, lag in value["precedences"]:
         out += bytes([u, v, lag])
-    out += little(value["yard_number"], 2) + little(value["walkway"], 1)
-    assert len(out) == 355
+    out += little(value["yard_number"], 2) + little(value["walkway"], 1) + bytes(value["may_turn"])
+    assert len(out) == 365
     return out
 
 
-def positions_bytes(positions):
-    return b"".join(little(start, 2) for position in positions for start in position)
+def packing_bytes(positions):
+    out = b"".join(little(start, 2) for x, y, t, _ in positions for start in (x, y, t)) + bytes(mark for _, _, _, mark in positions)
+    assert len(out) == 70
+    return out
 
 
 # Cases, with the lines that the reference expects
@@ -125,13 +136,13 @@ def read_line(sheet):
     n = value["item_count"]
     m = value["precedence_count"]
     words = ["read"] + value["container"] + ["items", n]
-    for item in value["items"][:n]:
-        words += item
+    for item, may_turn in zip(value["items"][:n], value["may_turn"]):
+        words += item + (["turn"] if may_turn else [])
     words += ["precedences", m]
     for u, v, lag in value["precedences"][:m]:
         words += [u, v] + (["lag", lag] if lag > 0 else [])
     words += ["yard", value["yard_number"]] + (["walkway", value["walkway"]] if value["walkway"] > 0 else [])
-    rest = [entry for entries in value["items"][n:] + value["precedences"][m:] for entry in entries]
+    rest = [entry for entries in value["items"][n:] + value["precedences"][m:] + [value["may_turn"][n:]] for entry in entries]
     words += ["rest", "not zero" if any(rest) else "zero"]
     return " ".join(str(word) for word in words)
 
@@ -205,11 +216,11 @@ def add_record(sheet, k, expected=None):
 
 
 def add_check(value, positions, expected=None):
-    add(CHECK, instance_bytes(value) + positions_bytes(positions), check_line(value, positions), expected)
+    add(CHECK, instance_bytes(value) + packing_bytes(positions), check_line(value, positions), expected)
 
 
 def add_clearance(value, positions, u, v, axis, expected=None):
-    payload = instance_bytes(value) + positions_bytes(positions) + little(u, 8) + little(v, 8) + bytes([axis])
+    payload = instance_bytes(value) + packing_bytes(positions) + little(u, 8) + little(v, 8) + bytes([axis])
     add(CLEARANCE, payload, clearance_line(value, positions, u, v, axis), expected)
 
 
@@ -294,10 +305,10 @@ READ_BY_HAND = [
     ("08 02 00", "refused 1 3"),
     ("08 02 00 00", "read 1 1 1 items 2 1 1 1 1 1 1 precedences 0 yard 0 rest zero"),
     ("08 0A 00 00 00 00 00 00 00 00 00 00", "read 1 1 1 items 10" + " 1" * 30 + " precedences 0 yard 0 rest zero"),
-    ("08 01 08", "refused 2 2"),
+    ("08 01 08", "read 1 1 1 items 1 1 1 1 turn precedences 0 yard 0 rest zero"),
     ("08 01 80", "refused 2 2"),
-    ("08 01 0F", "refused 2 2"),
-    ("08 02 08", "refused 2 2"),
+    ("08 01 0F", "refused 1 3"),
+    ("08 02 08", "refused 1 3"),
     ("08 02 00 10", "refused 2 3"),
     ("08 02 01 09 00 20", "refused 2 5"),
     ("08 01 01", "refused 1 3"),
@@ -389,7 +400,8 @@ def hand_read():
     add_read(LONGEST[:-4] + b"\x09\x09\xff\xff", "refused 5 257")
     add_read(LONGEST[:-4] + b"\x09\x07\xff\xff", "refused 6 257")
     add_read(LONGEST[:-4] + b"\x08\x09\xff\xff", "refused 6 257")
-    add_read(LONGEST[:71] + b"\x08" + LONGEST[72:], "refused 2 71")
+    # a map byte of 8 has no fields: the count of the orders is due in place of the first
+    add_read(LONGEST[:71] + b"\x08" + LONGEST[72:], "refused 4 72")
     add_read(LONGEST[:76] + b"\x01\x00" + LONGEST[78:], "refused 3 76")
     add_read(LONGEST[:78] + b"\x5b" + LONGEST[79:], "refused 4 78")
     # long slices
@@ -543,7 +555,7 @@ def hand_record():
     add_record(LONGEST[:-1], 0, "record 1 260")
     add_record(LONGEST[:-1], largest, "record 1 260")
     add_record(bytes.fromhex("40"), 0, "record 11 1")
-    add_record(bytes.fromhex("080108"), 0, "record 2 2")
+    add_record(bytes.fromhex("080108"), 0, "record 0 0 08")
     add_record(bytes.fromhex("08020080"), 0, "record 2 3")
     add_record(bytes.fromhex("010100"), 5, "record 3 1")
     add_record(bytes.fromhex("0802000101 00"), 0, "record 3 4")
@@ -577,9 +589,9 @@ def hand_check():
     add_check(instance([1, 1, 1], [[1, 1, 2]]), packing(), "not feasible")
     # positions past the count are ignored
     ignored = packing([1, 2, 3])
-    ignored[1:] = [[65535, 65535, 65535] for _ in range(9)]
+    ignored[1:] = [[65535, 65535, 65535, 0] for _ in range(9)]
     add_check(one, ignored, "feasible")
-    ignored[1:] = [[1, 2, 3] for _ in range(9)]
+    ignored[1:] = [[1, 2, 3, 0] for _ in range(9)]
     add_check(one, ignored, "feasible")
     # touching, a gap, and an overlap by one, on each axis
     cube = [2, 2, 2]
@@ -710,7 +722,7 @@ LAGS_BY_HAND = [
     ("41 02 00 07", "refused 11 3"),
     ("48", "refused 1 1"),
     ("48 01", "refused 1 2"),
-    ("48 01 08", "refused 2 2"),
+    ("48 01 08", "refused 11 3"),
     ("48 01 00", "refused 11 3"),
     ("48 01 00 01", "refused 11 3"),
     ("60", "refused 1 1"),
@@ -904,13 +916,13 @@ def hand_lags_run():
     units = [[1, 1, 1]] * 3
 
     def row(container, items, precedences, first, *starts):
-        text = first + "\n" + "".join("%d %d %d %d\n" % (piece, *start) for piece, start in enumerate(starts))
+        text = first + "\n" + "".join("%d %d %d %d %d\n" % (piece, *marked(start)) for piece, start in enumerate(starts))
         add_run(reference.encode(instance(container, items, precedences)), text)
 
     add_run(bytes.fromhex("40"), "refused 11 1\n")
     add_run(bytes.fromhex("58 02 00 00 01 00 01 00"), "refused 11 7\n")
     add_run(LONGEST_WITH_LAGS, "none 1\n")
-    add_run(EXAMPLE, "placed 1\n0 0 0 1\n1 0 0 0\n")
+    add_run(EXAMPLE, "placed 1\n0 0 0 1 0\n1 0 0 0 0\n")
     # compare/src/table.rs says how these were worked out
     direct = [(0, 1, 1), (0, 2, 5), (1, 2, 0)]
     row([1, 1, 7], units, direct, "placed 1", [0, 0, 0], [0, 0, 2], [0, 0, 6])
@@ -945,12 +957,12 @@ def hand_finish():
     def spent(value, budgets):
         """Each allowance with the length that it shows: all of it is taken."""
         for allowance, length in budgets:
-            add_finish(value, allowance, "finish 0 %d %d" % (length, allowance) + " 0" * 30)
+            add_finish(value, allowance, "finish 0 %d %d" % (length, allowance) + " 0" * 40)
 
     def decided(value, answer, length, steps, *starts):
         """From so many steps on, and not one earlier; all shorter lengths have their steps before."""
         line = "finish %d %d %d" % (answer, length, steps)
-        line += "".join(" %d %d %d" % tuple(start) for start in packing(*starts))
+        line += "".join(" %d %d %d %d" % tuple(start) for start in packing(*starts))
         for allowance in (steps, steps + 1, GREATEST):
             add_finish(value, allowance, line)
 
@@ -974,7 +986,7 @@ def hand_finish():
         decided(instance([1, 1, 3], [piece]), 2, 0, 3)
     # all lengths there are: the last step of the last one says none
     spent(instance([1, 1, 4095], [[2, 1, 1]]), [(4, 4)])
-    add_finish(instance([1, 1, 4095], [[2, 1, 1]]), 4095, "finish 2 0 4095" + " 0" * 30)
+    add_finish(instance([1, 1, 4095], [[2, 1, 1]]), 4095, "finish 2 0 4095" + " 0" * 40)
     # the printed example, with its shifts and more: none 1 and placed 1
     for shifts in (2, 3, 9):
         spent(instance([2, 1, shifts], example, [(1, 0)]), [(0, 0), (1, 1)])
@@ -1072,10 +1084,10 @@ LIMIT_BY_HAND = [
     # before a walkway that is missing; 2
     ("81 00 10", "refused 12 1"),
     ("09 00 10 01 08", "refused 12 1"),
-    ("09 FF 0F 01 08", "refused 2 4"),
-    ("08 01 09 00 10", "refused 2 2"),
+    ("09 FF 0F 01 08", "read 4095 1 1 items 1 1 1 1 turn precedences 0 yard 0 rest zero"),
+    ("08 01 09 00 10", "refused 12 3"),
     ("08 02 01 00 10 08", "refused 12 3"),
-    ("08 02 01 FF 0F 08", "refused 2 5"),
+    ("08 02 01 FF 0F 08", "read 1 1 1 items 2 4095 1 1 1 1 1 turn precedences 0 yard 0 rest zero"),
     # 4
     ("09 00 10 00", "refused 12 1"),
     ("09 00 10 0B", "refused 12 1"),
@@ -1196,7 +1208,7 @@ def hand_limit_values():
     add_clearance(past, starts, 0, 1, 2, "clearance 0")
     add_clearance(past, starts, 0, 3, 2, "refused 5 0")
     add_clearance(past, starts, 1, 2, 3, "refused 8 0")
-    add_finish(past, 0, "finish 0 0 0" + " 0" * 30)
+    add_finish(past, 0, "finish 0 0 0" + " 0" * 40)
     one_more = changed(past, "item_count", None, 4)
     add_valid(one_more, "not valid")
     add_write(one_more, 300, "refused 9 0 " + filled(300))
@@ -1207,7 +1219,7 @@ def hand_limit_values():
     add_valid(none, "valid")
     add_write(none, 7, "written 7 07ff0fff0fff0f" + filled(0))
     add_check(none, packing([65535] * 3), "feasible")
-    add_finish(none, 1, "finish 1 1 1" + " 0" * 30)
+    add_finish(none, 1, "finish 1 1 1" + " 0" * 40)
     # a yard number and lags are no measures
     other = instance([4095] * 3, [[4095] * 3] * 2, [(0, 1, 255)], 4096)
     add_valid(other, "valid")
@@ -1244,7 +1256,7 @@ def hand_limit_check():
 
 def hand_limit_run():
     def row(container, items, precedences, first, *starts):
-        text = first + "\n" + "".join("%d %d %d %d\n" % (piece, *start) for piece, start in enumerate(starts))
+        text = first + "\n" + "".join("%d %d %d %d %d\n" % (piece, *marked(start)) for piece, start in enumerate(starts))
         add_run(reference.encode(instance(container, items, precedences)), text)
 
     chain = [(piece, piece + 1) for piece in range(9)]
@@ -1277,10 +1289,10 @@ def hand_limit_finish():
     def row(value, answer, length, steps, *starts):
         """The answer, with exactly the steps that it takes."""
         line = "finish %d %d %d" % (answer, length, steps)
-        add_finish(value, steps, line + "".join(" %d %d %d" % tuple(start) for start in packing(*starts)))
+        add_finish(value, steps, line + "".join(" %d %d %d %d" % tuple(start) for start in packing(*starts)))
 
     def spent(value, allowance, length):
-        add_finish(value, allowance, "finish 0 %d %d" % (length, allowance) + " 0" * 30)
+        add_finish(value, allowance, "finish 0 %d %d" % (length, allowance) + " 0" * 40)
 
     # each length below takes the step that says none
     longest = instance([1, 1, 4095], [[1, 1, 4095]])
@@ -1352,7 +1364,7 @@ WALKWAY_BY_HAND = [
     ("88 01 00 01 00", "refused 7 4"),
     ("88 01 80 01", "refused 2 2"),
     ("88 01 88 01", "refused 2 2"),
-    ("88 01 08 00", "refused 2 2"),
+    ("88 01 08 00", "refused 3 3"),
     ("88 02 00 80 01", "refused 2 3"),
     ("08 01 80", "refused 2 2"),
     ("08 01 80 05", "refused 2 2"),
@@ -1675,7 +1687,7 @@ def hand_walkway_run():
     units = [[1, 1, 1]] * 10
 
     def row(walkway, container, items, precedences, first, *starts):
-        text = first + "\n" + "".join("%d %d %d %d\n" % (piece, *start) for piece, start in enumerate(starts))
+        text = first + "\n" + "".join("%d %d %d %d %d\n" % (piece, *marked(start)) for piece, start in enumerate(starts))
         add_run(reference.encode(instance(container, items, precedences, walkway=walkway)), text)
 
     for sheet, line in (
@@ -1689,7 +1701,7 @@ def hand_walkway_run():
         ("9D 02 00 02 00 02 01 02 00 00 01 01 00 00", "refused 3 13"),
     ):
         add_run(bytes.fromhex(sheet), line + "\n")
-    add_run(bytes.fromhex("9D 02 00 02 00 02 01 02 00 00 01 01 00 FF"), "placed 1\n0 0 0 1\n1 0 0 0\n")
+    add_run(bytes.fromhex("9D 02 00 02 00 02 01 02 00 00 01 01 00 FF"), "placed 1\n0 0 0 1 0\n1 0 0 0 0\n")
     add_run(LONGEST_WITH_WALKWAY, "none 1\n")
     # compare/src/table.rs says how these were worked out
     four = [[4, 1, 1]] * 2
@@ -1744,11 +1756,11 @@ def hand_walkway_finish():
 
     def spent(value, budgets):
         for allowance, length in budgets:
-            add_finish(value, allowance, "finish 0 %d %d" % (length, allowance) + " 0" * 30)
+            add_finish(value, allowance, "finish 0 %d %d" % (length, allowance) + " 0" * 40)
 
     def decided(value, answer, length, steps, *starts):
         line = "finish %d %d %d" % (answer, length, steps)
-        line += "".join(" %d %d %d" % tuple(start) for start in packing(*starts))
+        line += "".join(" %d %d %d %d" % tuple(start) for start in packing(*starts))
         for allowance in (steps, GREATEST):
             add_finish(value, allowance, line)
 
@@ -1785,6 +1797,486 @@ def hand_walkway_finish():
     past["items"][2:] = [[0, 7, 65535] for _ in range(8)]
     past["precedences"] = [[0, 1, 255] for _ in range(90)]
     decided(past, 1, 4, 5, [0, 0, 0], [0, 0, 2])
+
+
+# By hand: pieces that may be turned (request #106)
+
+ONE_TURN = ONE_ITEM + " %s turn" + NO_ORDERS
+# The longest sheet with bit 3 in every item's map, and the sheet of all fields with it in both
+LONGEST_WITH_TURNS = bytes(byte | 8 if 8 <= at < 78 and at % 7 == 1 else byte for at, byte in enumerate(LONGEST_WITH_WALKWAY))
+FULL_WITH_TURNS = {**FULL_WITH_WALKWAY, "may_turn": [1] * 10}
+ALL_FIELDS_AND_TURNS = bytes.fromhex("FF 0300 0400 0500 02 09 0200 0C 0300 01 0001 0302 06 07")
+
+TURN_BY_HAND = [
+    # bit 3 has no field: alone, and with each of the others
+    ("08 01 08", ONE_TURN % "1 1 1"),
+    ("08 01 09 02 00", ONE_TURN % "2 1 1"),
+    ("08 01 0A 02 00", ONE_TURN % "1 2 1"),
+    ("08 01 0B 02 00 03 00", ONE_TURN % "2 3 1"),
+    ("08 01 0C 02 00", ONE_TURN % "1 1 2"),
+    ("08 01 0D 02 00 03 00", ONE_TURN % "2 1 3"),
+    ("08 01 0E 02 00 03 00", ONE_TURN % "1 2 3"),
+    ("08 01 0F 02 00 03 00 04 00", ONE_TURN % "2 3 4"),
+    ("08 01 07 02 00 03 00 04 00", ONE_ITEM + " 2 3 4" + NO_ORDERS),
+    # so what follows is after the last field, or another item
+    ("08 01 08 00", "refused 7 3"),
+    ("08 01 08 01", "refused 7 3"),
+    ("08 01 08 08", "refused 7 3"),
+    ("08 01 09 02 00 00", "refused 7 5"),
+    ("08 02 08 00", "read 1 1 1 items 2 1 1 1 turn 1 1 1" + NO_ORDERS),
+    ("08 02 00 08", "read 1 1 1 items 2 1 1 1 1 1 1 turn" + NO_ORDERS),
+    ("08 02 08 08", "read 1 1 1 items 2 1 1 1 turn 1 1 1 turn" + NO_ORDERS),
+    ("08 02 08 09 02 00", "read 1 1 1 items 2 1 1 1 turn 2 1 1 turn" + NO_ORDERS),
+    ("08 02 09 02 00 08", "read 1 1 1 items 2 2 1 1 turn 1 1 1 turn" + NO_ORDERS),
+    ("08 03 01 05 00 0A 06 00 04 07 00", "read 1 1 1 items 3 5 1 1 1 6 1 turn 1 1 7" + NO_ORDERS),
+    ("08 0A" + " 08" * 10, "read 1 1 1 items 10" + " 1 1 1 turn" * 10 + NO_ORDERS),
+    ("08 0A" + " 08" * 9, "refused 1 11"),
+    ("08 0A" + " 08" * 11, "refused 7 12"),
+    # cut short
+    ("08 02 08", "refused 1 3"),
+    ("08 01 09", "refused 1 3"),
+    ("08 01 09 02", "refused 1 4"),
+    ("08 01 0A", "refused 1 3"),
+    ("08 01 0C 05", "refused 1 4"),
+    ("08 01 0B 02 00", "refused 1 5"),
+    ("08 01 0F 02 00 03 00", "refused 1 7"),
+    ("08 01 0F 02 00 03 00 04", "refused 1 8"),
+    # 3 and 12 in the fields beside it
+    ("08 01 09 00 00", "refused 3 3"),
+    ("08 01 09 01 00", "refused 3 3"),
+    ("08 01 0C 01 00", "refused 3 3"),
+    ("08 01 0F 02 00 03 00 01 00", "refused 3 7"),
+    ("08 01 0A 00 10", "refused 12 3"),
+    ("08 01 0F 02 00 00 10 01 00", "refused 12 5"),
+    ("08 02 08 0A 00 10", "refused 12 4"),
+    # bits 4 to 7 have no meaning, beside bit 3 and without, before anything that follows
+    ("08 01 10", "refused 2 2"),
+    ("08 01 20", "refused 2 2"),
+    ("08 01 40", "refused 2 2"),
+    ("08 01 80", "refused 2 2"),
+    ("08 01 18", "refused 2 2"),
+    ("08 01 28", "refused 2 2"),
+    ("08 01 48", "refused 2 2"),
+    ("08 01 88", "refused 2 2"),
+    ("08 01 F0", "refused 2 2"),
+    ("08 01 F8", "refused 2 2"),
+    ("08 01 FF", "refused 2 2"),
+    ("08 01 17", "refused 2 2"),
+    ("08 01 1F 02 00 03 00 04 00", "refused 2 2"),
+    ("08 01 19 00 00", "refused 2 2"),
+    ("08 02 10 08", "refused 2 2"),
+    ("08 02 08 10", "refused 2 3"),
+    ("08 02 08 18", "refused 2 3"),
+    ("08 02 09 02 00 88", "refused 2 5"),
+    ("08 02 09 01 00 88", "refused 3 3"),
+    ("09 01 00 01 18", "refused 3 1"),
+    ("88 01 18 00", "refused 2 2"),
+    # what comes after the items
+    ("18 01 08", "refused 1 3"),
+    ("18 01 08 00", "refused 4 3"),
+    ("18 02 08 00 01 01 01", "refused 5 5"),
+    ("18 02 08 08 01 00 01", "read 1 1 1 items 2 1 1 1 turn 1 1 1 turn precedences 1 0 1 yard 0 rest zero"),
+    ("28 01 08 00 00", "refused 3 3"),
+    ("28 01 08 05 00", "read 1 1 1 items 1 1 1 1 turn precedences 0 yard 5 rest zero"),
+    ("48 01 08 08", "refused 11 3"),
+    ("88 01 08", "refused 1 3"),
+    ("88 01 08 05", "read 1 1 1 items 1 1 1 1 turn precedences 0 yard 0 walkway 5 rest zero"),
+    ("58 02 00 08 01 00 01 03", "read 1 1 1 items 2 1 1 1 1 1 1 turn precedences 1 0 1 lag 3 yard 0 rest zero"),
+]
+
+
+def hand_turn_read():
+    for sheet, line in TURN_BY_HAND:
+        add_read(bytes.fromhex(sheet), line)
+    # all fields: whole, and cut at every length
+    sheet = ALL_FIELDS_AND_TURNS
+    add_read(sheet, "read 3 4 5 items 2 2 1 1 turn 1 1 3 turn precedences 1 0 1 lag 6 yard 515 walkway 7 rest zero")
+    add_rewrite(sheet, "rewritten %d %s" % (len(sheet), sheet.hex()))
+    for length in range(len(sheet)):
+        add_read(sheet[:length], "refused 1 %d" % length)
+    add_read(sheet + b"\7", "refused 7 %d" % len(sheet))
+    add_record(sheet, 0, "record 0 0 090200")
+    add_record(sheet, 1, "record 0 0 0c0300")
+    add_record(sheet, 2, "record 5 0")
+    # the longest sheet is as long as it was; item k's map is at 8 + 7 k
+    sheet = LONGEST_WITH_TURNS
+    assert len(sheet) == 352 and sheet[8] == sheet[71] == 15
+    pairs = "".join(" %d %d lag %d" % (u, v, lag) for lag, (u, v) in enumerate(ALL_PAIRS, 1))
+    items = " 4095 4095 4095 turn" * 10
+    add_read(sheet, "read 4095 4095 4095 items 10" + items + " precedences 90" + pairs + " yard 65535 walkway 255 rest zero")
+    add_rewrite(sheet, "rewritten 352 " + sheet.hex())
+    add_read(sheet + b"\0", "refused 7 352")
+    add_read(sheet[:-1], "refused 1 351")
+    for k, bits in ((0, 0x10), (1, 0x20), (4, 0x40), (8, 0x80), (9, 0xF0)):
+        at = 8 + 7 * k
+        add_read(sheet[:at] + bytes([sheet[at] | bits]) + sheet[at + 1 :], "refused 2 %d" % at)
+    for k in (0, 5, 9):
+        add_record(sheet, k, "record 0 0 0fff0fff0fff0f")
+    add_record(sheet, 10, "record 5 0")
+    # records, and writing again
+    add_record(bytes.fromhex("080208 0A0500"), 0, "record 0 0 08")
+    add_record(bytes.fromhex("080208 0A0500"), 1, "record 0 0 0a0500")
+    add_record(bytes.fromhex("080208 0A0500"), 2, "record 5 0")
+    add_record(bytes.fromhex("080208 1A0500"), 0, "record 2 3")
+    add_record(bytes.fromhex("080210 08"), 1, "record 2 2")
+    add_record(bytes.fromhex("080208 0A05"), 0, "record 1 5")
+    for text in ("080108", "0801090200", "08010f020003000400", "08020008", "1d0200020002090200080101" + "00", "88010805"):
+        add_rewrite(bytes.fromhex(text), "rewritten %d %s" % (len(text) // 2, text))
+    for sheet, line in (("08 01 18", "refused 2 2"), ("08 01 80", "refused 2 2"), ("08 02 08", "refused 1 3")):
+        add_rewrite(bytes.fromhex(sheet), line)
+
+
+def hand_turn_write():
+    def row(value, text, *rooms):
+        length = len(text) // 2
+        add_write(value, length, "written %d " % length + text + filled(0))
+        add_write(value, length - 1, "refused 8 0 " + filled(length - 1))
+        for more in rooms:
+            add_write(value, length + more, "written %d " % length + text + filled(more))
+
+    one = [1, 1, 1]
+    row(instance(one, [one], turn=[0]), "080108", 1, 9)
+    row(instance(one, [[2, 1, 1]], turn=[0]), "0801090200")
+    row(instance(one, [[1, 2, 1]], turn=[0]), "08010a0200")
+    row(instance(one, [[1, 1, 2]], turn=[0]), "08010c0200")
+    row(instance(one, [[2, 3, 4]], turn=[0]), "08010f020003000400")
+    row(instance(one, [one] * 3, turn=[0]), "0803080000")
+    row(instance(one, [one] * 3, turn=[1]), "0803000800")
+    row(instance(one, [one] * 3, turn=[2]), "0803000008")
+    row(instance(one, [one] * 3, turn=[0, 2]), "0803080008")
+    row(instance([2, 1, 2], [[2, 1, 1], one], [(1, 0)], turn=[0, 1]), "1d020002000209020008010100", 3)
+    row(FULL_WITH_TURNS, LONGEST_WITH_TURNS.hex(), 48)
+    add_valid(FULL_WITH_TURNS, "valid")
+    add_valid(instance(one, [one], turn=[0]), "valid")
+    # any byte other than 0 says that it may turn
+    for byte in (2, 8, 128, 255):
+        add_write({**instance(one, [one]), "may_turn": [byte] + [0] * 9}, 3, "written 3 080108" + filled(0))
+    # past the count it is no part of the value
+    add_write(instance(one, turn=range(10)), 1, "written 1 00" + filled(0))
+    add_write(instance(one, [one], turn=range(1, 10)), 3, "written 3 080100" + filled(0))
+    add_write(instance(one, [one], turn=range(10)), 3, "written 3 080108" + filled(0))
+    add_write(instance(one, [one] * 9, turn=[9]), 11, "written 11 0809" + "00" * 9 + filled(0))
+    add_write(instance(one, [one] * 10, turn=[9]), 12, "written 12 080a" + "00" * 9 + "08" + filled(0))
+    add_valid(instance(one, turn=range(10)), "valid")
+
+
+# What a mark may not be: on an item that may turn, and on one that may not
+BAD_MARKS = [(True, 2), (True, 3), (True, 128), (True, 255), (False, 1), (False, 2), (False, 255)]
+
+
+def hand_turn_check():
+    def row(container, items, turn, starts, line, precedences=(), walkway=0):
+        add_check(instance(container, items, precedences, walkway=walkway, turn=turn), packing(*starts), line)
+
+    # one piece: it fits as it is, turned, either way, or neither
+    for container, piece, as_it_is, as_turned in (
+        ([1, 2, 1], [2, 1, 1], False, True),
+        ([2, 1, 1], [2, 1, 1], True, False),
+        ([2, 2, 1], [2, 1, 1], True, True),
+        ([2, 2, 1], [2, 2, 1], True, True),
+        ([2, 2, 1], [3, 1, 1], False, False),
+        ([2, 2, 1], [1, 3, 1], False, False),
+        ([1, 4095, 1], [4095, 1, 1], False, True),
+        # shifts stay: 1 x 2 x 3 turned is 2 x 1 x 3
+        ([2, 1, 3], [1, 2, 3], False, True),
+        ([1, 2, 3], [1, 2, 3], True, False),
+        ([3, 2, 1], [1, 2, 3], False, False),
+        ([1, 3, 2], [1, 2, 3], False, False),
+        ([2, 3, 1], [1, 2, 3], False, False),
+    ):
+        for mark, fits in ((0, as_it_is), (1, as_turned)):
+            row(container, [piece], [0], [[0, 0, 0, mark]], "feasible" if fits else "not feasible")
+    # the last start in a hall of 5 x 5 x 5: x 4 and y 2 where 3 x 1 x 2 is turned, x 2 and y 4 where not; t 3 in both
+    for start, line in (
+        ([4, 2, 3, 1], "feasible"),
+        ([5, 2, 3, 1], "not feasible"),
+        ([4, 3, 3, 1], "not feasible"),
+        ([4, 2, 4, 1], "not feasible"),
+        ([2, 4, 3, 0], "feasible"),
+        ([3, 4, 3, 0], "not feasible"),
+        ([2, 4, 3, 1], "not feasible"),
+        ([4, 2, 3, 0], "not feasible"),
+        ([65535, 0, 0, 1], "not feasible"),
+        ([0, 65535, 0, 1], "not feasible"),
+    ):
+        row([5, 5, 5], [[3, 1, 2]], [0], [start], line)
+    # two of 3 x 2: the one that is turned takes 2 on x, the other 3
+    for turns, starts, line in (
+        ([0, 1], ([0, 0, 0, 1], [2, 0, 0, 0]), "feasible"),
+        ([0, 1], ([0, 0, 0, 0], [2, 0, 0, 1]), "not feasible"),
+        ([0, 1], ([0, 0, 0, 0], [3, 0, 0, 1]), "feasible"),
+        ([0, 1], ([0, 0, 0, 1], [3, 0, 0, 0]), "not feasible"),
+        ([0, 1], ([0, 0, 0, 1], [2, 0, 0, 1]), "feasible"),
+        ([0, 1], ([0, 0, 0, 1], [1, 0, 0, 1]), "not feasible"),
+        ([0, 1], ([2, 0, 0, 1], [0, 0, 0, 1]), "feasible"),
+        ([0, 1], ([0, 0, 0, 0], [2, 0, 0, 0]), "not feasible"),
+        ([0], ([0, 0, 0, 1], [2, 0, 0, 0]), "feasible"),
+        ([1], ([0, 0, 0, 0], [3, 0, 0, 1]), "feasible"),
+    ):
+        row([5, 3, 1], [[3, 2, 1]] * 2, turns, starts, line)
+    # on y: 3 where it is turned
+    for y, mark, line in ((3, 1, "feasible"), (2, 1, "not feasible"), (2, 0, "feasible"), (1, 0, "not feasible")):
+        row([3, 5, 1], [[3, 2, 1]] * 2, [0], ([0, 0, 0, mark], [0, y, 0, 0]), line)
+    # with a walkway of 2 after a turned 3 x 1: x 1 + 2, y 3 + 2
+    for x, y, line in ((3, 0, "feasible"), (2, 0, "not feasible"), (0, 5, "feasible"), (0, 4, "not feasible")):
+        row([9, 9, 9], [[3, 1, 1], [1, 1, 1]], [0], ([0, 0, 0, 1], [x, y, 0, 0]), line, walkway=2)
+    # orders and lags go by the shifts, which stay: 2 + 1
+    for t, line in ((3, "feasible"), (2, "not feasible")):
+        row([9, 9, 9], [[5, 1, 2], [1, 1, 1]], [0], ([0, 0, 0, 1], [0, 0, t, 0]), line, [(0, 1, 1)])
+        row([9, 9, 9], [[5, 1, 2], [1, 1, 1]], [0, 1], ([0, 0, 0, 1], [0, 0, t, 1]), line, [(0, 1, 1)])
+    # 13: on the first, a middle and the last of three pieces, whether they fit or not
+    three = [[1, 1, 1]] * 3
+    for may_turn, mark in BAD_MARKS:
+        for item in range(3):
+            starts = [[0, 0, 0, 0], [1, 0, 0, 0], [2, 0, 0, 0]]
+            starts[item][3] = mark
+            row([3, 1, 1], three, [item] if may_turn else [0, 1, 2][:item], starts, "refused 13 0")
+        row([1, 1, 1], [[2, 2, 2]], [0] if may_turn else [], [[9, 9, 9, mark]], "refused 13 0")
+    # ... and the last of ten; past the count a mark is ignored, and so is what may turn there
+    ten = [[i, 0, 0, 1] for i in range(10)]
+    row([10, 1, 1], [[1, 1, 1]] * 10, range(10), ten, "feasible")
+    row([10, 1, 1], [[1, 1, 1]] * 10, range(9), ten, "refused 13 0")
+    row([10, 1, 1], [[1, 1, 1]] * 9, range(9), ten, "feasible")
+    row([10, 1, 1], [[1, 1, 1]] * 9, range(8), ten, "refused 13 0")
+    for mark in (1, 2, 255):
+        ten = [[i, 0, 0, mark if i >= 4 else i % 2] for i in range(10)]
+        row([10, 1, 1], [[1, 1, 1]] * 4, range(10), ten, "feasible")
+        row([10, 1, 1], [[1, 1, 1]] * 4, [1, 3], ten, "feasible")
+        row([10, 1, 1], [[1, 1, 1]] * 4, [1, 9], ten, "refused 13 0")
+        row([1, 1, 1], [], [], [[9, 9, 9, mark]] * 10, "feasible")
+    # any byte other than 0 says that it may turn
+    for byte in (2, 255):
+        add_check({**instance([1, 2, 1], [[2, 1, 1]]), "may_turn": [byte] + [0] * 9}, packing([0, 0, 0, 1]), "feasible")
+    # 9 comes before 13
+    for number, value in enumerate(refused_values() + limit_values()):
+        if number % 8 == 0:
+            value = {**value, "may_turn": [1] * 10 if number % 16 == 0 else [0] * 10}
+            add_check(value, packing(*[[0, 0, 0, 2]] * 10), "refused 9 0")
+            add_clearance(value, packing(*[[0, 0, 0, 255]] * 10), 0, 1, 0, "refused 9 0")
+
+
+def hand_turn_clearance():
+    def row(turn, starts, u, v, lines):
+        """On x, y and t."""
+        value = instance([9, 9, 9], [[3, 5, 7], [2, 4, 6], [1, 1, 1]], turn=turn)
+        for axis, line in enumerate(lines):
+            add_clearance(value, packing(*starts), u, v, axis, "clearance %d" % line)
+
+    # 0 is 3 x 5 x 7 and ends there; 1 starts at 9; with marks 0 is 5 x 3 x 7, and the mark of the later one does not count
+    row([0, 1], ([0, 0, 0, 0], [9, 9, 9, 0]), 0, 1, (6, 4, 2))
+    row([0, 1], ([0, 0, 0, 1], [9, 9, 9, 0]), 0, 1, (4, 6, 2))
+    row([0, 1], ([0, 0, 0, 1], [9, 9, 9, 0]), 1, 0, (4, 6, 2))
+    row([0, 1], ([0, 0, 0, 0], [9, 9, 9, 1]), 0, 1, (6, 4, 2))
+    row([0, 1], ([0, 0, 0, 1], [9, 9, 9, 1]), 0, 1, (4, 6, 2))
+    row([0], ([0, 0, 0, 1], [9, 9, 9, 0]), 0, 1, (4, 6, 2))
+    # 1 is the earlier one: 2 x 4 x 6, turned 4 x 2 x 6
+    row([0, 1], ([20, 20, 20, 1], [0, 0, 0, 0]), 0, 1, (18, 16, 14))
+    row([0, 1], ([20, 20, 20, 0], [0, 0, 0, 1]), 0, 1, (16, 18, 14))
+    row([1], ([20, 20, 20, 0], [0, 0, 0, 1]), 1, 0, (16, 18, 14))
+    # overlaps: 0 ends at 3, 5, 7 or 5, 3, 7, and 1 starts at 1
+    row([0, 1], ([0, 0, 0, 0], [1, 1, 1, 0]), 0, 1, (-2, -4, -6))
+    row([0, 1], ([0, 0, 0, 1], [1, 1, 1, 0]), 0, 1, (-3, -2, -6))
+    # ... where 1 turned ends at 5 and 3, the least of moves on x is 4, on y 2
+    row([0, 1], ([0, 0, 0, 1], [1, 1, 1, 1]), 0, 1, (-4, -2, -6))
+    # an item with itself
+    row([0, 1], ([5, 6, 7, 1], [9, 9, 9, 1]), 0, 0, (-5, -3, -7))
+    row([0, 1], ([5, 6, 7, 1], [9, 9, 9, 1]), 1, 1, (-4, -2, -6))
+    row([0, 1], ([5, 6, 7, 1], [9, 9, 9, 0]), 1, 1, (-2, -4, -6))
+    far = instance([1, 1, 1], [[4095, 1, 1]] * 2, turn=[0, 1])
+    add_clearance(far, packing([0, 0, 0, 1], [65535, 65535, 0, 0]), 0, 1, 0, "clearance 65534")
+    add_clearance(far, packing([0, 0, 0, 1], [65535, 65535, 0, 0]), 0, 1, 1, "clearance 61440")
+    # 13: on u, on v, on a third piece; but 5 and 8 come first
+    for may_turn, mark in BAD_MARKS:
+        for item in range(3):
+            starts = packing(*[[0, 0, 0, 0]] * 3)
+            starts[item][3] = mark
+            value = instance([9, 9, 9], [[3, 5, 7]] * 3, turn=[item] if may_turn else [])
+            add_clearance(value, starts, 0, 1, item, "refused 13 0")
+        if mark == 255:
+            add_clearance(value, starts, 2, 2, 0, "refused 13 0")
+            add_clearance(value, starts, 0, 3, 0, "refused 5 0")
+            add_clearance(value, starts, 3, 0, 3, "refused 5 0")
+            add_clearance(value, starts, 0, 1, 3, "refused 8 0")
+    # past the count a mark is ignored
+    past = instance([9, 9, 9], [[3, 5, 7]] * 2, turn=[0])
+    for mark in (1, 2, 255):
+        starts = packing([0, 0, 0, 1], [9, 9, 9, 0], *[[0, 0, 0, mark]] * 8)
+        add_clearance(past, starts, 0, 1, 0, "clearance 4")
+        add_clearance({**past, "item_count": 3, "items": [[3, 5, 7]] * 10}, starts, 0, 1, 0, "refused 13 0")
+    nine = [[0, 0, 0, 0]] * 9 + [[0, 0, 0, 1]]
+    add_clearance(instance([9, 9, 9], [[3, 5, 7]] * 10), packing(*nine), 0, 1, 0, "refused 13 0")
+    add_clearance(instance([9, 9, 9], [[3, 5, 7]] * 9), packing(*nine), 0, 1, 0, "clearance -3")
+    add_clearance(instance([9, 9, 9], [[3, 5, 7]] * 10, turn=[9]), packing(*nine), 0, 9, 0, "clearance -3")
+
+
+def hand_turn_run():
+    units = [[1, 1, 1]] * 3
+
+    def row(turn, container, items, first, *starts, precedences=(), walkway=0):
+        text = first + "\n" + "".join("%d %d %d %d %d\n" % (piece, *marked(start)) for piece, start in enumerate(starts))
+        add_run(reference.encode(instance(container, items, precedences, walkway=walkway, turn=turn)), text)
+
+    for sheet, line in (
+        ("08 01 08", "placed 1\n0 0 0 0 0"),
+        ("08 01 18", "refused 2 2"),
+        ("08 01 09", "refused 1 3"),
+        # the printed example with both pieces turnable: choice 0 is placed
+        ("1D 02 00 02 00 02 09 02 00 08 01 01 00", "placed 1\n0 0 0 1 0\n1 0 0 0 0"),
+        # 1 x 2 x 1 and a piece of 2 x 1: the first step opens choice 1, the second says placed
+        ("0A 02 00 01 09 02 00", "placed 2\n0 0 0 0 1"),
+    ):
+        add_run(bytes.fromhex(sheet), line + "\n")
+    # one piece that may turn has two choices: a step for one that is above the hall, and a step that says placed
+    row([0], [2, 1, 1], [[2, 1, 1]], "placed 1", [0, 0, 0, 0])
+    row([0], [1, 2, 1], [[2, 1, 1]], "placed 2", [0, 0, 0, 1])
+    row([], [1, 2, 1], [[2, 1, 1]], "none 1")
+    row([0], [2, 2, 1], [[2, 1, 1]], "placed 1", [0, 0, 0, 0])
+    row([0], [1, 4095, 1], [[4095, 1, 1]], "placed 2", [0, 0, 0, 1])
+    # none however turned: too large either way, too long, a square; the last step says none
+    row([0], [1, 1, 1], [[2, 1, 1]], "none 2")
+    row([0], [2, 2, 1], [[1, 3, 1]], "none 2")
+    row([0], [2, 2, 1], [[1, 2, 2]], "none 2")
+    row([0], [1, 1, 1], [[2, 2, 1]], "none 2")
+    row([], [1, 1, 1], [[2, 2, 1]], "none 1")
+    row([0, 1], [1, 1, 1], [[2, 2, 1]] * 2, "none 4")
+    row([0, 1, 2], [1, 1, 1], [[2, 2, 1]] * 3, "none 8")
+    row([0, 2], [1, 1, 1], [[2, 2, 1]] * 3, "none 4")
+    # no exchange with the shifts: 1 x 2 x 3 and 2 x 1 x 3 are all there is
+    row([0], [3, 2, 1], [[1, 2, 3]], "none 2")
+    row([0], [1, 3, 2], [[1, 2, 3]], "none 2")
+    row([0], [2, 3, 1], [[1, 2, 3]], "none 2")
+    row([0], [2, 1, 3], [[1, 2, 3]], "placed 2", [0, 0, 0, 1])
+    # 2 x 3 x 1; 1 x 2 and 3 x 1: 1 has to be turned, and 0 must not. Choices 0 and 1 have 1 above the hall, a step each. In choice 2 the depths
+    # are 2 + 3 > 3, so the two are apart on x: a turn, and the step that says placed
+    row([0, 1], [2, 3, 1], [[1, 2, 1], [3, 1, 1]], "placed 4", [0, 0, 0, 0], [1, 0, 0, 1])
+    # the same with 0 and 1 exchanged: choice 1
+    row([0, 1], [2, 3, 1], [[3, 1, 1], [1, 2, 1]], "placed 3", [0, 0, 0, 1], [1, 0, 0, 0])
+    # the same with pieces before and between that may not turn, one after another by orders, so that no turns are needed: digits are those of
+    # 1 and 3, and 3 has to be turned: choices 0 and 1 have it above the hall, choice 2 is placed
+    chain = [(0, 1), (1, 2), (2, 3)]
+    stand = [[0, 0, 0, 0], [0, 0, 1, 0], [0, 0, 2, 0], [0, 0, 3, 1]]
+    row([1, 3], [1, 2, 4], [[1, 1, 1], [1, 2, 1], [1, 1, 1], [2, 1, 1]], "placed 3", *stand, precedences=chain)
+    # a square is a digit: 1 x 3 x 1; 1 x 1 and 2 x 1, which has to be turned: choice 2, two steps before it, a turn on y and placed
+    row([0, 1], [1, 3, 1], [[1, 1, 1], [2, 1, 1]], "placed 4", [0, 0, 0, 0], [0, 1, 0, 1])
+    row([1], [1, 3, 1], [[1, 1, 1], [2, 1, 1]], "placed 3", [0, 0, 0, 0], [0, 1, 0, 1])
+    # ... and on t in 1 x 2 x 2, where the depths are 1 + 2 > 2
+    row([0, 1], [1, 2, 2], [[1, 1, 1], [2, 1, 1]], "placed 4", [0, 0, 0, 0], [0, 0, 1, 1])
+    # 5 x 3 x 1; two of 3 x 2. Choice 0: 3 + 3 > 5 and 2 + 2 > 3, contradictory. Choice 1: 2 + 3 on x, a turn, placed
+    row([0, 1], [5, 3, 1], [[3, 2, 1]] * 2, "placed 3", [0, 0, 0, 1], [2, 0, 0, 0])
+    row([1], [5, 3, 1], [[3, 2, 1]] * 2, "placed 3", [0, 0, 0, 0], [3, 0, 0, 1])
+    row([], [5, 3, 1], [[3, 2, 1]] * 2, "none 1")
+    # 4 x 3 x 1: 2 + 3 > 4 as well, so choices 1 and 2 fall too; choice 3 has 2 + 2. With a shift more, choice 0 has them one after another
+    row([0, 1], [4, 3, 1], [[3, 2, 1]] * 2, "placed 5", [0, 0, 0, 1], [2, 0, 0, 1])
+    row([0, 1], [4, 3, 2], [[3, 2, 1]] * 2, "placed 2", [0, 0, 0, 0], [0, 0, 1, 0])
+    # 3 x 3 x 1: 2 + 2 > 3, and no choice is left
+    row([0, 1], [3, 3, 1], [[3, 2, 1]] * 2, "none 4")
+    # 2 x 1 x 1; three units: none 3 in document 01, so 3 for each choice
+    row([1], [2, 1, 1], units, "none 6")
+    row([0, 2], [2, 1, 1], units, "none 12")
+    row([0, 1, 2], [2, 1, 1], units, "none 24")
+    # 2 x 2 x 2; two units: placed 3, in choice 0
+    row([0, 1], [2, 2, 2], units[:2], "placed 3", [0, 0, 0, 0], [1, 0, 0, 0])
+    # 4 x 2 x 1; 2 x 2, 1 x 2 and 2 x 1, which may turn. On y and t every two overlap (2 + 1 > 2), so all are apart on x, where 2 + 1 + 2 > 4.
+    # Choice 0: a turn, 0 before 1; then neither 1 before 2 nor 2 before 0 has room, so 0, 2, 1 in this sequence, which has none: contradictory.
+    # The second turn ends so too: 3 steps. Choice 1 has 2 + 1 + 1: a turn for each pair, and placed: 4 steps
+    row([2], [4, 2, 1], [[2, 2, 1], [1, 2, 1], [2, 1, 1]], "placed 7", [0, 0, 0, 0], [2, 0, 0, 0], [3, 0, 0, 1])
+    # orders: none 1 for each choice
+    row([0, 1], [2, 1, 1], [[2, 1, 1], [1, 1, 1]], "none 4", precedences=[(1, 0)])
+    row([0, 1, 2], [3, 1, 3], units, "none 8", precedences=[(0, 1), (1, 2), (2, 0)])
+    # lags: both of 1 x 2 have to be turned on a depth of 1, choice 3; 1 + 2 + 1 shifts
+    row([0, 1], [2, 1, 4], [[1, 2, 1]] * 2, "placed 4", [0, 0, 0, 1], [0, 0, 3, 1], precedences=[(0, 1, 2)])
+    row([0, 1], [2, 1, 3], [[1, 2, 1]] * 2, "none 4", precedences=[(0, 1, 2)])
+    # a walkway of 1 on 3 x 2: two of 2 x 1 have 2 + 1 + 2 > 3 and 1 + 1 + 1 > 2; one of them turned 1 + 1 + 2 > 3; both 1 + 1 + 1 on x
+    row([0, 1], [3, 2, 1], [[2, 1, 1]] * 2, "placed 5", [0, 0, 0, 1], [2, 0, 0, 1], walkway=1)
+    row([0, 1], [3, 2, 1], [[2, 1, 1]] * 2, "none 4", walkway=2)
+    # ten on 1 x 2, one after another by orders: those of 2 x 1 have to be turned, those of 1 x 2 must not, so that one choice fits, and each
+    # before it takes a step
+    chain = [(piece, piece + 1) for piece in range(9)]
+    for turned in ([0], [8], [9], [0, 8], [0, 3, 9], list(range(10))):
+        items = [[2, 1, 1] if piece in turned else [1, 2, 1] for piece in range(10)]
+        starts = [[0, 0, piece, int(piece in turned)] for piece in range(10)]
+        steps = sum(2 ** piece for piece in turned) + 1
+        row(range(10), [1, 2, 10], items, "placed %d" % steps, *starts, precedences=chain)
+    # ... of nine that may turn, 4 is not one: the digit of 9 is the ninth, 256
+    items = [[2, 1, 1] if piece == 9 else [1, 2, 1] for piece in range(10)]
+    starts = [[0, 0, piece, int(piece == 9)] for piece in range(10)]
+    row([0, 1, 2, 3, 5, 6, 7, 8, 9], [1, 2, 10], items, "placed 257", *starts, precedences=chain)
+    # ... and all choices, one step each
+    row(range(10), [1, 2, 10], items[:9] + [[1, 1, 11]], "none 1024", precedences=chain)
+    row(range(9), [1, 1, 1], [[1, 1, 2]] * 10, "none 512")
+    add_run(LONGEST_WITH_TURNS, "none 1024\n")
+
+
+def hand_turn_finish():
+    def spent(value, lengths):
+        """For each allowance, from 0 up, the length that it shows."""
+        for allowance, length in enumerate(lengths):
+            add_finish(value, allowance, "finish 0 %d %d" % (length, allowance) + " 0" * 40)
+
+    def decided(value, answer, length, steps, *starts):
+        line = "finish %d %d %d" % (answer, length, steps)
+        line += "".join(" %d %d %d %d" % tuple(start) for start in packing(*starts))
+        for allowance in (steps, GREATEST):
+            add_finish(value, allowance, line)
+
+    # no pieces: nothing may turn, whatever is past the count
+    decided(instance([1, 1, 9], turn=range(10)), 1, 1, 1)
+    # 2 x 1 x 2, which has to be turned: each length has both choices, 2 steps
+    value = instance([1, 2, 3], [[2, 1, 2]], turn=[0])
+    spent(value, [0, 0, 1, 1])
+    decided(value, 1, 2, 4, [0, 0, 0, 1])
+    value = instance([1, 2, 1], [[2, 1, 2]], turn=[0])
+    spent(value, [0, 0])
+    decided(value, 2, 0, 2)
+    # ... which must not: 2 steps, and placed in the first of the second length
+    value = instance([2, 1, 3], [[2, 1, 2]], turn=[0])
+    spent(value, [0, 0, 1])
+    decided(value, 1, 2, 3, [0, 0, 0, 0])
+    # a square
+    value = instance([1, 1, 9], [[1, 1, 3]], turn=[0])
+    spent(value, [0, 0, 1, 1, 2])
+    decided(value, 1, 3, 5, [0, 0, 0, 0])
+    # no length is enough, however turned
+    value = instance([1, 1, 3], [[2, 1, 1]], turn=[0])
+    spent(value, [0, 0, 1, 1, 2, 2])
+    decided(value, 2, 0, 6)
+    # 4 x 3, two of 3 x 2: in 1 shift choice 3, after 3 steps; that in 2 shifts choice 0 has room is not asked
+    value = instance([4, 3, 5], [[3, 2, 1]] * 2, turn=[0, 1])
+    spent(value, [0, 0, 0, 0, 0])
+    decided(value, 1, 1, 5, [0, 0, 0, 1], [2, 0, 0, 1])
+    # 3 x 3: no choice in 1 shift, 4 steps; choice 0 in 2, a turn and placed
+    value = instance([3, 3, 5], [[3, 2, 1]] * 2, turn=[0, 1])
+    spent(value, [0, 0, 0, 0, 1, 1])
+    decided(value, 1, 2, 6, [0, 0, 0, 0], [0, 0, 1, 0])
+    # 2 x 1, three units: none 3 for each of two choices, then as without a choice 5 steps
+    value = instance([2, 1, 4], [[1, 1, 1]] * 3, turn=[1])
+    spent(value, [0] * 6 + [1] * 5)
+    decided(value, 1, 2, 11, [0, 0, 0, 0], [1, 0, 0, 0], [1, 0, 1, 0])
+    # 4 x 2: the seven steps of the run, 3 in choice 0
+    value = instance([4, 2, 9], [[2, 2, 1], [1, 2, 1], [2, 1, 1]], turn=[2])
+    spent(value, [0] * 7)
+    decided(value, 1, 1, 7, [0, 0, 0, 0], [2, 0, 0, 0], [3, 0, 0, 1])
+    # a lag: both have to be turned, 4 choices in each of the lengths 1 to 3; then 3 steps, and placed
+    value = instance([2, 1, 9], [[1, 2, 1]] * 2, [(0, 1, 2)], turn=[0, 1])
+    spent(value, [step // 4 for step in range(16)])
+    decided(value, 1, 4, 16, [0, 0, 0, 1], [0, 0, 3, 1])
+    # a walkway of 1 on 3 x 2: choice 3 in 1 shift
+    value = instance([3, 2, 9], [[2, 1, 1]] * 2, walkway=1, turn=[0, 1])
+    decided(value, 1, 1, 5, [0, 0, 0, 1], [2, 0, 0, 1])
+    # ten that may turn: 1,024 choices in each length
+    value = instance([1, 1, 3], [[1, 1, 4]] * 10, turn=range(10))
+    for allowance, length in ((1023, 0), (1024, 1), (1025, 1), (2047, 1), (2048, 2), (3071, 2)):
+        add_finish(value, allowance, "finish 0 %d %d" % (length, allowance) + " 0" * 40)
+    decided(value, 2, 0, 3072)
+    # what is past the count may turn, and is no part of it: two choices a length
+    value = instance([1, 2, 3], [[2, 1, 2]], turn=range(10))
+    value["items"][1:] = [[7, 0, 65535] for _ in range(9)]
+    spent(value, [0, 0, 1, 1])
+    decided(value, 1, 2, 4, [0, 0, 0, 1])
+    # number 9
+    for number, value in enumerate(refused_values()):
+        if number % 16 == 0:
+            add_finish({**value, "may_turn": [1] * 10}, number, "refused 9 0")
 
 
 # Made: from a fixed seed
@@ -1825,13 +2317,25 @@ def lowered_value(value):
     return value
 
 
+def after_bit_3(sheet, at):
+    """Whether an item's map byte before that place has bit 3; reading gets there."""
+    fields = lambda byte: 2 * bin(byte % 8).count("1")
+    start = 1 + fields(sheet[0]) + 1
+    while start < at:
+        if sheet[start] & 8:
+            return True
+        start += 1 + fields(sheet[start])
+    return False
+
+
 def lowered(sheet):
-    """The sheet with the same done to the measures that reading meets; all other bytes as they are, and with them the other faults. A sheet with
-    bit 7 of the first byte is left as it was: before request #105 reading went no further, and met no measure."""
+    """The sheet with the same done to the measures that reading meets; all other bytes as they are, and with them the other faults. What is
+    after a first byte with bit 7 is left as it was: before request #105 reading went no further, and met no measure. So is what is after an
+    item's map byte with bit 3, where reading ended before request #106."""
     if sheet[:1] >= b"\x80":
         return sheet
     answer = reference.read(sheet)
-    while is_refused(answer) and answer[0] == 12:
+    while is_refused(answer) and answer[0] == 12 and not after_bit_3(sheet, answer[1]):
         place = answer[1]
         measure = int.from_bytes(sheet[place : place + 2], "little")
         sheet = sheet[:place] + little(measure // 16, 2) + sheet[place + 2 :]
@@ -1937,7 +2441,7 @@ def packed(numbers, value, tries):
         part["precedences"] = [one for one in value["precedences"][: value["precedence_count"]] if max(one[:2]) <= item]
         part["precedence_count"] = len(part["precedences"])
         for _ in range(tries):
-            positions[item] = [numbers.below(part["container"][a]) for a in range(3)]
+            positions[item][:3] = [numbers.below(part["container"][a]) for a in range(3)]
             if reference.feasible(part, positions):
                 break
     return positions
@@ -1957,7 +2461,7 @@ def made_checks(numbers):
         value = instance(container, items, [p for p in some_precedences(numbers, n) if p[0] < p[1]][: numbers.below(3)])
         positions = packed(numbers, value, 60)
         for i in range(n, 10):
-            positions[i] = [numbers.below(65536) for _ in range(3)]
+            positions[i][:3] = [numbers.below(65536) for _ in range(3)]
         add_check(value, positions)
         item = numbers.below(n)
         axis = numbers.below(3)
@@ -2038,7 +2542,7 @@ def made_lag_checks(numbers):
         if state != reference.PLACED:
             positions = packed(numbers, value, 60)
         for i in range(value["item_count"], 10):
-            positions[i] = [numbers.below(65536) for _ in range(3)]
+            positions[i][:3] = [numbers.below(65536) for _ in range(3)]
         add_check(value, positions)
         u, v, lag = value["precedences"][numbers.below(value["precedence_count"])]
         positions[v][2] = positions[u][2] + value["items"][u][2] + lag + numbers.below(2) - 1
@@ -2189,7 +2693,7 @@ def made_walkway_checks(numbers):
         if state != reference.PLACED:
             positions = packed(numbers, value, 60)
         for i in range(value["item_count"], 10):
-            positions[i] = [numbers.below(65536) for _ in range(3)]
+            positions[i][:3] = [numbers.below(65536) for _ in range(3)]
         add_check(value, positions)
         # another piece just the walkway after one, or one module less, in its shift
         u, v = numbers.below(value["item_count"]), numbers.below(value["item_count"])
@@ -2226,6 +2730,122 @@ def made_walkway_finishes(numbers):
                 add_finish(value, allowance)
 
 
+def with_turns(numbers, value):
+    """The value with some items that may turn, up to the count and past it."""
+    share = numbers.one_of([1, 1, 2, 3])
+    value["may_turn"] = [int(numbers.below(4) < share) for _ in range(10)]
+    return value
+
+
+def made_turn_reads(numbers):
+    for _ in range(45):
+        value = with_turns(numbers, with_walkway(numbers, some_instance(numbers)))
+        value["walkway"] = numbers.one_of([0, 0, value["walkway"]])
+        sheet = reference.encode(value)
+        add_read(sheet)
+        add_rewrite(sheet)
+        add_record(sheet, numbers.below(11))
+        add_read(damaged(numbers, sheet))
+        add_read(damaged(numbers, damaged(numbers, sheet)))
+        add_record(damaged(numbers, sheet), numbers.below(10))
+        if value["item_count"] > 0:
+            # a bit of an item's map
+            start, _ = reference.read_or_raise(sheet)[1][numbers.below(value["item_count"])]
+            add_read(sheet[:start] + bytes([sheet[start] ^ 2 ** numbers.below(8)]) + sheet[start + 1 :])
+    for _ in range(30):
+        n = numbers.between(1, 3)
+        add_read(bytes([8, n]) + bytes(numbers.one_of([0, 0, 8, 8, 8, 9, 10, 12, 16, 2, 3]) for _ in range(n + numbers.below(5))))
+
+
+def made_turn_writes(numbers):
+    for _ in range(24):
+        value = with_anything_past(numbers, with_turns(numbers, with_walkway(numbers, some_instance(numbers))))
+        length = len(reference.encode(value))
+        add_write(value, numbers.one_of([length - 1, length, length, length + 1, 352, MOST_ROOM]), fill=numbers.below(256))
+        fault = copied(value)
+        fault["item_count"] = numbers.below(13)
+        add_valid(fault)
+        add_write(fault, 352, fill=numbers.below(256))
+
+
+def small_with_turns(numbers, most):
+    """A small instance in which some items may turn, on a floor that is about as large as they need; at times with lags and a walkway."""
+    n = numbers.between(1, most)
+    floor = [numbers.between(2, 5), numbers.between(1, 4)]
+    items = [[numbers.between(1, floor[0]), numbers.between(1, floor[1]), numbers.one_of([1, 1, 2])] for _ in range(n)]
+    precedences = []
+    if numbers.below(3) == 0:
+        precedences = [pair + (numbers.one_of([0, 0, 1, 2]),) for pair in some_precedences(numbers, n) if pair[0] < pair[1]]
+    value = instance(floor + [numbers.one_of([1, 1, 2, 2, 3, 4])], items, precedences, walkway=numbers.one_of([0, 0, 0, 1, 2]))
+    with_turns(numbers, value)
+    # some of them lie the other way round, so that they have to be turned
+    for item in range(n):
+        if value["may_turn"][item] and numbers.below(2) == 0:
+            value["items"][item][:2] = value["items"][item][1::-1]
+    return value
+
+
+def with_bad_mark(numbers, value, positions):
+    """At times a mark is changed, so that it may not stand."""
+    if numbers.below(3) == 0:
+        item = numbers.below(min(10, value["item_count"] + 1))
+        positions[item][3] = numbers.one_of([0, 1, 1, 2, 255])
+    return positions
+
+
+def made_turn_checks(numbers):
+    for _ in range(36):
+        value = small_with_turns(numbers, 5)
+        state, _, _, positions = reference.run(value, 100)
+        if state != reference.PLACED:
+            marks = [numbers.below(2) if may_turn else 0 for may_turn in value["may_turn"]]
+            positions = packed(numbers, reference.turned(value, marks), 60)
+            positions = [position[:3] + [mark] for position, mark in zip(positions, marks)]
+        for item in range(value["item_count"], 10):
+            positions[item] = [numbers.below(65536) for _ in range(3)] + [numbers.one_of([0, 1, 2, 255])]
+        add_check(value, positions)
+        # a piece turned over, or moved by a module
+        item = numbers.below(value["item_count"])
+        if value["may_turn"][item] and numbers.below(2) == 0:
+            positions[item][3] = 1 - positions[item][3]
+        else:
+            axis = numbers.below(2)
+            positions[item][axis] = max(0, positions[item][axis] + numbers.one_of([-1, 1]))
+        add_check(value, with_bad_mark(numbers, value, positions))
+    for _ in range(30):
+        value = with_turns(numbers, lowered_value(some_instance(numbers)))
+        marks = [numbers.below(2) if may_turn else 0 for may_turn in value["may_turn"]]
+        positions = packing(*[[some_number(numbers) - 1 for _ in range(3)] + [mark] for mark in marks])
+        n = max(1, value["item_count"])
+        u, v = numbers.one_of([numbers.below(n), numbers.below(11)]), numbers.one_of([numbers.below(n), numbers.below(11)])
+        add_clearance(value, with_bad_mark(numbers, value, positions), u, v, numbers.one_of([0, 1, 2, numbers.below(4)]))
+
+
+def made_turn_runs(numbers):
+    made = 0
+    while made < 110:
+        value = small_with_turns(numbers, 5)
+        state, steps, (_, choice), _ = reference.run(value, 90)
+        # most of those that end in choice 0, or take no more than a step for each choice, are left out
+        plain = steps == choice + 1 or choice == 0
+        if state != reference.OPEN and not (plain and numbers.below(10) > 0):
+            add_run(reference.encode(value))
+            made += 1
+
+
+def made_turn_finishes(numbers):
+    made = 0
+    while made < 14:
+        value = small_with_turns(numbers, 4)
+        sums = sums_of_lengths(value, 150)
+        if sums is not None and len(sums) > 1 and reference.last_choice(value) > 0:
+            made += 1
+            with_anything_past(numbers, value)
+            between, total = numbers.one_of(sums[:-1]), sums[-1]
+            for allowance in sorted({between - 1, between, total - 1, total, numbers.one_of([total + 1, numbers.below(total), GREATEST])}):
+                add_finish(value, allowance)
+
+
 # Beside an older pair of files
 
 
@@ -2244,19 +2864,34 @@ def cases_in(stdin, stdout):
     return found
 
 
-# How many bytes of an instance were there before the walkway, which is after them.
-BEFORE = 354
+SHEET_KINDS = (READ, RECORD, REWRITE, RUN)
+
+# How many bytes of an instance, and of the instance and the positions, were there before the bytes that say what may turn, and the marks.
+BEFORE, BEFORE_MARKS = 355, 415
 
 
-def as_now(op, payload):
-    """The payload of an older case: an instance has walkway 0, all else is as it was."""
-    return payload if op in (READ, RECORD, REWRITE, RUN) else payload[:BEFORE] + b"\0" + payload[BEFORE:]
+def as_now(op, payload, line):
+    """An older case with its line: in an instance nothing may turn, and every mark is 0; all else is as it was."""
+    if op not in SHEET_KINDS:
+        end = BEFORE_MARKS if op in (CHECK, CLEARANCE) else BEFORE
+        marks = bytes(10) if op in (CHECK, CLEARANCE) else b""
+        payload = payload[:BEFORE] + bytes(10) + payload[BEFORE:end] + marks + payload[end:]
+    words = line.split(" ")
+    if op == FINISH and words[0] == "finish":
+        line = " ".join(words[:4] + [word + (" 0" if number % 3 == 2 else "") for number, word in enumerate(words[4:])])
+    if op == RUN:
+        first, *rest = line.split("\n")
+        line = "\n".join([first] + [one and one + " 0" for one in rest])
+    return op, payload, line
 
 
-def has_bit_7(op, payload):
-    """Whether the case is a sheet whose first map byte has bit 7."""
-    sheet = payload[8:] if op == RECORD else payload
-    return op in (READ, RECORD, REWRITE, RUN) and sheet[:1] >= b"\x80"
+def had_bit_3(op, payload, line):
+    """Whether the case is a sheet that got 2 for an item's map byte with bit 3, and bits 4 to 7 of it do not stand."""
+    words = line.split()
+    if op not in SHEET_KINDS or words[0] not in ("refused", "record") or words[1] != "2":
+        return False
+    sheet, at = payload[8:] if op == RECORD else payload, int(words[2])
+    return at > 0 and 8 <= sheet[at] < 16
 
 
 def place_of(case, entries, at):
@@ -2273,18 +2908,18 @@ def compare_with(older):
     inputs = [case[:2] for case in newer]
     at, moved = 0, {}
     for op, payload, line in older:
-        if has_bit_7(op, payload):
+        if had_bit_3(op, payload, line):
             at = place_of((op, payload), inputs, at)
-            if line.split() not in (["refused", "2", "0"], ["record", "2", "0"]) or newer[at - 1][2] == line:
-                sys.exit("bit 7: %s %s was %s and is %s" % (KINDS[op], payload.hex(), line, newer[at - 1][2]))
+            if newer[at - 1][2] == line:
+                sys.exit("bit 3: %s %s still has the line %s" % (KINDS[op], payload.hex(), line))
             now = newer[at - 1][2].split()
-            now = now[0] if now[0] == "read" else " ".join(now[:2])
+            now = " ".join(now[:2]) if now[0] in ("refused", "record") else now[0]
             moved[now] = moved.get(now, 0) + 1
         else:
-            at = place_of((op, as_now(op, payload), line), newer, at)
+            at = place_of(as_now(op, payload, line), newer, at)
     count = sum(moved.values())
-    print("before %d, of these with their lines %d, with bit 7 and another line %d; new %d" % (len(older), len(older) - count, count, len(cases) - len(older)))
-    print("in place of 2 0: " + ", ".join("%s %d" % pair for pair in sorted(moved.items())))
+    print("before %d, of these with their lines %d, with bit 3 and another line %d; new %d" % (len(older), len(older) - count, count, len(cases) - len(older)))
+    print("in place of 2: " + ", ".join("%s %d" % pair for pair in sorted(moved.items())))
 
 
 # All of it
@@ -2312,6 +2947,12 @@ def main():
     hand_walkway_clearance()
     hand_walkway_run()
     hand_walkway_finish()
+    hand_turn_read()
+    hand_turn_write()
+    hand_turn_check()
+    hand_turn_clearance()
+    hand_turn_run()
+    hand_turn_finish()
     by_hand = len(cases)
     made_reads(Numbers(1))
     made_records(Numbers(2))
@@ -2329,10 +2970,15 @@ def main():
     made_walkway_checks(Numbers(14))
     made_walkway_runs(Numbers(15))
     made_walkway_finishes(Numbers(16))
+    made_turn_reads(Numbers(17))
+    made_turn_writes(Numbers(18))
+    made_turn_checks(Numbers(19))
+    made_turn_runs(Numbers(20))
+    made_turn_finishes(Numbers(21))
     for number in (1, 2, 3, 4, 5, 6, 7, 11, 12):
         places = {line.split()[2] for line in lines if line.startswith("refused %d " % number)}
         assert len(places) >= 2, number
-    for number in (8, 9):
+    for number in (8, 9, 13):
         assert sum(line.startswith("refused %d 0" % number) for line in lines) >= 2
     stdin = b"".join(bytes([op]) + little(len(payload), 2) + payload for op, payload in cases)
     stdout = "".join(line + "\n" for line in lines).encode()

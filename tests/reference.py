@@ -1,5 +1,5 @@
 """Instances, packings, item records, clearance, the search and the earliest finish, written plainly from document 01 and requests #101 to
-#105 of document 02 alone.
+#106 of document 02 alone.
 
 It shares nothing with the crates. tests/make_vectors.py takes the expected lines of crates/test_vectors from here.
 
@@ -7,11 +7,12 @@ An instance is a dict:
     container         [width, depth, shifts]
     item_count        a number
     items             ten of [width, depth, shifts]
+    may_turn          ten, each whether that item may turn
     precedence_count  a number
     precedences       ninety of [u, v, lag]
     yard_number       a number
     walkway           a number
-Entries past the counts are no part of it. A packing is ten of [x, y, t]. Axes are x 0, y 1, t 2.
+Entries past the counts are no part of it. A packing is ten of [x, y, t, mark]. Axes are x 0, y 1, t 2.
 A refusal is a tuple (number, place).
 """
 
@@ -81,6 +82,7 @@ def read_or_raise(sheet):
         "container": [1, 1, 1],
         "item_count": 0,
         "items": [[0, 0, 0] for _ in range(MAX_ITEMS)],
+        "may_turn": [False] * MAX_ITEMS,
         "precedence_count": 0,
         "precedences": [[0, 0, 0] for _ in range(MAX_PRECEDENCES)],
         "yard_number": 0,
@@ -95,7 +97,9 @@ def read_or_raise(sheet):
         value["item_count"] = count
         for item in range(count):
             start = place
-            bits = map_at(sheet, place, 3)
+            # #106: "Bit 3 of a piece's map, with no field, allows width and depth to be exchanged"
+            bits = map_at(sheet, place, 4)
+            value["may_turn"][item] = 3 in bits
             value["items"][item], place = measures_at(sheet, place + 1, bits)
             records.append((start, place))
     if 4 in standing:
@@ -205,9 +209,9 @@ def encode(value):
     if n > 0:
         bits += 8
         fields += [n]
-        for item in value["items"][:n]:
-            item_bits, item_fields = measures_bytes(item)
-            fields += [item_bits] + item_fields
+        for item in range(n):
+            item_bits, item_fields = measures_bytes(value["items"][item])
+            fields += [item_bits + (8 if value["may_turn"][item] else 0)] + item_fields
     if m > 0:
         bits += 16
         fields += [m]
@@ -237,6 +241,22 @@ def write(value, room):
 
 
 # "Fit": the check and the clearance
+
+
+def marks_stand(value, positions):
+    """Not #106's 13, "a plan mark above 1, or 1 on a piece that may not turn", among the items; marks past the count are ignored."""
+    marks = [mark for _, _, _, mark in positions[: value["item_count"]]]
+    return all(mark == 0 or (mark == 1 and may_turn) for mark, may_turn in zip(marks, value["may_turn"]))
+
+
+def turned(value, marks):
+    """The value with width and depth exchanged where a mark is 1."""
+    items = [[depth, width, shifts] if mark == 1 else [width, depth, shifts] for (width, depth, shifts), mark in zip(value["items"], marks)]
+    return {**value, "items": items}
+
+
+def as_marked(value, positions):
+    return turned(value, [mark for _, _, _, mark in positions])
 
 
 def end(value, positions, item, axis):
@@ -273,20 +293,25 @@ def feasible(value, positions):
 
 
 def check(value, positions):
-    """True or False, or the refusal."""
+    """True or False, or the refusal: 9, then 13."""
     if not valid(value):
         return (9, 0)
-    return feasible(value, positions)
+    if not marks_stand(value, positions):
+        return (13, 0)
+    return feasible(as_marked(value, positions), positions)
 
 
 def clearance(value, positions, u, v, axis):
-    """A number, or the refusal: 9, then 5, then 8."""
+    """A number, or the refusal: 9, then 5, then 8, then 13."""
     if not valid(value):
         return (9, 0)
     if u >= value["item_count"] or v >= value["item_count"]:
         return (5, 0)
     if axis not in (0, 1, 2):
         return (8, 0)
+    if not marks_stand(value, positions):
+        return (13, 0)
+    value = as_marked(value, positions)
     return max(
         positions[v][axis] - end(value, positions, u, axis),
         positions[u][axis] - end(value, positions, v, axis),
@@ -500,16 +525,43 @@ def step(value, row, levels):
 
 
 def all_zeros():
-    return [[0, 0, 0] for _ in range(MAX_ITEMS)]
+    return [[0, 0, 0, 0] for _ in range(MAX_ITEMS)]
+
+
+def turnable(value):
+    return [item for item in range(value["item_count"]) if value["may_turn"][item]]
+
+
+def last_choice(value):
+    """#106: "Choices are counted upward from 0"; "square pieces count too"."""
+    return 2 ** len(turnable(value)) - 1
+
+
+def marks_of(value, choice):
+    """The ten marks: "the lowest-numbered turnable piece being the lowest binary digit, 1 for turned"."""
+    marks = [0] * MAX_ITEMS
+    for digit, item in enumerate(turnable(value)):
+        marks[item] = choice // 2 ** digit % 2
+    return marks
 
 
 def run(value, allowance=1000000):
-    """From the opening note: the state, the steps taken, the row of turns, and ten positions where it is placed, else ten zeros."""
-    state, steps, row, levels = OPEN, 0, [], [opening_knowledge(value)]
+    """From the opening note: the state, the steps taken, the row of turns with the choice, and the packing where it is placed, else zeros."""
+    state, steps, choice, row = OPEN, 0, 0, []
+    problem = turned(value, marks_of(value, choice))
+    levels = [opening_knowledge(problem)]
     while state == OPEN and steps < allowance:
-        state = step(value, row, levels)
+        state = step(problem, row, levels)
         steps += 1
-    return state, steps, row, starts(value, levels[-1]) if state == PLACED else all_zeros()
+        if state == NONE and choice < last_choice(value):
+            # #106: "the step that would say "none" opens the next choice with an empty row instead, until the last"
+            state, choice = OPEN, choice + 1
+            problem = turned(value, marks_of(value, choice))
+            levels = [opening_knowledge(problem)]
+    packing = all_zeros()
+    if state == PLACED:
+        packing = [start[:3] + [mark] for start, mark in zip(starts(problem, levels[-1]), marks_of(value, choice))]
+    return state, steps, (row, choice), packing
 
 
 def program(sheet, allowance=1000000):
@@ -520,7 +572,7 @@ def program(sheet, allowance=1000000):
     state, steps, _, positions = run(value, allowance)
     lines = ["%s %d" % ("spent" if state == OPEN else state, steps)]
     if state == PLACED:
-        lines += ["%d %d %d %d" % (piece, *positions[piece]) for piece in range(value["item_count"])]
+        lines += ["%d %d %d %d %d" % (piece, *positions[piece]) for piece in range(value["item_count"])]
     return "".join(line + "\n" for line in lines)
 
 
@@ -540,7 +592,7 @@ def finished(answer, length, steps, positions):
 
 
 def finish(value, allowance):
-    """The answer with its length, steps and ten positions, all zeros unless it is placed; or the refusal."""
+    """The answer with its length, steps and packing, all zeros unless it is placed; or the refusal."""
     if not valid(value):
         return (9, 0)
     steps, shown = 0, 0

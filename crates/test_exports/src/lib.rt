@@ -106,7 +106,7 @@ pub extern "C" fn exports_record_byte(sheet: &[u8], k: usize, i: usize) -> u32
     answers::wide(record[i])
 }
 
-// The check of a value with ten positions: 0 no, 1 yes, 100 plus the number of a refusal.
+// The check of a value with a packing: 0 no, 1 yes, 100 plus the number of a refusal.
 #[no_mangle]
 pub extern "C" fn exports_check(value: &[u8], plan: &[u8]) -> u32
     ensures { λ r. ⌜ r ≡ check-number (check-answer (instance-in (now (value .entry))) (packing-at (now (plan .entry)) 0)) ⌝ }

@@ -1,5 +1,5 @@
 -- The starred rows of document 01's "Small halls" as one table: bytes, calls, and what they have to give; and rows for the lags of document 02, #101,
--- and its walkway, #105. proofs/Halls shows it as a whole.
+-- its walkway, #105, and pieces that may be turned, #106. proofs/Halls shows it as a whole.
 use Rattle.prelude.specs.Names.{Bool, false, _&&_, List, [], _∷_, ℕ, eqb}
 use Rattle.model.specs.Calls.{Answer, budget-spent, no-packing, packing}
 use Rattle.model.specs.Computing.{search-computing}
@@ -11,6 +11,7 @@ use Rattle.instance.specs.Sheets.{instance-of, decode}
 use Rattle.lists.specs.Lists.{with-lags}
 use Rattle.sheet.specs.Computing.{sheet-computing}
 use Rattle.instance.specs.Meaning.{problem-of}
+use Rattle.turning.specs.Turned.{turnable-of}
 
 -- a refusal's number and place; or the calls made one after the other
 pub data HallOutcome : Type 0 where
@@ -23,13 +24,13 @@ pub record HallCase : Type 0 where
 
 abbrev pub outcome-right : Read Instance → HallOutcome → Bool
 outcome-right (got i at rest) (refusal number place) = false
-outcome-right (got i at rest) (calls cs) = right-problem (problem-of i) cs
+outcome-right (got i at rest) (calls cs) = right-problem (turnable-of i) cs
 outcome-right (refused e) (refusal number place) = eqb (number-of e) number && eqb (place-of e) place
 outcome-right (refused e) (calls cs) = false
 
 -- what the bytes give is what the table says. This opens all that reading and searching compute by
 unfoldable pub case-right : HallCase → Bool
-unfolding sheet-computing with-lags instance-of decode problem-of search-computing
+unfolding sheet-computing with-lags instance-of decode problem-of turnable-of search-computing
 case-right c = outcome-right (decode (c .bytes)) (c .outcome)
 
 -- one call with the program's budget: the answer and its steps
@@ -50,6 +51,10 @@ waiting shifts = 0x5c ∷ shifts ∷ 0x00 ∷ 0x03 ∷ 0x00 ∷ 0x00 ∷ 0x00 �
 -- width×1×1; two of 4×1×1; a walkway of 1
 abbrev pub passage : ℕ → List ℕ
 passage width = 0x89 ∷ width ∷ 0x00 ∷ 0x02 ∷ 0x01 ∷ 0x04 ∷ 0x00 ∷ 0x01 ∷ 0x04 ∷ 0x00 ∷ 0x01 ∷ []
+
+-- the starts of a piece that is turned
+abbrev pub turned-at : ℕ → ℕ → ℕ → Triple
+turned-at x y t = x ∷ y ∷ t ∷ 1 ∷ []
 
 unfoldable pub cases : List HallCase
 cases =
@@ -99,4 +104,13 @@ cases =
     ∷ hall-case (0x80 ∷ 0x00 ∷ []) (refusal 3 1)
     ∷ hall-case (0x80 ∷ []) (refusal 1 1)
     ∷ hall-case (0xc0 ∷ []) (refusal 11 1)
+    -- 02, #106: "Bit 3 of a piece's map, with no field, allows width and depth to be exchanged": 1×2×1; 2×1×1 that may turn, and that may not
+    ∷ hall-case (0x0a ∷ 0x02 ∷ 0x00 ∷ 0x01 ∷ 0x09 ∷ 0x02 ∷ 0x00 ∷ []) (once (packing (turned-at 0 0 0 ∷ [])) 2)
+    ∷ hall-case (0x0a ∷ 0x02 ∷ 0x00 ∷ 0x01 ∷ 0x01 ∷ 0x02 ∷ 0x00 ∷ []) (once no-packing 1)
+    -- "the lowest-numbered turnable piece being the lowest binary digit": 3×1×1; 1×1×1 and 1×2×1, both may turn, and the second has to: choice 2
+    ∷ hall-case (0x09 ∷ 0x03 ∷ 0x00 ∷ 0x02 ∷ 0x08 ∷ 0x0a ∷ 0x02 ∷ 0x00 ∷ []) (once (packing (xyt 0 0 0 ∷ turned-at 1 0 0 ∷ [])) 4)
+    -- "square pieces count too": 1×1×1; two of 1×1×1 that may turn: a step for each of four choices
+    ∷ hall-case (0x08 ∷ 0x02 ∷ 0x08 ∷ 0x08 ∷ []) (once no-packing 4)
+    -- bit 4 of a piece's map has no meaning
+    ∷ hall-case (0x08 ∷ 0x01 ∷ 0x10 ∷ []) (refusal 2 2)
     ∷ []

@@ -1,5 +1,5 @@
-// Runs every row of document 01's table "Small halls", and halls with the lags and the walkway of document 02, #101 and #105, and prints what the program
-// prints for each.
+// Runs every row of document 01's table "Small halls", and halls with the lags, the walkway and the pieces that may be turned of document 02, #101, #105
+// and #106, and prints what the program prints for each.
 ghost use mathlib.Core.Path.{_≡_};
 ghost use Prim.Native.Nat.{_≤_};
 ghost use lib.ListN.{length};
@@ -110,6 +110,18 @@ fn passage(width: u8) {
     run(&sheet);
 }
 
+fn turning() {
+    // 1×2×1; 2×1×1 that may turn, and that may not
+    run(b"\x0a\x02\x00\x01\x09\x02\x00");
+    run(b"\x0a\x02\x00\x01\x01\x02\x00");
+    // 3×1×1; 1×1×1 and 1×2×1, both may turn
+    run(b"\x09\x03\x00\x02\x08\x0a\x02\x00");
+    // 1×1×1; two of 1×1×1 that may turn
+    run(b"\x08\x02\x08\x08");
+    // bit 4 of a piece's map
+    run(b"\x08\x01\x10");
+}
+
 fn main() {
     starred();
     // bytes 40; 00 00; 08 00. The first by 02, #101: "byte 40 alone is now refused 11 1"
@@ -130,4 +142,5 @@ fn main() {
     run(b"\x80\x00");
     run(b"\x80");
     run(b"\xc0");
+    turning();
 }

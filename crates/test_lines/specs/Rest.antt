@@ -1,5 +1,5 @@
--- Whether the entries past an instance's counts are 0.
-use Rattle.prelude.specs.Names.{Bool, _&&_, eqb, drop}
+-- Whether the entries past an instance's counts are 0, and no item among them may be turned.
+use Rattle.prelude.specs.Names.{Bool, not, _&&_, eqb, drop}
 use Rattle.model.specs.Below.{all-in}
 use Rattle.parts.specs.declared.Size.{Size}
 use Rattle.parts.specs.declared.Item.{Item}
@@ -10,7 +10,7 @@ abbrev pub size-zero : Size → Bool
 size-zero s = eqb (s .width) 0 && (eqb (s .depth) 0 && eqb (s .shifts) 0)
 
 abbrev pub item-zero : Item → Bool
-item-zero i = size-zero (i .size)
+item-zero i = size-zero (i .size) && not (i .«may_turn»)
 
 abbrev pub precedence-zero : Precedence → Bool
 precedence-zero o = eqb (o .predecessor) 0 && (eqb (o .successor) 0 && eqb (o .lag) 0)

@@ -54,15 +54,17 @@ pub fn bytes(s: &[u8], n: usize) {
     }
 }
 
-// The ten positions.
+// The ten positions, each with its mark.
 pub fn packing(packing: Packing) {
     let positions = packing.positions;
+    let marks = packing.marks;
     let mut u: usize = 0;
     while u < Instance::MAX_ITEMS {
         let position = positions[u];
         number(position.x as usize);
         number(position.y as usize);
         number(position.t as usize);
+        number(marks[u] as usize);
         u += 1;
     }
 }
@@ -80,14 +82,21 @@ fn measures(size: Size) {
     number(size.shifts as usize);
 }
 
+// Its measures, and a word where it may be turned.
+fn print_item(item: Item) {
+    measures(item.size);
+    if item.may_turn {
+        word(b" turn");
+    }
+}
+
 fn items_below(items: [Item; Instance::MAX_ITEMS], n: usize) {
     let mut i: usize = 0;
     while i < n {
         if Instance::MAX_ITEMS <= i {
             return;
         }
-        let item = items[i];
-        measures(item.size);
+        print_item(items[i]);
         i += 1;
     }
 }
@@ -125,6 +134,16 @@ fn is_size_zero(size: Size) -> bool
     size.shifts == 0
 }
 
+fn is_item_zero(item: Item) -> bool
+    ensures { λ r. ⌜ r ≡ item-zero item ⌝ }
+{
+    let may_turn = item.may_turn;
+    if !is_size_zero(item.size) {
+        return false;
+    }
+    !may_turn
+}
+
 fn is_precedence_zero(precedence: Precedence) -> bool
     ensures { λ r. ⌜ r ≡ precedence-zero precedence ⌝ }
 {
@@ -142,8 +161,7 @@ fn items_zero_from(items: [Item; Instance::MAX_ITEMS], n: usize) -> bool
 {
     let mut i = n;
     while i < Instance::MAX_ITEMS {
-        let item = items[i];
-        if !is_size_zero(item.size) {
+        if !is_item_zero(items[i]) {
             return false;
         }
         i += 1;
@@ -164,7 +182,7 @@ fn precedences_zero_from(precedences: [Precedence; Instance::MAX_PRECEDENCES], m
     true
 }
 
-// Whether the entries past the counts are 0.
+// Whether the entries past the counts are 0, and no item among them may be turned.
 fn is_rest_zero(instance: Instance) -> bool
     ensures { λ r. ⌜ r ≡ rest-zero instance ⌝ }
 {

@@ -4,7 +4,7 @@ ghost use mathlib.Core.Path.{_≡_};
 ghost use Prim.Native.Nat.{_+_, _*_, _<_};
 ghost use lib.ListN.{getD};
 ghost use Rattle.sheet.specs.Sheet.{max-items, max-precedences};
-ghost use Rattle.sheet.specs.Places.{word-at};
+ghost use Rattle.sheet.specs.Places.{byte-at, word-at};
 ghost use Rattle.test_values.specs.Values.{tabulate, four-at, number-at, size-in, item-in, position-in, precedence-in, instance-in, packing-at};
 use instance::Instance;
 use instance::Packing;
@@ -14,9 +14,9 @@ use parts::Precedence;
 use parts::Size;
 
 // How many bytes an instance has, and a packing.
-pub const INSTANCE_BYTES: usize = 355;
+pub const INSTANCE_BYTES: usize = 365;
 
-pub const PACKING_BYTES: usize = 60;
+pub const PACKING_BYTES: usize = 70;
 
 fn wide(x: u8) -> u16
     ensures { λ r. ⌜ (r ≡ x) × (r < 256) ⌝ }
@@ -77,6 +77,16 @@ fn size_at(s: &[u8], at: usize) -> Size
     }
 }
 
+// An item: its measures at one place, and at another a byte other than 0 where it may be turned.
+fn item_at(s: &[u8], at: usize, turn: usize) -> Item
+    requires { ⌜ at < 1000 ⌝ }
+    ensures { λ r. ⌜ r ≡ item-in (now (s .entry)) at turn ⌝ }
+{
+    let size = size_at(s, at);
+    let may_turn = byte_at(s, turn) != 0;
+    Item { size, may_turn }
+}
+
 fn position_at(s: &[u8], at: usize) -> Position
     requires { ⌜ at < 1000 ⌝ }
     ensures { λ r. ⌜ r ≡ position-in (now (s .entry)) at ⌝ }
@@ -102,13 +112,12 @@ fn precedence_at(s: &[u8], at: usize) -> Precedence
 }
 
 fn items_in(s: &[u8]) -> [Item; Instance::MAX_ITEMS]
-    ensures { λ r. ⌜ r ≡ tabulate max-items (λ i. item-in (now (s .entry)) (14 + 6 * i)) ⌝ }
+    ensures { λ r. ⌜ r ≡ tabulate max-items (λ i. item-in (now (s .entry)) (14 + 6 * i) (355 + i)) ⌝ }
 {
     let mut items = lists::no_items();
     let mut i: usize = 0;
     while i < Instance::MAX_ITEMS {
-        let size = size_at(s, 14 + 6 * i);
-        items[i] = Item { size };
+        items[i] = item_at(s, 14 + 6 * i, 355 + i);
         i = i + 1;
     }
     items
@@ -148,10 +157,9 @@ pub fn instance_in(s: &[u8]) -> Instance
     }
 }
 
-// The packing that starts at a place.
-pub fn packing_at(s: &[u8], at: usize) -> Packing
+fn positions_at(s: &[u8], at: usize) -> [Position; Instance::MAX_ITEMS]
     requires { ⌜ at < 500 ⌝ }
-    ensures { λ r. ⌜ r ≡ packing-at (now (s .entry)) at ⌝ }
+    ensures { λ r. ⌜ r ≡ tabulate max-items (λ u. position-in (now (s .entry)) (at + 6 * u)) ⌝ }
 {
     let mut positions = [Position { x: 0, y: 0, t: 0 }; Instance::MAX_ITEMS];
     let mut u: usize = 0;
@@ -159,5 +167,28 @@ pub fn packing_at(s: &[u8], at: usize) -> Packing
         positions[u] = position_at(s, at + 6 * u);
         u = u + 1;
     }
-    Packing { positions }
+    positions
+}
+
+fn marks_at(s: &[u8], at: usize) -> [u8; Instance::MAX_ITEMS]
+    requires { ⌜ at < 1000 ⌝ }
+    ensures { λ r. ⌜ r ≡ tabulate max-items (λ u. byte-at (now (s .entry)) (at + u)) ⌝ }
+{
+    let mut marks = [0u8; Instance::MAX_ITEMS];
+    let mut u: usize = 0;
+    while u < Instance::MAX_ITEMS {
+        marks[u] = byte_at(s, at + u);
+        u = u + 1;
+    }
+    marks
+}
+
+// The packing that starts at a place.
+pub fn packing_at(s: &[u8], at: usize) -> Packing
+    requires { ⌜ at < 500 ⌝ }
+    ensures { λ r. ⌜ r ≡ packing-at (now (s .entry)) at ⌝ }
+{
+    let positions = positions_at(s, at);
+    let marks = marks_at(s, at + 60);
+    Packing { positions, marks }
 }

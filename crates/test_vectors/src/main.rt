@@ -197,10 +197,10 @@ fn report_all(s: &[u8]) {
     }
 }
 
-fn space() -> [u8; 1572864]
-    ensures { λ r. ⌜ 1572864 ≡ length r ⌝ }
+fn space() -> [u8; 2097152]
+    ensures { λ r. ⌜ 2097152 ≡ length r ⌝ }
 {
-    [0; 1572864]
+    [0; 2097152]
 }
 
 fn main() {

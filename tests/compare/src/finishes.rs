@@ -3,7 +3,8 @@
 
 use crate::library::{self, Finished};
 use crate::random::Random;
-use crate::reference::bytes::plan_bytes;
+use crate::parts::wrong_plan_length;
+use crate::reference::bytes::{plan_bytes, NOTE_BYTES, PIECE_BYTES};
 use crate::reference::finish::{self, with_shifts, LENGTH_BYTES};
 use crate::reference::packing::TIME;
 use crate::reference::search::{opening, Search, Status};
@@ -85,6 +86,25 @@ const WALKWAY_ROWS: &[(u32, Row)] = &[
     (255, ([256, 1, 1], &[UNIT; 2], &[], &[], &[1], None)),
 ];
 
+/// Rows with pieces that may turn, with the walkway, which pieces may turn, and the marks; worked out by hand. Each length is searched in all choices,
+/// and a choice that is contradictory at once takes one step.
+///
+/// A piece of 2 x 1 for 3 shifts in a hall 1 x 2: in lengths 1 and 2 it is too long either way, in length 3 too wide until it is turned. In a hall
+/// 1 x 1 it is too wide or too deep. Three units in a hall 2 wide, as above, but one shift takes 3 steps in each of eight choices. 2 x 1 and 1 x 2 on
+/// a floor of 2 x 2 have no room beside one another; with the second turned they have, in a turn on y and a step. Two of 2 x 1 with a walkway of 1 on 3 x
+/// 2: only with both turned, 1 + 1 + 1 modules on x. Two of 2 x 1 in a hall 1 x 2, order 0, 1 with lag 2: both are turned, and 1 + 2 + 1 shifts taken.
+const TURN_ROWS: &[(u32, Row, &str, &str)] = &[
+    (0, ([1, 2, 9], &[[2, 1, 3]], &[], &[], &[2, 2, 2], Some(&[[0, 0, 0]])), "1", "1"),
+    (0, ([1, 1, 3], &[[2, 1, 1]], &[], &[], &[2, 2, 2], None), "1", "0"),
+    (0, ([1, 2, 3], &[[2, 1, 1]], &[], &[], &[1, 1, 1], None), "0", "0"),
+    (0, ([2, 1, 4], &[UNIT; 3], &[], &[], &[24, 5], Some(&[[0, 0, 0], [1, 0, 0], [1, 0, 1]])), "111", "000"),
+    (0, ([2, 1, 1], &[UNIT; 3], &[], &[], &[24], None), "111", "000"),
+    (0, ([2, 2, 4], &[[2, 1, 1], [1, 2, 1]], &[], &[], &[3], Some(&[[0, 0, 0], [0, 1, 0]])), "01", "01"),
+    (0, ([2, 2, 4], &[[2, 1, 1], [1, 2, 1]], &[], &[], &[1, 2], Some(&[[0, 0, 0], [0, 0, 1]])), "00", "00"),
+    (1, ([3, 2, 5], &[[2, 1, 2]; 2], &[], &[], &[4, 5], Some(&[[0, 0, 0], [2, 0, 0]])), "11", "11"),
+    (0, ([1, 2, 9], &[[2, 1, 1]; 2], &[(0, 1)], &[2], &[4; 4], Some(&[[0, 0, 0], [0, 0, 3]])), "11", "11"),
+];
+
 /// The searches of lengths 1, 2 and so on, as far as they were taken.
 struct Lengths {
     /// The steps up to the end of each length, 0 for length 0.
@@ -109,7 +129,7 @@ impl Lengths {
             }
             lengths.sums.push(lengths.known);
             if search.checkpoint.status == Status::Packed {
-                lengths.end = Some((Status::Packed, plan_bytes(&search.starts())));
+                lengths.end = Some((Status::Packed, plan_bytes(&search.starts(), &search.marks())));
                 return lengths;
             }
         }
@@ -118,12 +138,12 @@ impl Lengths {
     }
 
     /// By the steps of each length.
-    fn of_row(&(_, _, _, _, steps, starts): &Row) -> Lengths {
+    fn of_row(&(_, _, _, _, steps, starts): &Row, marks: &[u8]) -> Lengths {
         let mut sums = vec![0];
         for &more in steps {
             sums.push(sums[sums.len() - 1] + more);
         }
-        let end = starts.map_or((Status::Infeasible, Vec::new()), |starts| (Status::Packed, plan_bytes(starts)));
+        let end = starts.map_or((Status::Infeasible, Vec::new()), |starts| (Status::Packed, plan_bytes(starts, marks)));
         Lengths { known: sums[sums.len() - 1], sums, end: Some(end) }
     }
 
@@ -174,13 +194,24 @@ fn allowances_by_hand(lengths: &Lengths) -> Vec<u64> {
 }
 
 pub fn by_hand(report: &mut Report) {
-    for (walkway, one) in ROWS.iter().map(|one| (0, one)).chain(WALKWAY_ROWS.iter().map(|(walkway, one)| (*walkway, one))) {
+    let (plain, with_walkway) = (ROWS.iter().map(|one| (0, one, "", "")), WALKWAY_ROWS.iter().map(|(walkway, one)| (*walkway, one, "", "")));
+    let turned = TURN_ROWS.iter().map(|(walkway, one, may_turn, marks)| (*walkway, one, *may_turn, *marks));
+    for (walkway, one, may_turn, marks) in plain.chain(with_walkway).chain(turned) {
         let &(container, items, precedences, lags, _, _) = one;
-        let instance =
-            Instance { container, items: items.to_vec(), precedences: precedences.to_vec(), lags: lags.to_vec(), yard_number: 0, walkway };
-        let (sheet, lengths) = (sheet::encode(&instance), Lengths::of_row(one));
+        let digits = |text: &str| (0..items.len()).map(|item| u8::from(text.as_bytes().get(item) == Some(&b'1'))).collect::<Vec<u8>>();
+        let may_turn = digits(may_turn).iter().map(|&digit| digit == 1).collect();
+        let (items, precedences, lags) = (items.to_vec(), precedences.to_vec(), lags.to_vec());
+        let instance = Instance { container, items: items.clone(), may_turn, precedences, lags, yard_number: 0, walkway };
+        let (sheet, lengths) = (sheet::encode(&instance), Lengths::of_row(one, &digits(marks)));
+        // 8: other lengths of the plan, also 6 bytes a piece
+        for wrong in [6 * items.len(), PIECE_BYTES * items.len() + 1, PIECE_BYTES * (items.len() + 1)] {
+            if wrong != PIECE_BYTES * items.len() {
+                let left = Finished { returned: 108, length: Ok(vec![9; 2]), steps: Ok(vec![9; 4]), plan: Ok(vec![9; wrong]) };
+                report.same("finish: by hand", &Ok(left), &library::finish(&sheet, 3, &[9; 2], &[9; 4], &vec![9; wrong]), || hexadecimal(&sheet));
+            }
+        }
         for allowance in allowances_by_hand(&lengths) {
-            let (length, steps, plan) = ([9; 2], [9; 4], vec![9; 6 * items.len()]);
+            let (length, steps, plan) = ([9; 2], [9; 4], vec![9; PIECE_BYTES * items.len()]);
             let (_, expected) = lengths.expected(allowance, &plan);
             for got in [own(&sheet, allowance as u32, &length, &steps, &plan), library::finish(&sheet, allowance as u32, &length, &steps, &plan)] {
                 report.same("finish: by hand", &Ok(expected.clone()), &got, || input(&sheet, allowance as u32, &length, &steps, &plan));
@@ -215,19 +246,19 @@ pub fn call(report: &mut Report, kind: &'static str, sheet: &[u8], allowance: u3
 /// A call that is refused for the length of a buffer.
 fn refused_call(report: &mut Report, random: &mut Random, sheet: &[u8], items: usize) {
     let spoilt = random.between(1, 7);
-    let mut lengths = [LENGTH_BYTES, 4, 6 * items];
+    let mut lengths = [LENGTH_BYTES, 4, PIECE_BYTES * items];
     if spoilt & 1 != 0 {
-        lengths[0] = random.pick(&[0, 1, 3, 4, 273]);
+        lengths[0] = random.pick(&[0, 1, 3, 4, NOTE_BYTES]);
     }
     if spoilt & 2 != 0 {
         lengths[1] = random.pick(&[0, 2, 3, 5, 8]);
     }
     if spoilt & 4 != 0 {
-        lengths[2] = random.pick(&[6 * items + 1, 6 * items + 6, 60, (6 * items).saturating_sub(1), 0]);
+        lengths[2] = wrong_plan_length(random, items);
     }
     let [length, steps, plan] = lengths.map(|len| bytes(random, len));
     let allowance = random.pick(&[0, 1, 7]);
-    if lengths != [LENGTH_BYTES, 4, 6 * items] {
+    if lengths != [LENGTH_BYTES, 4, PIECE_BYTES * items] {
         call(report, "finish: refused for a length", sheet, allowance, &length, &steps, &plan);
     }
 }
@@ -261,7 +292,7 @@ pub fn finishes(report: &mut Report, random: &mut Random, instance: &Instance, m
     report.add("finish: lengths decided", lengths.sums.len() as u64 - 1);
     report.count(if lengths.end.is_some() { "finish: sheets taken to their answer" } else { "finish: sheets not taken to their answer" });
     for allowance in lengths.allowances(random) {
-        let [length, steps, plan] = [LENGTH_BYTES, 4, 6 * items].map(|len| bytes(random, len));
+        let [length, steps, plan] = [LENGTH_BYTES, 4, PIECE_BYTES * items].map(|len| bytes(random, len));
         let (kind, expected) = lengths.expected(allowance, &plan);
         let got = library::finish(&sheet, allowance as u32, &length, &steps, &plan);
         report.same(kind, &Ok(expected), &got, || input(&sheet, allowance as u32, &length, &steps, &plan));
@@ -269,7 +300,7 @@ pub fn finishes(report: &mut Report, random: &mut Random, instance: &Instance, m
     refused_call(report, random, &sheet, items);
     // The claim above and the lengths one after another, both by the independent implementation; and the plan fits.
     let allowance = random.below(lengths.known as usize + 1) as u32;
-    call(report, "finish: by the lengths in turn", &sheet, allowance, &[7; 2], &[7; 4], &vec![7; 6 * items]);
+    call(report, "finish: by the lengths in turn", &sheet, allowance, &[7; 2], &[7; 4], &vec![7; PIECE_BYTES * items]);
     if let Some((Status::Packed, packed)) = &lengths.end {
         let shortened = sheet::encode(&with_shifts(&instance, lengths.sums.len() as u32 - 1));
         for sheet in [&sheet, &shortened] {

@@ -1,4 +1,4 @@
-//! The bytes in which the crate `test_exports` takes a value: 355 of them. Numbers have the low byte first.
+//! The bytes in which the crate `test_exports` takes a value, 365 of them, and a packing, 70. Numbers have the low byte first.
 //!
 //! | place | bytes | what |
 //! |---|---|---|
@@ -9,11 +9,15 @@
 //! | 82 | 270 | ninety orders, 3 bytes each: u, v and the lag; order i at 82 + 3 i |
 //! | 352 | 2 | the yard number |
 //! | 354 | 1 | the walkway |
+//! | 355 | 10 | for each of ten items 1 where it may turn, else 0 |
+//!
+//! A packing is ten positions, 6 bytes each: x, y, t; then, from place 60 on, ten marks.
 
+use crate::reference::packing::Position;
 use crate::reference::sheet::{MOST_ITEMS, MOST_PRECEDENCES};
 use crate::reference::value::Value;
 
-pub const VALUE_BYTES: usize = 355;
+pub const VALUE_BYTES: usize = 365;
 
 fn words(numbers: &[u32]) -> impl Iterator<Item = u8> + '_ {
     numbers.iter().flat_map(|&number| (number as u16).to_le_bytes())
@@ -28,6 +32,7 @@ pub fn value_bytes(value: &Value) -> Vec<u8> {
     bytes.extend(value.precedences.iter().zip(&value.lags).flat_map(|(&(u, v), &lag)| [u as u8, v as u8, lag as u8]));
     bytes.extend(words(&[value.yard_number]));
     bytes.push(value.walkway as u8);
+    bytes.extend(value.may_turn.map(|may_turn| may_turn as u8));
     assert_eq!(bytes.len(), VALUE_BYTES);
     bytes
 }
@@ -48,10 +53,22 @@ pub fn value_of(bytes: &[u8]) -> Value {
         container: size(&bytes[..6]),
         item_count: number(&bytes[6..14]),
         items: std::array::from_fn::<_, MOST_ITEMS, _>(|i| size(&bytes[items + 6 * i..])),
+        may_turn: std::array::from_fn::<_, MOST_ITEMS, _>(|i| bytes[355 + i] != 0),
         precedence_count: number(&bytes[74..82]),
         precedences: std::array::from_fn::<_, MOST_PRECEDENCES, _>(|i| (order(i)[0] as usize, order(i)[1] as usize)),
         lags: std::array::from_fn::<_, MOST_PRECEDENCES, _>(|i| order(i)[2] as u32),
         yard_number: number(&bytes[352..354]) as u32,
         walkway: bytes[354] as u32,
     }
+}
+
+/// The bytes of a packing.
+pub fn packing_bytes(positions: &[Position], marks: &[u8]) -> Vec<u8> {
+    assert_eq!((positions.len(), marks.len()), (MOST_ITEMS, MOST_ITEMS));
+    positions.iter().flat_map(|position| words(position)).chain(marks.iter().copied()).collect()
+}
+
+/// The positions and marks that such bytes hold.
+pub fn packing_of(bytes: &[u8]) -> (Vec<Position>, Vec<u8>) {
+    ((0..MOST_ITEMS).map(|i| size(&bytes[6 * i..])).collect(), bytes[60..70].to_vec())
 }

@@ -103,8 +103,10 @@ fn all_cases(report: &mut Report, options: &Options, began: Instant) {
     table::lags(report);
     table::greatest(report);
     table::walkways(report);
+    table::turning(report);
     values::by_hand(report);
     values::walkways_by_hand(report);
+    values::marks_by_hand(report);
     if let Some(file) = &options.sheets {
         let text = std::fs::read_to_string(file).expect("the file of sheets");
         table::from_file(report, &text, options.most_steps);
@@ -119,6 +121,7 @@ fn all_cases(report: &mut Report, options: &Options, began: Instant) {
         tiny::all(report, &mut random);
         tiny::with_lags(report, &mut random);
         tiny::with_walkways(report, &mut random);
+        tiny::with_turning(report, &mut random);
     }
     for case in 0.. {
         let due = options.whole && (report.counted(SMALL) < WHOLE_SMALL || report.counted(LARGE) < WHOLE_LARGE);

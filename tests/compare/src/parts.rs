@@ -3,10 +3,11 @@
 use crate::finishes;
 use crate::library::{self, Searched};
 use crate::random::{self, Random};
-use crate::reference::bytes::{self, note_bytes, plan_bytes, NOTE_BYTES};
+use crate::reference::bytes::{self, note_bytes, plan_bytes, CHOICE_AT, NOTE_BYTES, PIECE_BYTES};
 use crate::reference::packing;
-use crate::reference::search::{opening, Branch, Look, Search, Status};
+use crate::reference::search::{opening, Branch, Checkpoint, Look, Search, Status};
 use crate::reference::sheet::{self, Instance, Refusal};
+use crate::reference::turning::{last_choice, turned};
 use crate::report::{hexadecimal, Report};
 use crate::values;
 
@@ -24,7 +25,7 @@ pub fn reading(report: &mut Report, kind: &'static str, sheet: &[u8]) {
     }
     let kind = if read.is_ok() { "pieces: their number" } else { "pieces: refused" };
     report.same(kind, &Ok(bytes::pieces(sheet)), &library::pieces(sheet), || hexadecimal(sheet));
-    let plan = vec![0; 6 * read.as_ref().map_or(1, |instance| instance.items.len())];
+    let plan = vec![0; PIECE_BYTES * read.as_ref().map_or(1, |instance| instance.items.len())];
     check(report, sheet, &plan);
     if read.is_err() {
         // "the sheet's refusals come first", also where a length is wrong
@@ -41,6 +42,7 @@ pub fn check(report: &mut Report, sheet: &[u8], plan: &[u8]) {
     let kind = match expected {
         0 => "checks: no",
         1 => "checks: yes",
+        113 => "checks: refused by 13",
         _ => "checks: refused",
     };
     report.same(kind, &Ok(expected), &library::check(sheet, plan), || {
@@ -50,9 +52,10 @@ pub fn check(report: &mut Report, sheet: &[u8], plan: &[u8]) {
 
 fn search_input(sheet: &[u8], note: &[u8], allowance: u32, steps: &[u8], plan: &[u8]) -> String {
     format!(
-        "sheet {} note {} ({} bytes) allowance {allowance} steps {} plan {}",
+        "sheet {} note {}..{} ({} bytes) allowance {allowance} steps {} plan {}",
         hexadecimal(sheet),
         hexadecimal(&note[..note.len().min(40)]),
+        hexadecimal(&note[note.len().saturating_sub(2)..]),
         note.len(),
         hexadecimal(steps),
         hexadecimal(plan)
@@ -107,24 +110,76 @@ pub struct Run {
 }
 
 impl Run {
+    /// At most so many steps, and beside them the choices that are contradictory at once.
     pub fn new(instance: &Instance, most_steps: usize) -> Run {
         let mut search = Search::resume(instance, &opening()).expect("the opening follows every instance");
         let mut notes = vec![note_bytes(&search.checkpoint)];
-        while search.checkpoint.status == Status::Open && notes.len() <= most_steps {
+        let mut left = most_steps;
+        while search.checkpoint.status == Status::Open && left > 0 {
+            left -= usize::from(!(search.checkpoint.path.is_empty() && search.look() == Look::Inconsistent));
             search.step();
             notes.push(note_bytes(&search.checkpoint));
         }
         let end = match search.checkpoint.status {
             Status::Open => None,
             Status::Infeasible => Some((Status::Infeasible, Vec::new())),
-            Status::Packed => Some((Status::Packed, plan_bytes(&search.starts()))),
+            Status::Packed => Some((Status::Packed, plan_bytes(&search.starts(), &search.marks()))),
         };
         Run { notes, end }
+    }
+
+    /// The choice of the last note.
+    pub fn choice(&self) -> u32 {
+        let note = &self.notes[self.notes.len() - 1];
+        u32::from(note[CHOICE_AT]) + 256 * u32::from(note[CHOICE_AT + 1])
     }
 
     /// The steps taken: the step count, where the run ended.
     pub fn steps(&self) -> u64 {
         self.notes.len() as u64 - 1
+    }
+}
+
+impl Run {
+    /// What a call has to return and leave that takes the run from one number of steps to another, at most those known.
+    fn expected(&self, from: u64, to: u64, plan: &[u8]) -> (&'static str, Searched) {
+        let mut expected = Searched {
+            returned: 0,
+            note: Ok(self.notes[to as usize].clone()),
+            steps: Ok(((to - from) as u32).to_le_bytes().to_vec()),
+            plan: Ok(plan.to_vec()),
+        };
+        let kind = match &self.end {
+            Some((status, packed)) if to == self.steps() => {
+                if *status == Status::Packed {
+                    expected.returned = 1;
+                    expected.plan = Ok(packed.clone());
+                    "calls in lists: placed"
+                } else {
+                    expected.returned = 2;
+                    "calls in lists: none"
+                }
+            }
+            _ => "calls in lists: spent",
+        };
+        (kind, expected)
+    }
+}
+
+/// Lists of two calls, split after each number of steps, or after at most so many of them by chance; the second takes the rest.
+pub fn split_lists(report: &mut Report, random: &mut Random, sheet: &[u8], items: usize, run: &Run, most: u64) {
+    let known = run.steps();
+    let points: Vec<u64> = if known < most { (0..=known).collect() } else { (0..most).map(|_| random.below(known as usize + 1) as u64).collect() };
+    let plan = vec![random.byte(); PIECE_BYTES * items];
+    for split in points {
+        for (from, to) in [(0, split), (split, known)] {
+            let (_, expected) = run.expected(from, to, &plan);
+            let (note, allowance) = (&run.notes[from as usize], (to - from) as u32);
+            let got = library::search(sheet, note, allowance, &[9; 4], &plan);
+            if !report.same("calls in lists split at each step", &Ok(expected), &got, || search_input(sheet, note, allowance, &[9; 4], &plan)) {
+                return;
+            }
+        }
     }
 }
 
@@ -156,27 +211,9 @@ pub fn list_of_calls(report: &mut Report, random: &mut Random, sheet: &[u8], ite
         let before = sum.min(known);
         sum += allowance;
         let after = sum.min(known);
-        let plan: Vec<u8> = (0..6 * items).map(|_| random.byte()).collect();
+        let plan: Vec<u8> = (0..PIECE_BYTES * items).map(|_| random.byte()).collect();
         let steps = [random.byte(), random.byte(), random.byte(), random.byte()];
-        let mut expected = Searched {
-            returned: 0,
-            note: Ok(run.notes[after as usize].clone()),
-            steps: Ok(((after - before) as u32).to_le_bytes().to_vec()),
-            plan: Ok(plan.clone()),
-        };
-        let kind = match &run.end {
-            Some((status, packed)) if sum >= known => {
-                if *status == Status::Packed {
-                    expected.returned = 1;
-                    expected.plan = Ok(packed.clone());
-                    "calls in lists: placed"
-                } else {
-                    expected.returned = 2;
-                    "calls in lists: none"
-                }
-            }
-            _ => "calls in lists: spent",
-        };
+        let (kind, expected) = run.expected(before, after, &plan);
         let got = library::search(sheet, &note, allowance as u32, &steps, &plan);
         let input = || search_input(sheet, &note, allowance as u32, &steps, &plan);
         if !report.same(kind, &Ok(expected), &got, input) {
@@ -187,24 +224,29 @@ pub fn list_of_calls(report: &mut Report, random: &mut Random, sheet: &[u8], ite
     }
 }
 
+/// Mostly another length than a plan of so many items has.
+pub fn wrong_plan_length(random: &mut Random, items: usize) -> usize {
+    let due = PIECE_BYTES * items;
+    random.pick(&[due + 1, due + PIECE_BYTES, 6 * items, 60, 70, due.saturating_sub(1), 0])
+}
+
 /// A call that is refused for the length of a buffer.
 pub fn refused_call(report: &mut Report, random: &mut Random, sheet: &[u8], items: usize, note: &[u8]) {
     let mut note = note.to_vec();
     let mut steps = vec![random.byte(); 4];
-    let mut plan = vec![random.byte(); 6 * items];
+    let mut plan = vec![random.byte(); PIECE_BYTES * items];
     let spoilt = random.between(1, 7);
     if spoilt & 1 != 0 {
-        note.resize(random.pick(&[272, 274, 0, 3, 270]), 0);
+        note.resize(random.pick(&[274, 276, 273, 0, 3, 270]), 0);
     }
     if spoilt & 2 != 0 {
         steps.resize(random.pick(&[0, 1, 3, 5, 8]), 77);
     }
     if spoilt & 4 != 0 {
-        let wrong = [6 * items + 1, 6 * items + 6, 60, (6 * items).saturating_sub(1), 0];
-        plan.resize(random.pick(&wrong), 88);
+        plan.resize(wrong_plan_length(random, items), 88);
     }
     let allowance = random.pick(&[0, 1, 7, u32::MAX]);
-    if note.len() != NOTE_BYTES || steps.len() != 4 || plan.len() != 6 * items {
+    if note.len() != NOTE_BYTES || steps.len() != 4 || plan.len() != PIECE_BYTES * items {
         search(report, "calls refused for a length", sheet, &note, allowance, &steps, &plan);
     }
 }
@@ -235,16 +277,19 @@ pub fn checkpoints(report: &mut Report, random: &mut Random, sheet: &[u8], insta
         longer[1..3].copy_from_slice(&(new as u16).to_le_bytes());
         candidates.push(("notes with another length", longer));
     }
+    candidates.extend(other_choices(random, instance, &[&on_run, &off_run]));
     candidates.push(("notes off the run", off_run));
     let another = random::instance(random, items);
     candidates.push(("notes from another sheet", note_off_run(random, &another)));
+    let other_pieces = Instance { may_turn: (0..items).map(|_| random.one_in(2)).collect(), ..instance.clone() };
+    candidates.push(("notes from the sheet with other pieces that may turn", note_off_run(random, &other_pieces)));
     if instance.walkway > 0 {
         candidates.push(("notes from the sheet without its walkway", note_off_run(random, &Instance { walkway: 0, ..instance.clone() })));
     }
     for (kind, note) in candidates {
         let budget = random.pick(budgets);
         let steps = [random.byte(); 4];
-        let plan = vec![random.byte(); 6 * items];
+        let plan = vec![random.byte(); PIECE_BYTES * items];
         let returned = search(report, kind, sheet, &note, budget, &steps, &plan);
         if returned == 110 {
             report.count("notes refused by 10");
@@ -256,9 +301,43 @@ pub fn checkpoints(report: &mut Report, random: &mut Random, sheet: &[u8], insta
     }
 }
 
-/// A note whose shorter beginnings are forks, by chance.
+fn with_choice(note: &[u8], choice: u32) -> Vec<u8> {
+    let mut other = note.to_vec();
+    other[CHOICE_AT..].copy_from_slice(&(choice as u16).to_le_bytes());
+    other
+}
+
+/// Notes with another choice: any up to the last, about the last, with bits of the high byte; and none notes, open ones and placed ones with an empty
+/// row, of such a choice.
+fn other_choices(random: &mut Random, instance: &Instance, notes: &[&Vec<u8>]) -> Vec<(&'static str, Vec<u8>)> {
+    let last = last_choice(instance);
+    let mut candidates = Vec::new();
+    for note in notes {
+        let any = random.below(last as usize + 1) as u32;
+        let bit = 1 << random.below(16);
+        let own = u32::from(note[CHOICE_AT]) + 256 * u32::from(note[CHOICE_AT + 1]);
+        let other = random.pick(&[any, any, last, 0, own ^ 1, own.wrapping_sub(1) & 0xFFFF, own + 1]);
+        let beyond = random.pick(&[last + 1, last + 2, 2 * last + 1, 65535, last | 256, last | 512, last + 1024, own | bit]);
+        for choice in [other, beyond] {
+            candidates.push((if choice > last { "notes with a choice beyond the last" } else { "notes with another choice" }, with_choice(note, choice)));
+        }
+        let mut finished = vec![0; NOTE_BYTES];
+        finished[0] = random.pick(&[1, 1, 1, 0, 2]);
+        let choice = random.pick(&[last, last, 0, any, last.saturating_sub(1), last + 1, own ^ bit, 65535]);
+        let kind = match (finished[0], choice == last) {
+            (1, true) => "none notes with the last choice",
+            (1, false) => "none notes with another choice than the last",
+            _ => "notes with an empty row and any choice",
+        };
+        candidates.push((kind, with_choice(&finished, choice)));
+    }
+    candidates
+}
+
+/// A note of any choice whose shorter beginnings are forks, by chance.
 fn note_off_run(random: &mut Random, instance: &Instance) -> Vec<u8> {
-    let mut search = Search::resume(instance, &opening()).expect("the opening follows every instance");
+    let choice = random.below(last_choice(instance) as usize + 1) as u32;
+    let mut search = Search::resume(instance, &Checkpoint { choice, ..opening() }).expect("an empty row follows every choice");
     let most = random.below(30);
     while let Look::Fork { .. } = search.look() {
         if search.checkpoint.path.len() >= most {
@@ -283,12 +362,17 @@ fn about_a_lag(random: &mut Random, instance: &Instance, packed: &[u8]) -> Vec<V
     let over = positions[u][packing::TIME] + instance.items[u][packing::TIME] + lag;
     let mut with = |start: u32| {
         positions[v][packing::TIME] = start;
-        plan_bytes(&positions)
+        plan_bytes(&positions, &bytes::marks_of(packed))
     };
     vec![with(over - 1), with(over), with(over + 1)]
 }
 
-/// Plans near a packed one, and by chance.
+/// Marks that may stand, by chance.
+pub fn some_marks(random: &mut Random, may_turn: &[bool]) -> Vec<u8> {
+    may_turn.iter().map(|&may_turn| u8::from(may_turn && random.one_in(2))).collect()
+}
+
+/// Plans near a packed one, and by chance; with other marks.
 pub fn plans(report: &mut Report, random: &mut Random, sheet: &[u8], instance: &Instance, run: &Run) {
     let items = instance.items.len();
     let mut candidates: Vec<Vec<u8>> = Vec::new();
@@ -296,7 +380,7 @@ pub fn plans(report: &mut Report, random: &mut Random, sheet: &[u8], instance: &
         candidates.push(packed.clone());
         for _ in 0..3.min(items) {
             let mut moved = packed.clone();
-            let place = 2 * random.below(3 * items);
+            let place = PIECE_BYTES * random.below(items) + 2 * random.below(3);
             let start = u16::from_le_bytes([moved[place], moved[place + 1]]);
             let start = if random.one_in(2) { start.wrapping_add(1) } else { start.wrapping_sub(1) };
             moved[place..place + 2].copy_from_slice(&start.to_le_bytes());
@@ -309,25 +393,37 @@ pub fn plans(report: &mut Report, random: &mut Random, sheet: &[u8], instance: &
         for (position, size) in reversed.iter_mut().zip(&instance.items) {
             position[packing::TIME] = instance.container[packing::TIME] - position[packing::TIME] - size[packing::TIME];
         }
-        candidates.push(plan_bytes(&reversed));
+        candidates.push(plan_bytes(&reversed, &bytes::marks_of(packed)));
     }
     if let Some((Status::Packed, packed)) = &run.end {
         candidates.extend(about_a_lag(random, instance, packed));
     }
     let mut positions = vec![[0u32; 3]; items];
+    let marks = some_marks(random, &instance.may_turn);
+    let sizes = turned(instance, &marks).items;
     for (item, position) in positions.iter_mut().enumerate() {
         for axis in 0..3 {
-            let room = instance.container[axis].saturating_sub(instance.items[item][axis]);
+            let room = instance.container[axis].saturating_sub(sizes[item][axis]);
             position[axis] = random.below(room as usize + 1) as u32;
         }
     }
-    candidates.push(plan_bytes(&positions));
-    candidates.push(vec![255; 6 * items]);
-    for plan in candidates {
+    candidates.push(plan_bytes(&positions, &marks));
+    candidates.push(plan_bytes(&vec![[65535; 3]; items], &marks));
+    candidates.push(vec![255; PIECE_BYTES * items]);
+    for plan in candidates.clone() {
         check(report, sheet, &plan);
     }
-    let wrong = random.pick(&[6 * items + 1, 6 * items + 6, (6 * items).saturating_sub(1), 0, 60]);
-    check(report, sheet, &vec![0; wrong]);
+    // The same with another mark: turned or not, where it may turn and where it may not; 2, 255, any.
+    for mut plan in candidates {
+        if items > 0 {
+            let (piece, any) = (random.below(items), random.byte());
+            let mark = &mut plan[PIECE_BYTES * piece + 6];
+            *mark = random.pick(&[*mark ^ 1, *mark ^ 1, 1, 2, 255, any]);
+            check(report, sheet, &plan);
+        }
+    }
+    let wrong = wrong_plan_length(random, items);
+    check(report, sheet, &vec![random.pick(&[0, 0, 2]); wrong]);
 }
 
 /// The bytes of a sheet damaged, cut and extended.
@@ -349,7 +445,7 @@ pub fn damaged_sheets(report: &mut Report, random: &mut Random, sheet: &[u8], da
             2 => damaged[place].wrapping_add(1),
             3 => damaged[place].wrapping_sub(1),
             4 => 0,
-            _ => random.pick(&[1, 2, 7, 8, 10, 11, 90, 91, 255]),
+            _ => random.pick(&[1, 2, 7, 8, 9, 10, 11, 15, 16, 24, 90, 91, 255]),
         };
         reading(report, "sheets with one byte changed", &damaged);
         if random.one_in(4) {
@@ -437,6 +533,8 @@ pub fn near_a_walkway(report: &mut Report, random: &mut Random, instance: &Insta
     }
     let (u, v) = (random.below(instance.items.len()), random.below(instance.items.len()));
     let items = vec![instance.items[u], instance.items[v]];
+    let may_turn = vec![random.one_in(2), random.one_in(2)];
+    let marks = some_marks(random, &may_turn);
     let byte = random.byte() as u32;
     let walkway = random.pick(&[instance.walkway, instance.walkway, 1, 2, 255, byte]);
     let (first, second) = random.pick(&[(0, 1), (1, 0)]);
@@ -461,8 +559,10 @@ pub fn near_a_walkway(report: &mut Report, random: &mut Random, instance: &Insta
         container[axis] -= 1;
     }
     if container.iter().all(|&measure| (1..=sheet::GREATEST_MEASURE).contains(&measure)) {
-        let sheet = sheet::encode(&Instance { container, items, precedences: vec![], lags: vec![], yard_number: 0, walkway });
-        let plan = plan_bytes(&positions);
+        // The measures above are those of the plan: an item that it turns stands on the sheet the other way round.
+        let as_turned = Instance { container, items, may_turn, precedences: vec![], lags: vec![], yard_number: 0, walkway };
+        let sheet = sheet::encode(&turned(&as_turned, &marks));
+        let plan = plan_bytes(&positions, &marks);
         report.count(if bytes::check(&sheet, &plan) == 1 { "checks near a walkway: yes" } else { "checks near a walkway: no" });
         check(report, &sheet, &plan);
     }
@@ -498,6 +598,11 @@ pub fn everything(report: &mut Report, random: &mut Random, instance: &Instance,
         near_a_walkway(report, random, instance);
     }
     report.count(if instance.walkway > 0 { "instances with a walkway" } else { "instances without a walkway" });
+    report.count(match instance.may_turn.iter().filter(|&&may_turn| may_turn).count() {
+        0 => "instances without pieces that may turn",
+        1..=8 => "instances with pieces that may turn, up to eight",
+        _ => "instances with nine or ten pieces that may turn",
+    });
     report.count(match instance.lags.iter().max() {
         None => "instances without orders",
         Some(0) => "instances with orders, without lags",
@@ -510,11 +615,19 @@ pub fn everything(report: &mut Report, random: &mut Random, instance: &Instance,
         Some(_) => "runs none",
         None => "runs not taken to their end",
     });
+    report.count(match run.choice() {
+        0 => "runs that stay in choice 0",
+        1..=255 => "runs that cross choices",
+        _ => "runs that come to choices above 255",
+    });
     for _ in 0..2 {
         list_of_calls(report, random, &sheet, items, &run, false);
     }
-    if run.steps() < 60 && random.one_in(8) {
+    if run.steps() < 60 && random.one_in(if run.choice() > 0 { 2 } else { 8 }) {
         list_of_calls(report, random, &sheet, items, &run, true);
+    }
+    if run.choice() > 0 && random.one_in(4) {
+        split_lists(report, random, &sheet, items, &run, if items > 6 { 8 } else { 60 });
     }
     checkpoints(report, random, &sheet, instance, &run);
     plans(report, random, &sheet, instance, &run);

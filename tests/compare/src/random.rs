@@ -135,7 +135,35 @@ pub fn instance(random: &mut Random, items: usize) -> Instance {
         }
         walkway = (walkway * factor).min(255);
     }
-    Instance { container, items: sizes, precedences, lags, yard_number, walkway }
+    let may_turn = may_turn(random, &mut sizes);
+    Instance { container, items: sizes, may_turn, precedences, lags, yard_number, walkway }
+}
+
+/// Which items may turn: none in a third of the instances; one, some, all but one, all. Of those that may, some are put the other way round, so that
+/// they often fit only turned: any of them, the last ones, so that the choices in which they are turned are late, or none.
+fn may_turn(random: &mut Random, sizes: &mut [[u32; 3]]) -> Vec<bool> {
+    let items = sizes.len();
+    let mut may_turn = vec![false; items];
+    if items == 0 || random.one_in(3) {
+        return may_turn;
+    }
+    let one = random.below(items);
+    match if items > 8 { random.between(2, 4) } else { random.below(5) } {
+        0 => may_turn[one] = true,
+        1 | 2 => may_turn.iter_mut().for_each(|may_turn| *may_turn = random.one_in(2)),
+        way => {
+            may_turn.fill(true);
+            may_turn[one] = way == 3;
+        }
+    }
+    let way = if items > 8 { random.below(2) } else { random.below(3) };
+    let late = items - random.between(1, items.min(2));
+    for item in (0..items).filter(|&item| may_turn[item]) {
+        if way == 0 && random.one_in(2) || way == 1 && item >= late {
+            sizes[item].swap(0, 1);
+        }
+    }
+    may_turn
 }
 
 /// A walkway, 0 in half of the instances: 1, small, about what is left beside two items, any, 255. Where it is not 0, the hall often gets a wider

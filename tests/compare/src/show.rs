@@ -27,7 +27,8 @@ fn print_step(search: &Search, taken: u32) {
         Status::Infeasible => "none",
         Status::Packed => "placed",
     };
-    println!("step {taken}: {state}, row{}", if row.is_empty() { " empty" } else { &row });
+    let choice = search.checkpoint.choice;
+    println!("step {taken}: {state}, choice {choice}, row{}", if row.is_empty() { " empty" } else { &row });
     if search.checkpoint.status == Status::Open {
         print_domains(search);
     }
@@ -56,14 +57,14 @@ pub fn run(bytes: &[u8], most_steps: u32, steps: bool) {
         Status::Infeasible => println!("none {taken}"),
         Status::Packed => {
             println!("placed {taken}");
-            print_positions(&search.starts());
+            print_plan(&search.starts(), &search.marks());
         }
     }
 }
 
-fn print_positions(positions: &[Position]) {
-    for (item, [x, y, t]) in positions.iter().enumerate() {
-        println!("{item} {x} {y} {t}");
+fn print_plan(positions: &[Position], marks: &[u8]) {
+    for (item, ([x, y, t], mark)) in positions.iter().zip(marks).enumerate() {
+        println!("{item} {x} {y} {t} {mark}");
     }
 }
 
@@ -79,8 +80,8 @@ pub fn finish(sheet: &[u8], allowance: u32) {
         Status::Infeasible => println!("none {}", answer.steps),
         Status::Packed => {
             println!("placed {} {}", answer.length, answer.steps);
-            print_positions(&answer.positions);
-            println!("check {}", bytes::check(sheet, &bytes::plan_bytes(&answer.positions)));
+            print_plan(&answer.positions, &answer.marks);
+            println!("check {}", bytes::check(sheet, &bytes::plan_bytes(&answer.positions, &answer.marks)));
         }
     }
 }

@@ -35,7 +35,13 @@ fn write(value: &[u8], room: &mut [u8]) -> Result<usize, sheet::Refusal> {
 }
 
 fn clearance(value: &[u8], plan: &[u8], u: usize, v: usize, axis: u8) -> Result<i64, sheet::Refusal> {
-    value::clearance(&layout::value_of(value), &bytes::positions_of(plan), u, v, axis as usize)
+    let (positions, marks) = layout::packing_of(plan);
+    value::clearance(&layout::value_of(value), &positions, &marks, u, v, axis as usize)
+}
+
+fn check(value: &[u8], plan: &[u8]) -> u32 {
+    let (positions, marks) = layout::packing_of(plan);
+    value::check(&layout::value_of(value), &positions, &marks)
 }
 
 /// What each function returns, of its arguments; a pointer and a length stand side by side.
@@ -56,9 +62,7 @@ macro_rules! body {
     (exports_record_byte $s:ident $sl:ident $item:ident $i:ident) => {
         sheet::item_record(lent($s, $sl), $item).unwrap_or(&[]).get($i).map_or(256, |&byte| byte as u32)
     };
-    (exports_check $s:ident $sl:ident $p:ident $pl:ident) => {
-        value::check(&layout::value_of(lent($s, $sl)), &bytes::positions_of(lent($p, $pl)))
-    };
+    (exports_check $s:ident $sl:ident $p:ident $pl:ident) => { check(lent($s, $sl), lent($p, $pl)) };
     (exports_write $s:ident $sl:ident $r:ident $rl:ident) => { write(lent($s, $sl), lent_mut($r, $rl)).unwrap_or(0) };
     (exports_write_number $s:ident $sl:ident $r:ident $rl:ident) => { number(write(lent($s, $sl), lent_mut($r, $rl))) };
     (exports_write_place $s:ident $sl:ident $r:ident $rl:ident) => { place(write(lent($s, $sl), lent_mut($r, $rl))) };

@@ -1,17 +1,22 @@
-//! Tiny containers, where all positions are tried one after another, module by module and shift by shift: none exactly when none fits, and the
-//! earliest finish is the first length in which some fit.
+//! Tiny containers, where all positions are tried one after another, with all ways to turn the items that may, module by module and shift by shift:
+//! none exactly when none fits, and the earliest finish is the first length in which some fit.
 
 use crate::library;
+use crate::parts::some_marks;
 use crate::random::Random;
-use crate::reference::bytes::{plan_bytes, positions_of, NOTE_BYTES};
+use crate::reference::bytes::{marks_of, plan_bytes, positions_of, NOTE_BYTES, PIECE_BYTES};
 use crate::reference::finish::with_shifts;
 use crate::reference::packing::{is_feasible, Position};
 use crate::reference::sheet::{self, Instance};
+use crate::reference::turning::{judge_marks, turned};
 use crate::report::{hexadecimal, Report};
 
-/// The modules and shifts that an item takes up.
-fn cells(instance: &Instance, positions: &[Position], item: usize) -> Vec<Position> {
-    let ([x, y, t], [width, depth, shifts]) = (positions[item], instance.items[item]);
+/// The modules and shifts that an item takes up; where it is turned, its width along y and its depth along x.
+fn cells(instance: &Instance, positions: &[Position], marks: &[u8], item: usize) -> Vec<Position> {
+    let ([x, y, t], [mut width, mut depth, shifts]) = (positions[item], instance.items[item]);
+    if marks[item] == 1 {
+        (width, depth) = (depth, width);
+    }
     let mut cells = Vec::new();
     for dx in 0..width {
         for dy in 0..depth {
@@ -23,8 +28,8 @@ fn cells(instance: &Instance, positions: &[Position], item: usize) -> Vec<Positi
 
 /// Fit by cells: each in the hall; of two items in the same shift, no two modules with fewer than the walkway's between them on x and on y, which
 /// without a walkway is no module twice; and so many shifts as the lag between the last of u and the first of v.
-fn fits_by_cells(instance: &Instance, positions: &[Position]) -> bool {
-    let all: Vec<Vec<Position>> = (0..instance.items.len()).map(|item| cells(instance, positions, item)).collect();
+fn fits_by_cells(instance: &Instance, positions: &[Position], marks: &[u8]) -> bool {
+    let all: Vec<Vec<Position>> = (0..instance.items.len()).map(|item| cells(instance, positions, marks, item)).collect();
     let inside = all.iter().flatten().all(|cell| (0..3).all(|axis| cell[axis] < instance.container[axis]));
     let close = |a: &Position, b: &Position| a[2] == b[2] && a[0].abs_diff(b[0]) <= instance.walkway && a[1].abs_diff(b[1]) <= instance.walkway;
     let apart = |u: usize, v: usize| !all[u].iter().any(|a| all[v].iter().any(|b| close(a, b)));
@@ -34,19 +39,31 @@ fn fits_by_cells(instance: &Instance, positions: &[Position]) -> bool {
         && instance.precedences.iter().zip(&instance.lags).all(|(&(u, v), &lag)| waits(u, v, lag))
 }
 
-fn some_position_fits(instance: &Instance, positions: &mut Vec<Position>) -> bool {
-    if positions.len() == instance.items.len() {
-        return fits_by_cells(instance, positions);
+fn some_position_fits(instance: &Instance) -> bool {
+    let (mut positions, mut marks) = (Vec::new(), Vec::new());
+    some_rest_fits(instance, &mut positions, &mut marks)
+}
+
+/// With the first items where they are.
+fn some_rest_fits(instance: &Instance, positions: &mut Vec<Position>, marks: &mut Vec<u8>) -> bool {
+    let item = positions.len();
+    if item == instance.items.len() {
+        return fits_by_cells(instance, positions, marks);
     }
     let [width, depth, shifts] = instance.container;
+    let ways: &[u8] = if instance.may_turn[item] { &[0, 1] } else { &[0] };
     for x in 0..width {
         for y in 0..depth {
             for t in 0..shifts {
-                positions.push([x, y, t]);
-                let found = some_position_fits(instance, positions);
-                positions.pop();
-                if found {
-                    return true;
+                for &mark in ways {
+                    positions.push([x, y, t]);
+                    marks.push(mark);
+                    let found = some_rest_fits(instance, positions, marks);
+                    positions.pop();
+                    marks.pop();
+                    if found {
+                        return true;
+                    }
                 }
             }
         }
@@ -58,8 +75,9 @@ fn one(report: &mut Report, instance: &Instance) {
     report.count(if instance.lags.iter().any(|&lag| lag > 0) { "tiny halls: with lags" } else { "tiny halls: without lags" });
     report.count(if instance.walkway > 0 { "tiny halls: with a walkway" } else { "tiny halls: without a walkway" });
     let sheet = sheet::encode(instance);
-    let fits = some_position_fits(instance, &mut Vec::new());
-    let plan = vec![0; 6 * instance.items.len()];
+    report.count(if instance.may_turn.contains(&true) { "tiny halls: with pieces that may turn" } else { "tiny halls: without pieces that may turn" });
+    let fits = some_position_fits(instance);
+    let plan = vec![0; PIECE_BYTES * instance.items.len()];
     let got = library::search(&sheet, &[0; NOTE_BYTES], u32::MAX, &[0; 4], &plan);
     let answer = got.as_ref().map(|searched| searched.returned).map_err(|&fault| fault);
     let (expected, kind) = if fits { (1, "tiny halls: some positions fit") } else { (2, "tiny halls: no positions fit") };
@@ -67,8 +85,9 @@ fn one(report: &mut Report, instance: &Instance) {
     if let Ok(searched) = got {
         if searched.returned == 1 {
             let plan = searched.plan.unwrap_or_default();
-            let positions = positions_of(&plan);
-            let feasible = positions.len() == instance.items.len() && is_feasible(instance, &positions);
+            let (positions, marks) = (positions_of(&plan), marks_of(&plan));
+            let stand = positions.len() == instance.items.len() && judge_marks(instance, &marks).is_ok();
+            let feasible = stand && is_feasible(instance, &positions, &marks) && fits_by_cells(instance, &positions, &marks);
             report.same("tiny halls: placed plans that fit", &true, &feasible, || {
                 format!("sheet {} plan {}", hexadecimal(&sheet), hexadecimal(&plan))
             });
@@ -81,21 +100,22 @@ fn one(report: &mut Report, instance: &Instance) {
 /// "A given length has a plan and no shorter one has any. None means that no length up to the sheet's shifts has one"
 fn earliest(report: &mut Report, instance: &Instance) {
     let sheet = sheet::encode(instance);
-    let fits = |&length: &u32| some_position_fits(&with_shifts(instance, length), &mut Vec::new());
+    let fits = |&length: &u32| some_position_fits(&with_shifts(instance, length));
     let first = (1..=instance.container[2]).find(fits);
-    let got = library::finish(&sheet, u32::MAX, &[7; 2], &[7; 4], &vec![7; 6 * instance.items.len()]);
+    let got = library::finish(&sheet, u32::MAX, &[7; 2], &[7; 4], &vec![7; PIECE_BYTES * instance.items.len()]);
     let told = got.as_ref().map(|finished| (finished.returned, finished.length.clone())).map_err(|&fault| fault);
     let expected = first.map_or((2, 0), |length| (1, length as u8));
     report.same("tiny halls: earliest finishes", &Ok((expected.0, Ok(vec![expected.1, 0]))), &told, || hexadecimal(&sheet));
     if let (Some(length), Ok(Ok(plan))) = (first, got.map(|finished| finished.plan)) {
-        let feasible = is_feasible(&with_shifts(instance, length), &positions_of(&plan));
+        let stand = judge_marks(instance, &marks_of(&plan)).is_ok();
+        let feasible = stand && is_feasible(&with_shifts(instance, length), &positions_of(&plan), &marks_of(&plan));
         report.same("tiny halls: earliest plans that fit", &true, &feasible, || {
             format!("sheet {} plan {}", hexadecimal(&sheet), hexadecimal(&plan))
         });
     }
 }
 
-/// The check of positions by chance, inside the hall or just outside, by cells.
+/// The check of positions and marks by chance, inside the hall or just outside, by cells.
 fn by_cells(report: &mut Report, random: &mut Random, instance: &Instance, times: usize) {
     let sheet = sheet::encode(instance);
     for _ in 0..times {
@@ -104,12 +124,13 @@ fn by_cells(report: &mut Report, random: &mut Random, instance: &Instance, times
             let room = (instance.container[axis] + 1).saturating_sub(measure).max(1) + outside;
             random.below(room as usize) as u32
         };
-        let positions: Vec<Position> = instance.items.iter().map(|size| [0, 1, 2].map(|axis| start(random, axis, size[axis]))).collect();
-        let fits = fits_by_cells(instance, &positions);
+        let marks = some_marks(random, &instance.may_turn);
+        let sizes = turned(instance, &marks).items;
+        let positions: Vec<Position> = sizes.iter().map(|size| [0, 1, 2].map(|axis| start(random, axis, size[axis]))).collect();
+        let fits = fits_by_cells(instance, &positions, &marks);
         let kind = if fits { "tiny halls: checks by cells: yes" } else { "tiny halls: checks by cells: no" };
-        report.same(kind, &(fits, Ok(fits as u32)), &(is_feasible(instance, &positions), library::check(&sheet, &plan_bytes(&positions))), || {
-            format!("sheet {} positions {positions:?}", hexadecimal(&sheet))
-        });
+        let got = (is_feasible(instance, &positions, &marks), library::check(&sheet, &plan_bytes(&positions, &marks)));
+        report.same(kind, &(fits, Ok(fits as u32)), &got, || format!("sheet {} positions {positions:?} marks {marks:?}", hexadecimal(&sheet)));
     }
 }
 
@@ -127,6 +148,7 @@ pub fn all(report: &mut Report, random: &mut Random) {
         let instance = |count: usize, precedences: Vec<(usize, usize)>| Instance {
             container,
             items: items[..count].to_vec(),
+            may_turn: vec![false; count],
             lags: vec![0; precedences.len()],
             precedences,
             yard_number: 0,
@@ -165,7 +187,8 @@ pub fn with_lags(report: &mut Report, random: &mut Random) {
         let items = [number / 12 % 4, number / 48 % 4].map(|way| [measure(way % 2), 1, measure(way / 2)]).to_vec();
         for lag in 1..5 {
             let precedences = vec![[(0, 1), (1, 0)][number / 192]];
-            one(report, &Instance { container, items: items.clone(), precedences, lags: vec![lag], yard_number: 0, walkway: 0 });
+            let may_turn = vec![false; 2];
+            one(report, &Instance { container, items: items.clone(), may_turn, precedences, lags: vec![lag], yard_number: 0, walkway: 0 });
         }
     }
     for _ in 0..6000 {
@@ -176,7 +199,7 @@ pub fn with_lags(report: &mut Report, random: &mut Random) {
         let precedences = if random.one_in(6) { some_orders(random, &PAIRS) } else { some_orders(random, &one_way) };
         let most = random.between(1, 4);
         let lags = precedences.iter().map(|_| random.below(most + 1) as u32).collect();
-        one(report, &Instance { container, items, precedences, lags, yard_number: 0, walkway: 0 });
+        one(report, &Instance { container, items, may_turn: vec![false; 3], precedences, lags, yard_number: 0, walkway: 0 });
     }
 }
 
@@ -190,7 +213,8 @@ pub fn with_walkways(report: &mut Report, random: &mut Random) {
         let container = along(measure(number % 7), measure(number / 7 % 2));
         let items = [number / 14 % 4, number / 56 % 4].map(|way| along(measure(way % 2), measure(way / 2))).to_vec();
         for walkway in 1..4 {
-            let instance = Instance { container, items: items.clone(), precedences: vec![], lags: vec![], yard_number: 0, walkway };
+            let (may_turn, precedences, lags) = (vec![false; 2], vec![], vec![]);
+            let instance = Instance { container, items: items.clone(), may_turn, precedences, lags, yard_number: 0, walkway };
             one(report, &instance);
             by_cells(report, random, &instance, 3);
         }
@@ -207,7 +231,40 @@ pub fn with_walkways(report: &mut Report, random: &mut Random) {
             _ => vec![],
         };
         let lags = precedences.iter().map(|_| random.below(3) as u32).collect();
-        let instance = Instance { container, items, precedences, lags, yard_number: 0, walkway: random.pick(&[1, 1, 1, 2, 3]) };
+        let instance = Instance { container, items, may_turn: vec![false; count], precedences, lags, yard_number: 0, walkway: random.pick(&[1, 1, 1, 2, 3]) };
+        one(report, &instance);
+        by_cells(report, random, &instance, 3);
+    }
+}
+
+/// Floors of up to 3 x 3 with pieces that may turn: all with two pieces of up to 3 x 2 for a shift on one of these floors, and each set of them
+/// that may turn; and some with two or three pieces, of one shift or two, with walkways, orders and lags in half of them.
+pub fn with_turning(report: &mut Report, random: &mut Random) {
+    let floors = [[3, 2, 1], [2, 3, 1], [3, 3, 1], [1, 3, 2], [4, 2, 1]];
+    let sizes = [[1, 1, 1], [2, 1, 1], [1, 2, 1], [3, 1, 1], [1, 3, 1], [3, 2, 1], [2, 3, 1], [2, 2, 1]];
+    for number in 0..5 * 8 * 8 * 4 {
+        let container = floors[number % 5];
+        let items = vec![sizes[number / 5 % 8], sizes[number / 40 % 8]];
+        let may_turn = vec![number / 320 % 2 == 1, number / 640 == 1];
+        let instance = Instance { container, items, may_turn, precedences: vec![], lags: vec![], yard_number: 0, walkway: 0 };
+        one(report, &instance);
+        by_cells(report, random, &instance, 2);
+    }
+    let floors = [[3, 2, 1], [2, 3, 1], [2, 2, 2], [3, 1, 2], [1, 3, 2], [4, 1, 1], [3, 3, 1], [2, 4, 1], [1, 2, 4]];
+    for _ in 0..3000 {
+        let container = random.pick(&floors);
+        let cells: u32 = container.iter().product();
+        let count = if cells <= 6 { random.between(2, 3) } else { 2 };
+        let most = [3, 2, 2.min(container[2] as usize)];
+        let items: Vec<[u32; 3]> = (0..count).map(|_| most.map(|most| random.between(1, most) as u32)).collect();
+        let precedences = match (random.one_in(3), count) {
+            (true, 2) => vec![random.pick(&[(0, 1), (1, 0)])],
+            (true, _) => some_orders(random, &[(0, 1), (0, 2), (1, 2)]),
+            _ => vec![],
+        };
+        let lags = precedences.iter().map(|_| random.below(2) as u32).collect();
+        let may_turn = (0..count).map(|_| !random.one_in(3)).collect();
+        let instance = Instance { container, items, may_turn, precedences, lags, yard_number: 0, walkway: random.pick(&[0, 0, 1]) };
         one(report, &instance);
         by_cells(report, random, &instance, 3);
     }

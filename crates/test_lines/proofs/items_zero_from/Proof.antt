@@ -15,10 +15,10 @@ abbrev μ-loop : tie.MeasureT-loop
 
 pub items-zero-from-spec : {M : Type 1} → Rattle.test_lines.proofs.items_zero_from.Statement.statement M
 items-zero-from-spec = tie.close (tie.spec Inv-loop μ-loop (λ c. refl) (λ c. search needs) (λ c. search needs) (λ c κs. search needs)
-    (λ c. let l = c .before .before .before .before in let a = l .before .args in let z = c .before .is-size-zero in
+    (λ c. let l = c .before .before .before .before in let a = l .before .args in let z = c .before .is-item-zero in
     rest-fails item-zero (a .t1) (a .n) (l .loop .i) (l .loop .inv) no-item (omega arith) _ (z .ensures) (c .if1 .taken))
     (λ c. search needs) (λ c. search needs)
-    (λ c. let l = c .before .before .before .before in let a = l .before .args in let z = c .before .is-size-zero in
+    (λ c. let l = c .before .before .before .before in let a = l .before .args in let z = c .before .is-item-zero in
     rest-passes item-zero (a .t1) (a .n) (l .loop .i) (l .loop .inv) no-item (omega arith) _ (z .ensures) (c .if1 .left))
     (λ c. let l = c .before in let a = l .before .args in
     rest-done item-zero (a .t1) (a .n) (l .loop .i) (l .loop .inv) (omega arith)))

@@ -1,22 +1,11 @@
--- `test_values::packing_at` meets its contract. Invariant: the first u positions are filled. Measure: the positions left.
-use Rattle.prelude.specs.Names.{refl, _+_, _*_, _-_, arith, needs}
-use Rattle.test_values.specs.Values.{position-in, packing-at}
-use Rattle.test_values.proofs.Tables.{Filled, fill-none, fill-next, fill-all}
+-- `test_values::packing_at` meets its contract.
+use Rattle.prelude.specs.Names.{needs}
+use Rattle.test_values.specs.Values.{packing-at}
 use Rattle.test_values.proofs.packing_at.Tie as tie
 
-abbrev Inv-loop : tie.InvT-loop
-Inv-loop s at positions₀ u₀ positions u = Filled 10 (λ k. position-in s (at + 6 * k)) positions u
-
-abbrev μ-loop : tie.MeasureT-loop
-μ-loop s at positions₀ u₀ positions u = 10 - u
-
-loop-again : tie.Need-loop-again Inv-loop μ-loop
-loop-again c = fill-next (c .before .before .loop .inv) (omega arith) (c .position-at .ensures)
-
-returns : tie.Need-returns Inv-loop μ-loop
+returns : tie.Need-returns
 unfolding packing-at
-returns c = rw (fill-all (c .before .loop .inv) (omega arith))
+returns c = rw (c .marks-at .ensures, c .before .positions-at .ensures)
 
 pub packing-at-spec : {M : Type 1} → Rattle.test_values.proofs.packing_at.Statement.statement M
-packing-at-spec = tie.close (tie.spec Inv-loop μ-loop (λ c. fill-none refl) (λ c. omega arith) (λ c. omega arith) (λ c κs. omega arith)
-    (λ c. omega arith) (λ c. search needs) (λ c. omega arith) (λ c. omega arith) loop-again returns)
+packing-at-spec = tie.close (tie.spec (λ c κs. search needs) (λ c. search needs) (λ c κs. search needs) returns)

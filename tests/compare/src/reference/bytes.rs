@@ -1,26 +1,42 @@
-//! Check, pieces and search on bytes, as the planning screen calls them.
+//! Check, pieces and search on bytes, as the planning screen calls them, with request #106's marks and choices.
 
 use super::packing::{is_feasible, Position};
 use super::search::{Branch, Checkpoint, Search, Status};
 use super::sheet::{read, refuse, Refusal};
+use super::turning::judge_marks;
 
-pub const NOTE_BYTES: usize = 273;
+/// "275 in all"
+pub const NOTE_BYTES: usize = 275;
+/// "8 asks for 7 plan bytes a piece"
+pub const PIECE_BYTES: usize = 7;
 pub const MOST_BRANCHES: usize = 270;
+/// Where the choice stands in a note.
+pub const CHOICE_AT: usize = 273;
 
 fn low_first(bytes: &[u8]) -> u32 {
     bytes.iter().rev().fold(0, |high, &byte| high * 256 + byte as u32)
 }
 
-/// "Its plan bytes are x, y, t for each piece, 2 bytes each."
-pub fn plan_bytes(positions: &[Position]) -> Vec<u8> {
-    positions.iter().flatten().flat_map(|&start| (start as u16).to_le_bytes()).collect()
+/// "Its plan bytes are x, y, t for each piece, 2 bytes each", with a mark as "a seventh byte".
+pub fn plan_bytes(positions: &[Position], marks: &[u8]) -> Vec<u8> {
+    let mut plan = Vec::new();
+    for (position, &mark) in positions.iter().zip(marks) {
+        plan.extend(position.iter().flat_map(|&start| (start as u16).to_le_bytes()));
+        plan.push(mark);
+    }
+    plan
 }
 
 pub fn positions_of(plan: &[u8]) -> Vec<Position> {
-    plan.chunks(6).map(|item| [low_first(&item[..2]), low_first(&item[2..4]), low_first(&item[4..])]).collect()
+    plan.chunks(PIECE_BYTES).map(|item| [low_first(&item[..2]), low_first(&item[2..4]), low_first(&item[4..6])]).collect()
 }
 
-/// "state (0 open, 1 none, 2 placed), the row's length in 2 bytes, then 270 turns (0 first, 1 second, 0 past the length)"
+pub fn marks_of(plan: &[u8]) -> Vec<u8> {
+    plan.chunks(PIECE_BYTES).map(|item| item[6]).collect()
+}
+
+/// "state (0 open, 1 none, 2 placed), the row's length in 2 bytes, then 270 turns (0 first, 1 second, 0 past the length)", and "the choice, as 2
+/// bytes more at its end"
 pub fn note_bytes(checkpoint: &Checkpoint) -> Vec<u8> {
     let state = match checkpoint.status {
         Status::Open => 0,
@@ -33,7 +49,8 @@ pub fn note_bytes(checkpoint: &Checkpoint) -> Vec<u8> {
         Branch::First => 0,
         Branch::Second => 1,
     }));
-    note.resize(NOTE_BYTES, 0);
+    note.resize(CHOICE_AT, 0);
+    note.extend((checkpoint.choice as u16).to_le_bytes());
     note
 }
 
@@ -49,7 +66,7 @@ fn checkpoint_of(note: &[u8]) -> Result<Checkpoint, Refusal> {
     if length > MOST_BRANCHES {
         return refuse(10, 0);
     }
-    let (branches, past) = note[3..].split_at(length);
+    let (branches, past) = note[3..CHOICE_AT].split_at(length);
     if past.iter().any(|&byte| byte != 0) {
         return refuse(10, 0);
     }
@@ -61,7 +78,7 @@ fn checkpoint_of(note: &[u8]) -> Result<Checkpoint, Refusal> {
             _ => return refuse(10, 0),
         }
     }
-    Ok(Checkpoint { status, path })
+    Ok(Checkpoint { status, path, choice: low_first(&note[CHOICE_AT..]) })
 }
 
 /// "Check returns 0 no, 1 yes, 100 plus the number for a refusal; the sheet's refusals come first."
@@ -71,10 +88,12 @@ pub fn check(sheet: &[u8], plan: &[u8]) -> u32 {
 
 fn check_or_refuse(sheet: &[u8], plan: &[u8]) -> Result<bool, Refusal> {
     let instance = read(sheet)?;
-    if plan.len() != 6 * instance.items.len() {
+    if plan.len() != PIECE_BYTES * instance.items.len() {
         return refuse(8, 0);
     }
-    Ok(is_feasible(&instance, &positions_of(plan)))
+    // "met by check .. after 8"
+    judge_marks(&instance, &marks_of(plan))?;
+    Ok(is_feasible(&instance, &positions_of(plan), &marks_of(plan)))
 }
 
 /// How many pieces the sheet has, or a refusal as check returns it.
@@ -89,7 +108,7 @@ pub fn search(sheet: &[u8], note: &mut [u8], allowance: u32, steps: &mut [u8], p
 
 fn search_or_refuse(sheet: &[u8], note: &mut [u8], allowance: u32, steps: &mut [u8], plan: &mut [u8]) -> Result<u32, Refusal> {
     let instance = read(sheet)?;
-    if note.len() != NOTE_BYTES || steps.len() != 4 || plan.len() != 6 * instance.items.len() {
+    if note.len() != NOTE_BYTES || steps.len() != 4 || plan.len() != PIECE_BYTES * instance.items.len() {
         return refuse(8, 0);
     }
     let mut search = Search::resume(&instance, &checkpoint_of(note)?)?;
@@ -100,7 +119,7 @@ fn search_or_refuse(sheet: &[u8], note: &mut [u8], allowance: u32, steps: &mut [
     Ok(match search.checkpoint.status {
         Status::Open => 0,
         Status::Packed => {
-            plan.copy_from_slice(&plan_bytes(&search.starts()));
+            plan.copy_from_slice(&plan_bytes(&search.starts(), &search.marks()));
             1
         }
         Status::Infeasible => 2,

@@ -1,19 +1,20 @@
 //! Request #103, "Earliest finish": the lengths one after another, each searched from the opening note; in values and on bytes.
 
-use super::bytes::plan_bytes;
+use super::bytes::{plan_bytes, PIECE_BYTES};
 use super::packing::{Position, TIME};
 use super::search::{opening, Search, Status};
 use super::sheet::{read, refuse, Instance, Refusal};
 
 pub const LENGTH_BYTES: usize = 2;
 
-/// Open stands for spent. `positions` has one for each item where it is packed, else none.
+/// Open stands for spent. `positions` and `marks` have one for each item where it is packed, else none.
 #[derive(Clone, PartialEq, Eq, Debug)]
 pub struct Finish {
     pub status: Status,
     pub length: u32,
     pub steps: u32,
     pub positions: Vec<Position>,
+    pub marks: Vec<u8>,
 }
 
 /// "with the other measures unchanged"
@@ -33,13 +34,13 @@ pub fn finish(instance: &Instance, allowance: u32) -> Finish {
         steps += taken;
         match search.checkpoint.status {
             // "The answer is the first length with a placement, with its plan"
-            Status::Packed => return Finish { status: Status::Packed, length, steps, positions: search.starts() },
+            Status::Packed => return Finish { status: Status::Packed, length, steps, positions: search.starts(), marks: search.marks() },
             // "or spent, with the greatest length already shown impossible (0 if there is none)"
-            Status::Open => return Finish { status: Status::Open, length: shown, steps, positions: Vec::new() },
+            Status::Open => return Finish { status: Status::Open, length: shown, steps, positions: Vec::new(), marks: Vec::new() },
             Status::Infeasible => shown = length,
         }
     }
-    Finish { status: Status::Infeasible, length: 0, steps, positions: Vec::new() }
+    Finish { status: Status::Infeasible, length: 0, steps, positions: Vec::new(), marks: Vec::new() }
 }
 
 /// 0 spent, 1 placed, 2 none, or a refusal as search returns it; length and steps are written unless it is refused, the plan only when
@@ -50,7 +51,7 @@ pub fn on_bytes(sheet: &[u8], allowance: u32, length: &mut [u8], steps: &mut [u8
 
 fn finish_or_refuse(sheet: &[u8], allowance: u32, length: &mut [u8], steps: &mut [u8], plan: &mut [u8]) -> Result<u32, Refusal> {
     let instance = read(sheet)?;
-    if length.len() != LENGTH_BYTES || steps.len() != 4 || plan.len() != 6 * instance.items.len() {
+    if length.len() != LENGTH_BYTES || steps.len() != 4 || plan.len() != PIECE_BYTES * instance.items.len() {
         return refuse(8, 0);
     }
     let answer = finish(&instance, allowance);
@@ -59,7 +60,7 @@ fn finish_or_refuse(sheet: &[u8], allowance: u32, length: &mut [u8], steps: &mut
     Ok(match answer.status {
         Status::Open => 0,
         Status::Packed => {
-            plan.copy_from_slice(&plan_bytes(&answer.positions));
+            plan.copy_from_slice(&plan_bytes(&answer.positions, &answer.marks));
             1
         }
         Status::Infeasible => 2,

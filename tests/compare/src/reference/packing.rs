@@ -1,6 +1,7 @@
 //! "Fit": what a feasible packing is, and the clearance of two items.
 
 use super::sheet::{refuse, Instance, Refusal};
+use super::turning::{judge_marks, turned};
 
 /// x, y, t.
 pub type Position = [u32; 3];
@@ -18,7 +19,9 @@ fn ends_before(instance: &Instance, positions: &[Position], u: usize, v: usize, 
     end(instance, positions, u, axis) + passage <= positions[v][axis]
 }
 
-pub fn is_feasible(instance: &Instance, positions: &[Position]) -> bool {
+/// Of a plan whose marks are judged.
+pub fn is_feasible(instance: &Instance, positions: &[Position], marks: &[u8]) -> bool {
+    let instance = &turned(instance, marks);
     let n = instance.items.len();
     let inside = (0..n).all(|u| (0..3).all(|axis| end(instance, positions, u, axis) <= instance.container[axis]));
     let apart = |u, v| {
@@ -34,14 +37,16 @@ pub fn is_feasible(instance: &Instance, positions: &[Position]) -> bool {
     inside && all_apart && ordered
 }
 
-/// "the greater of (v's start − u's end) and (u's start − v's end)"; "clearance then tests 5 and then 8"
-pub fn clearance(instance: &Instance, positions: &[Position], u: usize, v: usize, axis: usize) -> Result<i64, Refusal> {
+/// "the greater of (v's start − u's end) and (u's start − v's end)"; "clearance then tests 5 and then 8"; 13 is "met by check and clearance after 8"
+pub fn clearance(instance: &Instance, positions: &[Position], marks: &[u8], u: usize, v: usize, axis: usize) -> Result<i64, Refusal> {
     if u >= instance.items.len() || v >= instance.items.len() {
         return refuse(5, 0);
     }
     if axis > 2 {
         return refuse(8, 0);
     }
+    judge_marks(instance, marks)?;
+    let instance = &turned(instance, marks);
     let after = |u: usize, v: usize| positions[v][axis] as i64 - end(instance, positions, u, axis) as i64;
     Ok(after(u, v).max(after(v, u)))
 }

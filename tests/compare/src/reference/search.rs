@@ -1,8 +1,9 @@
-//! "The search": branching, one step, one call.
+//! "The search", with request #106's choices: branching, one step, one call.
 
 use super::packing::Position;
 use super::relations::Domains;
 use super::sheet::{refuse, Instance, Refusal};
+use super::turning::{last_choice, marks_of, turned};
 
 #[derive(Clone, Copy, PartialEq, Eq, Debug)]
 pub enum Status {
@@ -17,15 +18,17 @@ pub enum Branch {
     Second,
 }
 
-/// "A note is open, none or placed, with a row of turns, each first or second."
+/// "A note is open, none or placed, with a row of turns, each first or second." "The note holds the choice".
 #[derive(Clone, PartialEq, Eq, Debug)]
 pub struct Checkpoint {
     pub status: Status,
     pub path: Vec<Branch>,
+    pub choice: u32,
 }
 
+/// "the opening note holds 0"
 pub fn opening() -> Checkpoint {
-    Checkpoint { status: Status::Open, path: Vec::new() }
+    Checkpoint { status: Status::Open, path: Vec::new(), choice: 0 }
 }
 
 /// What the domains of a path show.
@@ -73,10 +76,12 @@ pub fn starts(instance: &Instance, domains: &Domains) -> Vec<Position> {
     (0..instance.items.len()).map(|item| [start(item, 0), start(item, 1), start(item, 2)]).collect()
 }
 
-/// A search that stands at a checkpoint. `levels` has the domains of every beginning of the path, the whole path last.
+/// A search that stands at a checkpoint. `problem` is the instance turned by its choice; `levels` has the domains of every beginning of the path, the
+/// whole path last.
 #[derive(Clone)]
 pub struct Search {
     pub instance: Instance,
+    problem: Instance,
     pub checkpoint: Checkpoint,
     levels: Vec<Domains>,
 }
@@ -84,9 +89,13 @@ pub struct Search {
 impl Search {
     /// 10: "a note that doesn't follow its sheet"
     pub fn resume(instance: &Instance, checkpoint: &Checkpoint) -> Result<Search, Refusal> {
-        let mut root = Domains::opening(instance);
-        root.propagate(instance);
-        let mut search = Search { instance: instance.clone(), checkpoint: opening(), levels: vec![root] };
+        // "10 covers a choice beyond the last, or not the last in a none note"
+        let last = last_choice(instance);
+        if checkpoint.choice > last || checkpoint.status == Status::Infeasible && checkpoint.choice != last {
+            return refuse(10, 0);
+        }
+        let mut search = Search { instance: instance.clone(), problem: instance.clone(), checkpoint: opening(), levels: vec![] };
+        search.open(checkpoint.choice);
         // "each shorter beginning of its row is a branching point"
         for &branch in &checkpoint.path {
             match search.look() {
@@ -103,16 +112,31 @@ impl Search {
         Ok(search)
     }
 
+    /// The choice with an empty row.
+    fn open(&mut self, choice: u32) {
+        let problem = turned(&self.instance, &marks_of(&self.instance, choice));
+        let mut root = Domains::opening(&problem);
+        root.propagate(&problem);
+        self.checkpoint = Checkpoint { choice, ..opening() };
+        self.levels = vec![root];
+        self.problem = problem;
+    }
+
     pub fn domains(&self) -> &Domains {
         self.levels.last().expect("the root is always there")
     }
 
     pub fn look(&self) -> Look {
-        look(&self.instance, self.domains())
+        look(&self.problem, self.domains())
     }
 
     pub fn starts(&self) -> Vec<Position> {
-        starts(&self.instance, self.domains())
+        starts(&self.problem, self.domains())
+    }
+
+    /// The marks that go with the starts.
+    pub fn marks(&self) -> Vec<u8> {
+        marks_of(&self.instance, self.checkpoint.choice)
     }
 
     /// Appends a branch at a fork.
@@ -120,7 +144,7 @@ impl Search {
         let Look::Fork { u, v, axis } = self.look() else { panic!("no fork") };
         let mut domains = self.domains().clone();
         take_branch(&mut domains, u, v, axis, branch);
-        domains.propagate(&self.instance);
+        domains.propagate(&self.problem);
         self.checkpoint.path.push(branch);
         self.levels.push(domains);
     }
@@ -141,6 +165,11 @@ impl Search {
                     Some(Branch::Second) => continue,
                     Some(Branch::First) => {
                         self.append(Branch::Second);
+                        break;
+                    }
+                    // "the step that would say "none" opens the next choice with an empty row instead, until the last"
+                    None if self.checkpoint.choice < last_choice(&self.instance) => {
+                        self.open(self.checkpoint.choice + 1);
                         break;
                     }
                     None => {

@@ -1,5 +1,5 @@
-//! "Sheet bytes" and "Refusals", with request #101's lags, #104's greatest measure and #105's walkway: reading and writing instances, and the
-//! records of their items.
+//! "Sheet bytes" and "Refusals", with request #101's lags, #104's greatest measure, #105's walkway and #106's pieces that may be turned: reading
+//! and writing instances, and the records of their items.
 
 use std::ops::Range;
 
@@ -26,6 +26,8 @@ pub struct Instance {
     /// Width, depth, shifts.
     pub container: [u32; 3],
     pub items: Vec<[u32; 3]>,
+    /// One for each item.
+    pub may_turn: Vec<bool>,
     pub precedences: Vec<(usize, usize)>,
     /// "one .. for each order in its sequence"
     pub lags: Vec<u32>,
@@ -144,13 +146,15 @@ pub fn read_with_records(sheet: &[u8]) -> Result<(Instance, Vec<Range<usize>>), 
     let mut reader = Reader { sheet, at: 0 };
     let standing = reader.map(8)?;
     let container = reader.size(&standing)?;
-    let mut items = Vec::new();
+    let (mut items, mut may_turn) = (Vec::new(), Vec::new());
     let mut records = Vec::new();
     if standing[3] {
         for _ in 0..reader.count(MOST_ITEMS)? {
             let start = reader.at;
-            let standing = reader.map(3)?;
+            // "Bit 3 of a piece's map, with no field"
+            let standing = reader.map(4)?;
             items.push(reader.size(&standing)?);
+            may_turn.push(standing[3]);
             records.push(start..reader.at);
         }
     }
@@ -177,7 +181,7 @@ pub fn read_with_records(sheet: &[u8]) -> Result<(Instance, Vec<Range<usize>>), 
     if reader.at < sheet.len() {
         return refuse(7, reader.at);
     }
-    let instance = Instance { container, items, precedences, lags, yard_number, walkway };
+    let instance = Instance { container, items, may_turn, precedences, lags, yard_number, walkway };
     Ok((instance, records))
 }
 
@@ -218,9 +222,9 @@ pub fn encode(instance: &Instance) -> Vec<u8> {
     if !instance.items.is_empty() {
         map |= 8;
         fields.push(instance.items.len() as u8);
-        for size in &instance.items {
+        for (size, &may_turn) in instance.items.iter().zip(&instance.may_turn) {
             let (bits, measures) = size_bytes(size);
-            fields.push(bits);
+            fields.push(if may_turn { bits | 8 } else { bits });
             fields.extend(measures);
         }
     }
