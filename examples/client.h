@@ -35,12 +35,12 @@ static const char *answer_word(uint32_t code)
     return code == HALLPLAN_PLACED ? "placed" : code == HALLPLAN_NONE ? "none" : "spent";
 }
 
-/* A line for each piece: number, x, y, t. */
+/* A line for each piece: number, x, y, t, and 1 where it is turned, else 0. */
 static void print_plan(const uint8_t *plan, uint32_t pieces)
 {
     for (uint32_t u = 0; u < pieces; u++) {
         const uint8_t *at = plan + HALLPLAN_PIECE_BYTES * u;
-        printf("%u %u %u %u\n", (unsigned)u, word(at), word(at + 2), word(at + 4));
+        printf("%u %u %u %u %u\n", (unsigned)u, word(at), word(at + 2), word(at + 4), (unsigned)at[6]);
     }
 }
 

@@ -1,9 +1,9 @@
 /* The shortest hall time of a sheet: finish SHEET [ALLOWANCE]
  *
  * Tries the lengths 1, 2 and so on up to the sheet's shifts, with at most ALLOWANCE steps (1000000) for all of them. Prints `placed`, the
- * first length that has a plan, and the steps; then a line for each piece: number, x, y, t, and what check says of the plan on the sheet
- * as it is. Or `none` and the steps, where no length has one; or `spent`, the greatest length that is known to be too short (0 where
- * there is none), and the steps. */
+ * first length that has a plan, and the steps; then a line for each piece: number, x, y, t, 1 where it is turned, else 0; and what check
+ * says of the plan on the sheet as it is. Or `none` and the steps, where no length has one; or `spent`, the greatest length that is known
+ * to be too short (0 where there is none), and the steps. */
 #include "client.h"
 
 int main(int argc, char **argv)

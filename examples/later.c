@@ -1,7 +1,8 @@
 /* Plans a sheet over several runs: later SHEET NOTE [ALLOWANCE]
  *
  * A run takes at most ALLOWANCE steps (1000) and keeps the note in the file NOTE, from which the next run goes on; where there is no
- * such file the search opens. It prints the answer and the steps of this run, and for placed a line for each piece: number, x, y, t.
+ * such file the search opens. It prints the answer and the steps of this run, and for placed a line for each piece: number, x, y, t, and 1
+ * where it is turned, else 0.
  * A note belongs to its sheet: a file NOTE is for one sheet alone.
  * It exits with 0 where the sheet is decided, 3 where a later run has to go on, 2 where something is refused or a file fails. */
 #include "client.h"

@@ -1,7 +1,7 @@
 /* Plans a sheet in small portions: plan SHEET [ALLOWANCE]
  *
  * Calls the search with ALLOWANCE steps (1) until the sheet is decided. Prints the answer, the sum of the steps and how many calls
- * there were; for placed then a line for each piece: number, x, y, t, and what check says of the plan. */
+ * there were; for placed then a line for each piece: number, x, y, t, 1 where it is turned, else 0; and what check says of the plan. */
 #include "client.h"
 
 int main(int argc, char **argv)

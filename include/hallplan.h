@@ -1,11 +1,15 @@
 /* The casting hall planner, called on bytes: how many pieces a sheet has, whether a plan fits it, the search for a plan, and the shortest time in
  * which there is one.
  *
- * A sheet is the bytes of document 01, "Sheet bytes", with the lags and the walkway of document 02 (README.md has one byte by byte). Pieces
- * in the same shift stand at least the walkway apart on x or on y; without one they may touch. A plan is
- * x, y, t for each piece of the sheet, 2 bytes each, low byte first: HALLPLAN_PIECE_BYTES for each piece. A note is
- * HALLPLAN_NOTE_BYTES bytes: a search opens with all of them 0, and each later call gets the note that the last one left. Steps
- * are HALLPLAN_STEP_BYTES bytes, low byte first.
+ * A sheet is the bytes of document 01, "Sheet bytes", with the lags, the walkway and the pieces that may be turned of document 02 (README.md has one
+ * byte by byte). Pieces in the same shift stand at least the walkway apart on x or on y; without one they may touch. A plan is HALLPLAN_PIECE_BYTES
+ * for each piece of the sheet: x, y, t, 2 bytes each, low byte first, and a mark, 1 byte: 1 where the piece is turned, its width and depth
+ * exchanged, else 0. A note is HALLPLAN_NOTE_BYTES bytes: a search opens with all of them 0, and each later call gets the note that the last one
+ * left. Steps are HALLPLAN_STEP_BYTES bytes, low byte first.
+ *
+ * A choice says which of the pieces that may be turned are. They are searched one after another, so that HALLPLAN_NONE holds however they are
+ * turned. The last 2 bytes of a note, low byte first, hold the choice under way: of the pieces that may be turned, the one with the lowest number
+ * is the lowest binary digit, 1 for turned.
  *
  * What the caller sees to: no pointer is null, also where its length is 0; no buffer lent to be written shares a byte with
  * another buffer of the same call; nobody else writes the note between calls. Whatever the bytes and lengths are, the functions
@@ -23,10 +27,10 @@ extern "C" {
 #endif
 
 /* Lengths of notes, of steps, of a finish's length, and of a plan for each piece. */
-#define HALLPLAN_NOTE_BYTES 273
+#define HALLPLAN_NOTE_BYTES 275
 #define HALLPLAN_STEP_BYTES 4
 #define HALLPLAN_LENGTH_BYTES 2
-#define HALLPLAN_PIECE_BYTES 6
+#define HALLPLAN_PIECE_BYTES 7
 
 /* No sheet has more pieces, a greater measure or more bytes, and no plan more bytes. */
 #define HALLPLAN_MAX_PIECES 10
@@ -46,7 +50,7 @@ extern "C" {
 #define HALLPLAN_PLACED 1
 #define HALLPLAN_NONE 2
 
-/* A refusal is returned as HALLPLAN_REFUSED plus its number in document 01's table, or document 02's 11 or 12. It writes nothing. The
+/* A refusal is returned as HALLPLAN_REFUSED plus its number in document 01's table, or document 02's 11, 12 or 13. It writes nothing. The
  * sheet's own refusals, 1 to 7, 11 and 12, come first; where a sheet has several faults, it is the first one's. */
 #define HALLPLAN_REFUSED 100
 #define HALLPLAN_SHEET_ENDS_EARLY 1     /* it ends before a byte that is due */
@@ -56,10 +60,11 @@ extern "C" {
 #define HALLPLAN_SHEET_BAD_ORDER 5      /* an order names a piece not on the sheet, or one piece twice */
 #define HALLPLAN_SHEET_ORDERS_UNSORTED 6 /* an order is not above the one before it */
 #define HALLPLAN_SHEET_BYTES_AFTER 7    /* bytes after the last field */
-#define HALLPLAN_BAD_LENGTH 8           /* plan_len is not 6 for each piece, note_len not 273, steps_len not 4, or length_len not 2 */
+#define HALLPLAN_BAD_LENGTH 8           /* plan_len is not 7 for each piece, note_len not 275, steps_len not 4, or length_len not 2 */
 #define HALLPLAN_BAD_NOTE 10            /* the note is not one that this sheet's search can have */
 #define HALLPLAN_SHEET_NO_LAG 11        /* a field of lags in which no lag is above 0 */
 #define HALLPLAN_SHEET_TOO_LARGE 12     /* a measure above HALLPLAN_MAX_MEASURE is written */
+#define HALLPLAN_BAD_MARK 13            /* check, after 8: a mark above 1, or 1 on a piece that may not be turned */
 
 /* How many pieces the sheet has, 0 to HALLPLAN_MAX_PIECES; or a refusal. */
 uint32_t hallplan_pieces(const uint8_t *sheet, size_t sheet_len);
