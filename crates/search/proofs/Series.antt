@@ -24,7 +24,7 @@ use Rattle.turning.proofs.Counts.{may-not-past, unmarked}
 use Rattle.tree_paths.specs.Checkpoints.{branches-of, value-path, value-at, with-status, well-formed, following, checkpoint-of}
 use Rattle.tree_paths.proofs.Checkpoints.{checkpoint-as}
 use Rattle.tree_search.specs.Results.{positions-list, not-following, tree-result}
-use Rattle.tree_search.specs.declared.TreeResult.{TreeResult}
+use Rattle.tree_search.specs.declared.outcome.TreeResult.{TreeResult}
 use Rattle.tree_search.proofs.Outcomes.{ResultIs, is-not-following, is-spent, is-infeasible, is-packed, result-is}
 use Rattle.search.specs.Results.{marks-list, packing-of, result-of, result-refused, followed-if, followed, infeasible-after, spent-after, packed-after}
 use Rattle.search.specs.Results.{answer-in, search-result}
@@ -32,8 +32,8 @@ use Rattle.search.specs.declared.answer.SearchResult.{SearchResult}
 use Rattle.model.specs.Calls as C
 use Rattle.model.specs.Search as S
 use Rattle.tree_search.specs.Results as T
-use Rattle.tree_search.specs.declared.Outcome.{Outcome}
-use Rattle.tree_search.specs.declared.Outcome.the-variants as Outcome
+use Rattle.tree_search.specs.declared.outcome.Outcome.{Outcome}
+use Rattle.tree_search.specs.declared.outcome.Outcome.the-variants as Outcome
 
 -- outcomes of four kinds
 abbrev pub kind : Outcome → ℕ

@@ -14,7 +14,7 @@ use Rattle.instance.specs.declared.Status.{Status}
 use Rattle.turning.specs.Turned.{turnable-of, mark-of, each-of-ten, choice-marks}
 use Rattle.tree_paths.specs.Checkpoints.{branches-of, checkpoint-of, following, Following, value-of}
 use Rattle.tree_search.specs.Results.{positions-list}
-use Rattle.tree_search.specs.declared.TreeResult.{TreeResult}
+use Rattle.tree_search.specs.declared.outcome.TreeResult.{TreeResult}
 use Rattle.search.specs.declared.answer.Answer.{Answer}
 use Rattle.search.specs.declared.answer.Answer.the-variants.{Packed, Infeasible, BudgetSpent, Refused}
 use Rattle.search.specs.declared.answer.SearchResult.{SearchResult}
@@ -22,8 +22,8 @@ use Rattle.model.specs.Calls as C
 use Rattle.model.specs.Run as R
 use Rattle.refusal.specs.Numbers as N
 use Rattle.instance.specs.declared.Status.the-variants as Status
-use Rattle.tree_search.specs.declared.Outcome.{Outcome}
-use Rattle.tree_search.specs.declared.Outcome.the-variants as Outcome
+use Rattle.tree_search.specs.declared.outcome.Outcome.{Outcome}
+use Rattle.tree_search.specs.declared.outcome.Outcome.the-variants as Outcome
 
 -- "It returns 0 spent, 1 placed, 2 none, or a refusal as check does": "100 plus the number for a refusal"
 abbrev pub answer-number : Answer → ℕ

@@ -16,8 +16,8 @@ use crate::results;
 use instance::Checkpoint;
 use instance::Instance;
 use refusal::Refusal;
-use tree_search::Outcome;
-use tree_search::TreeResult;
+use tree_search::outcome::Outcome;
+use tree_search::outcome::TreeResult;
 
 // Whether the next choice is searched: this one is infeasible and not the last.
 fn goes_on(outcome: Outcome, choice: u16, last: u16) -> bool

@@ -10,8 +10,8 @@ use Rattle.model.specs.Run.{look, tree-machine, tree-starts}
 use Rattle.instance.specs.declared.Position.{Position}
 use Rattle.tree_paths.specs.Checkpoints.{path-of, branches-of, PathIn}
 use Rattle.tree_search.specs.Results.{outcome-of, positions-list, result-of, not-following, infeasible-after, spent-after, packed-after, tree-result}
-use Rattle.tree_search.specs.declared.Outcome.the-variants.{Packed}
-use Rattle.tree_search.specs.declared.TreeResult.{TreeResult}
+use Rattle.tree_search.specs.declared.outcome.Outcome.the-variants.{Packed}
+use Rattle.tree_search.specs.declared.outcome.TreeResult.{TreeResult}
 use Rattle.tree_search.proofs.Budget.{Comes, rest-start, rest-finished}
 use Rattle.model.specs.Calls as C
 use Rattle.model.specs.Search as S

@@ -7,7 +7,7 @@ use Rattle.model.specs.Run.{look}
 use Rattle.instance.specs.declared.Position.{Position}
 use Rattle.tree_paths.specs.Checkpoints.{branch-of, path-of, branches-of, PathIn}
 use Rattle.tree_search.specs.Results.{positions-list, not-following, infeasible-after, spent-after, packed-after, tree-result}
-use Rattle.tree_search.specs.declared.TreeResult.{TreeResult}
+use Rattle.tree_search.specs.declared.outcome.TreeResult.{TreeResult}
 use Rattle.tree_search.proofs.Budget.{Rest, rest-start, rest-next, rest-finished, rest-spent}
 use Rattle.tree_paths.proofs.Checkpoints.{path-length, path-next, branch-back, branches-past, branches-small, first-held, again-at}
 use Rattle.tree_search.proofs.Outcomes.{forking-fails, comes-infeasible, comes-spent, comes-packed, result-unfollowed}

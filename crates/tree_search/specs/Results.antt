@@ -5,9 +5,9 @@ use Rattle.instance.specs.Values.{origin}
 use Rattle.instance.specs.declared.Position.{Position}
 use Rattle.sheet.specs.Sheet.{max-items}
 use Rattle.tree_paths.specs.Checkpoints.{branches-of}
-use Rattle.tree_search.specs.declared.Outcome.{Outcome}
-use Rattle.tree_search.specs.declared.Outcome.the-variants.{Packed, Infeasible, Spent, NotFollowing}
-use Rattle.tree_search.specs.declared.TreeResult.{TreeResult}
+use Rattle.tree_search.specs.declared.outcome.Outcome.{Outcome}
+use Rattle.tree_search.specs.declared.outcome.Outcome.the-variants.{Packed, Infeasible, Spent, NotFollowing}
+use Rattle.tree_search.specs.declared.outcome.TreeResult.{TreeResult}
 use Rattle.model.specs.Calls as C
 use Rattle.model.specs.Run as R
 use Rattle.model.specs.Search as S

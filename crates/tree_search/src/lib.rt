@@ -11,13 +11,14 @@ ghost use Rattle.instance.specs.Meaning.{problem-of};
 ghost use Rattle.tree_paths.specs.Checkpoints.{Bits, path-of};
 ghost use Rattle.nodes.specs.Nodes.{slot-of, slot-coded};
 ghost use Rattle.tree_search.specs.Results.{tree-result};
+use crate::outcome::Outcome;
+use crate::outcome::TreeResult;
 use chains::totals::SIZES;
 use domains::DOMAINS;
 use domains::Place;
 use domains::ROWS;
 use domains::queue::code;
 use instance::Instance;
-use instance::Position;
 use nodes::branching::apply_branch;
 use nodes::levels;
 use nodes::levels::MAX_LEVELS;
@@ -27,24 +28,8 @@ use tree_paths::outlook::Outlook;
 use tree_paths::outlook::look;
 use tree_paths::path;
 
+pub mod outcome;
 mod results;
-
-// What a call comes to: a packing, none, the budget spent on the way, or a path that does not follow the problem.
-pub enum Outcome {
-    Packed,
-    Infeasible,
-    Spent,
-    NotFollowing,
-}
-
-// The outcome, the steps taken, the path that they lead to and, where packed, the positions.
-pub struct TreeResult {
-    pub outcome: Outcome,
-    pub steps: u32,
-    pub length: usize,
-    pub branches: [u8; Instance::MAX_BRANCHES],
-    pub positions: [Position; Instance::MAX_ITEMS],
-}
 
 // The place of a number.
 fn place_of(number: u16) -> Place

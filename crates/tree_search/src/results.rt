@@ -1,8 +1,8 @@
 // The makers of results.
 ghost use mathlib.Core.Path.{_≡_};
 ghost use Rattle.tree_search.specs.Results as R;
-use crate::Outcome;
-use crate::TreeResult;
+use crate::outcome::Outcome;
+use crate::outcome::TreeResult;
 use instance::Instance;
 use instance::Position;
 

@@ -20,7 +20,7 @@ use Rattle.tree_paths.specs.declared.outlook.Outlook.the-variants.{Conflict, Co
 use Rattle.nodes.proofs.Branches.{branchable}
 use Rattle.tree_paths.proofs.Checkpoints.{branches-length, given-back}
 use Rattle.tree_search.specs.Results.{tree-result}
-use Rattle.tree_search.specs.declared.TreeResult.{TreeResult}
+use Rattle.tree_search.specs.declared.outcome.TreeResult.{TreeResult}
 use Rattle.tree_search.proofs.Complete.{startable, started-plan}
 use Rattle.opening.proofs.Sound.{valid-sound}
 use Rattle.tree_paths.proofs.SearchState.{Snapshots, State, state-root, same-behind, fork-rising, fork-pair, fork-level, fork-depth, state-next}

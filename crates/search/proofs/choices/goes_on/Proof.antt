@@ -1,6 +1,6 @@
 -- `search::choices::goes_on` meets its contract.
 use Rattle.prelude.specs.Names.{_≡_, ℕ, arith, ap, sym, _∙_, needs}
-use Rattle.tree_search.specs.declared.Outcome.{Outcome}
+use Rattle.tree_search.specs.declared.outcome.Outcome.{Outcome}
 use Rattle.search.proofs.Series.{kind}
 use Rattle.search.proofs.choices.goes_on.Tie as tie
 

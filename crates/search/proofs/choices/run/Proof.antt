@@ -8,7 +8,7 @@ use Rattle.instance.specs.declared.Checkpoint.{Checkpoint}
 use Rattle.instance.specs.declared.Instance.{Instance}
 use Rattle.turning.specs.Turned.{turnable-of}
 use Rattle.tree_paths.specs.Checkpoints.{Bits, path-of, value-path, all-branches}
-use Rattle.tree_search.specs.declared.Outcome.the-variants.{Infeasible}
+use Rattle.tree_search.specs.declared.outcome.Outcome.the-variants.{Infeasible}
 use Rattle.search.specs.Results.{followed, GoesOnIf}
 use Rattle.search.proofs.Series.{steps-within, choice-listed, result-from, from-start, goes-on, ends-in}
 use Rattle.model.specs.Search as S
