@@ -9,14 +9,14 @@ pub use Rattle.std.proofs.lemmas.Bool.{eqb-false, lt-leb, not-false, not-true, f
 pub use Rattle.std.specs.Int.Bits.{bit_and, bit_or, bit_xor, or_step, or_zero_r}
 pub use Rattle.std.proofs.lemmas.Nat.{or_lt}
 unfoldable pub use Rattle.std.specs.Int.Count.{count_trailing_zeros}
-pub use Rattle.std.proofs.Math.Dec.{eqb-suc-zero as eqb-suc-zero}
-pub use Rattle.std.proofs.Math.ListN.{get_or-eq_default as get_or-eq_default}
+pub use Rattle.std.proofs.Math.Dec.{eqb-suc-zero}
+pub use Rattle.std.proofs.Math.ListN.{get_or-eq_default}
 pub use Rattle.std.proofs.lemmas.List.{length-replicate, set-get_or}
 pub use Rattle.std.proofs.Math.Pow.{pow-lt}
 pub use Rattle.std.proofs.lemmas.List.Edits.{sets}
 pub use Rattle.std.proofs.Math.Seq.{take-append_seam}
 pub use Rattle.std.specs.Int.Signed.{lt_z}
-pub use Rattle.std.proofs.Math.Bool.{Bool-discrete, not-not as not-not, and_assoc, and_comm, and-false, and-true, not-eq-not, or_comm, or-false, or-true}
+pub use Rattle.std.proofs.Math.Bool.{Bool-discrete, not-not, and_assoc, and_comm, and-false, and-true, not-eq-not, or_comm, or-false, or-true}
 pub use mathlib.Core.List.Memᴰ.{cases_cons as mem-cases_cons}
 pub use mathlib.Core.List.Memᴰ.{head as mem-head}
 pub use mathlib.Core.List.Memᴰ.{not-nil as mem-not_nil}
