@@ -1,4 +1,6 @@
 // Packings, steps and checkpoints in the byte buffers of a C program.
+#![tactic(auto)]
+
 pub mod checkpoints;
 pub mod plans;
 pub mod words;

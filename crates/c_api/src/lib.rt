@@ -1,4 +1,6 @@
 // Check, pieces and search for a C program: numbers and byte slices.
+#![tactic(auto)]
+
 ghost use Rattle.sheet.specs.Sheet.{max_items};
 ghost use Rattle.buffers.specs.Bytes.{packing_bytes, step_bytes};
 ghost use Rattle.buffers.specs.Lengths.{note_length, steps_length, piece_length};

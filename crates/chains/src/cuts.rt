@@ -152,7 +152,7 @@ fn cut_starts(
 }
 
 // Items of one axis.
-#[derive(Drop)]
+#[derive(Clone, Copy)]
 struct Items {
     pub axis: usize,
     pub set: u32,
@@ -194,7 +194,7 @@ fn cut_with_gaps(
 }
 
 // The items of an axis whose chains have grown: those ending in them, and those starting in them.
-#[derive(Drop)]
+#[derive(Clone, Copy)]
 pub struct Grown {
     pub axis: usize,
     pub ends: u32,

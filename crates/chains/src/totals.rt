@@ -23,7 +23,7 @@ pub const STEPS: usize = 96;
 pub const TOTALS: usize = 696;
 
 // Items whose totals have grown, and whether all totals are within the container.
-#[derive(Drop)]
+#[derive(Clone, Copy)]
 pub struct Growth {
     pub fits: bool,
     pub items: u32,

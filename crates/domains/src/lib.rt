@@ -1,4 +1,6 @@
 // The array of 135 domains beside rows of bits, removing relations from both, and the queue of pairs that changed.
+#![tactic(auto)]
+
 pub mod access;
 pub mod bits;
 pub mod queue;
@@ -11,7 +13,7 @@ pub const DOMAINS: usize = 135;
 pub const ROWS: usize = 30;
 
 // A pair of items on an axis.
-#[derive(Drop)]
+#[derive(Clone, Copy)]
 pub struct Place {
     pub axis: usize,
     pub u: usize,
@@ -19,7 +21,7 @@ pub struct Place {
 }
 
 // An item on an axis.
-#[derive(Drop)]
+#[derive(Clone, Copy)]
 pub struct Line {
     pub axis: usize,
     pub item: usize,

@@ -1,1 +1,2 @@
 // Formats: no code, definitions and laws alone.
+#![tactic(auto)]

@@ -1,4 +1,6 @@
 // Plans the sheet on standard input and prints the result.
+#![tactic(auto)]
+
 use instance::Instance;
 
 // "the program reads 353" bytes: one more than the longest sheet has.

@@ -1,4 +1,6 @@
 // The instance: a container, its items and their precedences; and the packings and checkpoints that go with it.
+#![tactic(auto)]
+
 ghost use Rattle.std.specs.Prelude.{◌≡◌};
 ghost use Rattle.instance.specs.Valid.{valid};
 ghost use Rattle.instance.specs.Values.{opening_checkpoint, origin_packing};
@@ -9,7 +11,7 @@ use refusal::Refusal;
 mod read;
 
 // A sheet. Entries past the counts are no part of it.
-#[derive(Drop)]
+#[derive(Clone, Copy)]
 pub struct Instance {
     pub container: Size,
     pub items: [Item; Instance::MAX_ITEMS],
@@ -21,7 +23,7 @@ pub struct Instance {
 }
 
 // Where one item starts.
-#[derive(Drop)]
+#[derive(Clone, Copy)]
 pub struct Position {
     pub x: u16,
     pub y: u16,
@@ -30,14 +32,14 @@ pub struct Position {
 
 // A plan: where each item starts, and a mark, 1 for an item that is turned, its width and depth exchanged, and 0 for one that is not. Positions and
 // marks past an instance's count are no part of it.
-#[derive(Drop)]
+#[derive(Clone, Copy)]
 pub struct Packing {
     pub positions: [Position; Instance::MAX_ITEMS],
     pub marks: [u8; Instance::MAX_ITEMS],
 }
 
 // Whether a search is still open, or how it ended.
-#[derive(Drop)]
+#[derive(Clone, Copy)]
 pub enum Status {
     Open,
     Infeasible,
@@ -46,7 +48,7 @@ pub enum Status {
 
 // A note: where a search is. A branch is 0 for first and 1 for second; entries past the length are no part of it. The choice says which items are
 // turned: the lowest-numbered of those that may be is its lowest binary digit.
-#[derive(Drop)]
+#[derive(Clone, Copy)]
 pub struct Checkpoint {
     pub status: Status,
     pub length: usize,
@@ -54,14 +56,14 @@ pub struct Checkpoint {
     pub choice: u16,
 }
 
-#[derive(Drop)]
+#[derive(Clone, Copy)]
 pub enum ReadAnswer {
     Read,
     Refused(Refusal),
 }
 
 // What reading gives. Where it is refused the instance is an empty one.
-#[derive(Drop)]
+#[derive(Clone, Copy)]
 pub struct ReadResult {
     pub answer: ReadAnswer,
     pub instance: Instance,

@@ -1,4 +1,6 @@
 // An item's record, for the label printer: the part of the lent sheet that the item is read from.
+#![tactic(auto)]
+
 ghost use Rattle.std.specs.Prelude.{◌≡◌, ◌≤◌, length};
 ghost use Rattle.formats.specs.Fields.{is_set};
 ghost use Rattle.sheet.specs.Places.{two_if, measures_length, after_item, item_place};
@@ -9,14 +11,14 @@ use instance::{Instance, ReadAnswer};
 use refusal::Refusal;
 
 // A refusal in numbers; 0 and 0 where nothing is refused.
-#[derive(Drop)]
+#[derive(Clone, Copy)]
 pub struct RefusalCode {
     pub number: u8,
     pub place: usize,
 }
 
 // Whether the record of an item is there.
-#[derive(Drop)]
+#[derive(Clone, Copy)]
 enum Lookup {
     There,
     Refused(Refusal),

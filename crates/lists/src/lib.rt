@@ -1,4 +1,6 @@
 // Lists of parts as a sheet holds them: arrays of which the first entries count. How they are read, and when they are valid.
+#![tactic(auto)]
+
 ghost use Rattle.std.specs.Prelude.{◌≡◌, ◌+◌, ◌≤◌, map, length, take, drop, replicate};
 ghost use Rattle.formats.specs.Reading.{run, read_as};
 ghost use Rattle.formats.specs.Fields.{optional_reading};
@@ -18,21 +20,21 @@ pub const MAX_ITEMS: usize = 10;
 pub const MAX_PRECEDENCES: usize = 90;
 
 // How reading a row ends: after so many bytes, or refused.
-#[derive(Drop)]
+#[derive(Clone, Copy)]
 pub enum Stop {
     After(usize),
     Refused(Refusal),
 }
 
 // The items, or the precedences, that were read.
-#[derive(Drop)]
+#[derive(Clone, Copy)]
 pub struct ItemsRead {
     pub stop: Stop,
     pub count: usize,
     pub items: [Item; MAX_ITEMS],
 }
 
-#[derive(Drop)]
+#[derive(Clone, Copy)]
 pub struct PrecedencesRead {
     pub stop: Stop,
     pub count: usize,
@@ -40,7 +42,7 @@ pub struct PrecedencesRead {
 }
 
 // The lags that were read, 0 past them.
-#[derive(Drop)]
+#[derive(Clone, Copy)]
 pub struct LagsRead {
     pub stop: Stop,
     pub lags: [u8; MAX_PRECEDENCES],

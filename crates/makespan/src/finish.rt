@@ -4,7 +4,7 @@ use search::answer::Answer;
 
 // "The answer is the first length with a placement, with its plan; or none; or spent, with the greatest length already shown impossible", or a
 // refusal. The length is 0 where the answer is none; all positions are 0 unless it is placed.
-#[derive(Drop)]
+#[derive(Clone, Copy)]
 pub struct Finish {
     pub answer: Answer,
     pub length: u16,

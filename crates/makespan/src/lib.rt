@@ -1,4 +1,6 @@
 // The earliest finish: the least number of shifts in which an instance has a packing.
+#![tactic(auto)]
+
 ghost use Rattle.std.specs.Prelude.{◌≡◌, true, ◌≤◌, ◌*◌};
 ghost use Rattle.model.specs.Earliest.{earliest_finish};
 ghost use Rattle.instance.specs.Reads.{Full};

@@ -1,1 +1,2 @@
 // The mathematics of the planner: definitions in specs/, theorems in proofs/. There is no code here.
+#![tactic(auto)]

@@ -11,7 +11,7 @@ use domains::{DOMAINS, Place, ROWS};
 use pairs::{pair_count, pair_of};
 
 // Where to branch, if not every pair is separated.
-#[derive(Drop)]
+#[derive(Clone, Copy)]
 pub enum Branching {
     Packed,
     At(Place),

@@ -1,4 +1,6 @@
 // The opening domains of an instance.
+#![tactic(auto)]
+
 ghost use Rattle.std.specs.Prelude.{◌≡◌, true, false, map, ◌≤◌, take};
 ghost use Rattle.sheet.specs.Sheet.{max_precedences};
 ghost use Rattle.parts.specs.Precedences.{arc_of, all_allowed};
@@ -21,7 +23,7 @@ use parts::Precedence;
 mod layout;
 
 // The opening domains with their rows, queue and totals; or that they are inconsistent.
-#[derive(Drop)]
+#[derive(Clone, Copy)]
 pub struct Root {
     pub consistent: bool,
     pub domains: [u8; DOMAINS],

@@ -28,7 +28,7 @@ pub fn start_on(position: Position, axis: u8) -> u16
 }
 
 // An item where a packing puts it.
-#[derive(Drop)]
+#[derive(Clone, Copy)]
 pub struct Placed {
     pub size: Size,
     pub position: Position,

@@ -1,4 +1,6 @@
 // The check of a packing, and the clearance of two items.
+#![tactic(auto)]
+
 ghost use Rattle.std.specs.Prelude.{◌≡◌};
 ghost use Rattle.packing.specs.Check.{check_answer, Decides};
 ghost use Rattle.packing.specs.Clearance.{clearance_answer, Answers};
@@ -11,7 +13,7 @@ mod feasible;
 mod signed;
 
 // What the check answers.
-#[derive(Drop)]
+#[derive(Clone, Copy)]
 pub enum CheckAnswer {
     Feasible,
     NotFeasible,
@@ -19,7 +21,7 @@ pub enum CheckAnswer {
 }
 
 // The clearance in modules: above 0 a gap, 0 touching, below 0 the overlap.
-#[derive(Drop)]
+#[derive(Clone, Copy)]
 pub enum ClearanceAnswer {
     Clearance(i32),
     Refused(Refusal),

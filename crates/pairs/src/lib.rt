@@ -1,10 +1,12 @@
 // Pairs of items u < v by number: 0, 1, 2, 3 are (0,1), (0,2), (1,2), (0,3), and so on.
+#![tactic(auto)]
+
 ghost use Rattle.std.specs.Prelude.{◌≡◌, ◌<◌, ◌≤◌};
 ghost use Rattle.model.specs.Pairs as P;
 ghost use Rattle.pairs.specs.Values.{pair_value};
 
 // Two items, the lower first.
-#[derive(Drop)]
+#[derive(Clone, Copy)]
 pub struct Pair {
     pub u: usize,
     pub v: usize,

@@ -1,4 +1,6 @@
 // The program's work between reading its input and writing its output: from a sheet to the text.
+#![tactic(auto)]
+
 ghost use Rattle.sheet.specs.Sheet.{max_items};
 ghost use Rattle.report.specs.Text.{max_text, with_front};
 ghost use Rattle.std.specs.Prelude.{◌≡◌, ◌≤◌, length};

@@ -1,4 +1,6 @@
 // Each pair that changed is worked off once: all rules with a premise of it.
+#![tactic(auto)]
+
 ghost use Rattle.std.specs.Prelude.{◌+◌, ◌<◌};
 ghost use Rattle.model.specs.Order.{Proper};
 ghost use Rattle.model.specs.Clauses.{Lawful};

@@ -1,8 +1,10 @@
 // Why an input is refused: one case for each number of document 01's table of refusals, with its place.
+#![tactic(auto)]
+
 ghost use Rattle.std.specs.Prelude.{◌≡◌};
 ghost use Rattle.refusal.specs.Numbers.{number_of, place_of};
 
-#[derive(Drop)]
+#[derive(Clone, Copy)]
 pub enum Refusal {
     // 1: the bytes end before a byte that is due
     EndsEarly(usize),

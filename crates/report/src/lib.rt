@@ -1,4 +1,6 @@
 // The text that the program prints, made in a lent buffer.
+#![tactic(auto)]
+
 ghost use Rattle.sheet.specs.Sheet.{max_items};
 ghost use Rattle.report.specs.Text.{max_text};
 ghost use Rattle.std.specs.Prelude.{◌≡◌, ◌≤◌, length};

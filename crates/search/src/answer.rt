@@ -6,7 +6,7 @@ use instance::{Checkpoint, Packing};
 use refusal::Refusal;
 
 // "It answers placed with the plan, none, or spent", or refuses.
-#[derive(Drop)]
+#[derive(Clone, Copy)]
 pub enum Answer {
     Packed,
     Infeasible,
@@ -14,7 +14,7 @@ pub enum Answer {
     Refused(Refusal),
 }
 
-#[derive(Drop)]
+#[derive(Clone, Copy)]
 pub struct SearchResult {
     pub answer: Answer,
     pub steps: u32,

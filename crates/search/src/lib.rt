@@ -1,4 +1,6 @@
 // One call of the search: with a budget of steps, from a checkpoint to the next.
+#![tactic(auto)]
+
 ghost use Rattle.std.specs.Prelude.{◌≡◌};
 ghost use Rattle.instance.specs.Reads.{Full};
 ghost use Rattle.search.specs.Results.{search_result};

@@ -1,1 +1,2 @@
 // The sheet's bytes: no code, definitions and theorems alone.
+#![tactic(auto)]

@@ -1,5 +1,7 @@
 // Functions on values, callable on bytes and numbers: the comparison in tests/ reaches reading, writing, records, check and clearance
 // through them. A value's bytes are those of `test_values`, so that it may be one that no sheet gives. Nothing else uses this crate.
+#![tactic(auto)]
+
 ghost use Rattle.std.specs.Prelude.{◌≡◌, length};
 ghost use Rattle.packing.specs.Check.{check_number, check_answer};
 ghost use Rattle.packing.specs.Clearance.{clearance_answer};

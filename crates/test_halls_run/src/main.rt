@@ -1,5 +1,7 @@
 // Runs every row of document 01's table "Small halls", and halls with the lags, the walkway and the pieces that may be turned of document 02, #101, #105
 // and #106, and prints what the program prints for each.
+#![tactic(auto)]
+
 ghost use Rattle.std.specs.Prelude.{◌≡◌, ◌≤◌, length};
 ghost use Rattle.sheet.specs.Sheet.{max_items};
 ghost use Rattle.search.specs.Results.{search_result};

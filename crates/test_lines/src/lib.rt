@@ -1,5 +1,7 @@
 // Printing: words, numbers and bytes, each after a space. What is printed goes to the C library, of which no contract speaks:
 // a function that only prints has none, and the gate compares its output.
+#![tactic(auto)]
+
 ghost use Rattle.std.specs.Prelude.{◌≡◌, drop};
 ghost use Rattle.model.specs.Below.{all_in};
 ghost use Rattle.test_lines.specs.Rest.{size_zero, item_zero, precedence_zero, rest_zero};

@@ -1,5 +1,7 @@
 // Instances and packings from bytes at fixed places, for the tests: any value of the types, also one that no sheet gives.
 // The low byte is first; a byte past the end counts as 0.
+#![tactic(auto)]
+
 ghost use Rattle.std.specs.Prelude.{◌≡◌, ◌+◌, ◌*◌, ◌<◌, get_or};
 ghost use Rattle.sheet.specs.Sheet.{max_items, max_precedences};
 ghost use Rattle.sheet.specs.Places.{byte_at, word_at};

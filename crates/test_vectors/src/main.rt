@@ -1,4 +1,6 @@
 // Runs the cases on standard input and prints a line for each. tests/make_vectors.py says what a case is.
+#![tactic(auto)]
+
 ghost use Rattle.std.specs.Prelude.{◌≡◌, ◌≤◌, length};
 ghost use Rattle.writer.specs.Answers.{write_answer};
 

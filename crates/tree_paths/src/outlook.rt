@@ -13,7 +13,7 @@ use domains::{DOMAINS, Place, ROWS};
 use nodes::branching::{Branching, choose};
 use propagation::propagate;
 
-#[derive(Drop)]
+#[derive(Clone, Copy)]
 pub enum Outlook {
     Conflict,
     Complete,

@@ -1,4 +1,6 @@
 // The search of one problem: along a path from the root, and then the steps of a call.
+#![tactic(auto)]
+
 ghost use Rattle.std.specs.Prelude.{◌≡◌, true, List, [], ℕ};
 ghost use Rattle.model.specs.Problem.{Problem};
 ghost use Rattle.model.specs.Run as R;

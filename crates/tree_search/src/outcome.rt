@@ -2,7 +2,7 @@
 use instance::{Instance, Position};
 
 // What a call comes to: a packing, none, the budget spent on the way, or a path that does not follow the problem.
-#[derive(Drop)]
+#[derive(Clone, Copy)]
 pub enum Outcome {
     Packed,
     Infeasible,
@@ -11,7 +11,7 @@ pub enum Outcome {
 }
 
 // The outcome, the steps taken, the path that they lead to and, where packed, the positions.
-#[derive(Drop)]
+#[derive(Clone, Copy)]
 pub struct TreeResult {
     pub outcome: Outcome,
     pub steps: u32,

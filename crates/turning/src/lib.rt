@@ -1,4 +1,6 @@
 // Items that may be turned: the choices of an instance, the marks of a choice, and an instance with its marked items turned.
+#![tactic(auto)]
+
 ghost use Rattle.std.specs.Prelude.{◌≡◌, true, ◌≤◌, ◌<◌};
 ghost use Rattle.sheet.specs.Sheet.{max_items};
 ghost use Rattle.model.specs.Turning.{last_choice};

@@ -1,4 +1,6 @@
 // Writing a sheet, field by field.
+#![tactic(auto)]
+
 ghost use Rattle.std.specs.Prelude.{◌≡◌, true, ◌≤◌, length};
 ghost use Rattle.std.proofs.lemmas.List.Edits.{sets};
 ghost use Rattle.formats.specs.Fields.{flags};
@@ -14,7 +16,7 @@ use refusal::Refusal;
 mod counted;
 
 // What writing gives: how many bytes were written.
-#[derive(Drop)]
+#[derive(Clone, Copy)]
 pub enum WriteAnswer {
     Written(usize),
     Refused(Refusal),

@@ -1,0 +1,2 @@
+-- What the crates take from the toolchain's libraries.
+pub mod Names
