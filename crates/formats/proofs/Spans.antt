@@ -259,11 +259,11 @@ module _ (s : List ℕ) where
         → Spans (row_reading part tests next (state 0) n) (place 0) (up_to n x) (place n) (λ e. (k : ℕ) × (k < n) × W k e)
     unfolding row_reading
     spans_row {place = place} zero π = spans_as (spans_done [] (place 0)) (λ e. (λ w. absurd w, λ (k, l, w). omega arith))
-    spans_row {place = place} {x = x} {W = W} (suc n) π =
-        let τ = spans_row n (record { known = λ k. π.known (suc k); each = λ k. π.each (suc k) }) in
+    spans_row {state = state} {place = place} {x = x} {W = W} (suc n) π =
+        let τ = spans_row {state = λ k. state (suc k)} n (record { known = λ k. π.known (suc k); each = λ k. π.each (suc k) }) in
         spans_as (spans_then _ _ (π.each 0) (spans_then _ _ (rw (← (π.known 0)) at τ) (spans_done (up_to (suc n) x) (place (suc n))))) (λ e. (
           elim [ inl w ↦ (0, omega arith, w) | inr (inl (k, l, w)) ↦ (suc k, omega arith, w) | inr (inr w) ↦ absurd w ],
-          λ (k, l, w). (elim k as (λ k. k < suc n → W k e → _) [ zero ↦ λ l w. inl w | suc k ↦ λ l w. inr (inl (k, omega arith, w)) ]) l w,
+          λ (k, l, w). (elim k as (λ k. k < suc n → W k e → W 0 e ⊎ (((i : ℕ) × (i < n) × W (suc i) e) ⊎ ⊥)) [ zero ↦ λ l w. inl w | suc k ↦ λ l w. inr (inl (k, omega arith, w)) ]) l w,
         ))
 
   -- the whole input: 7 where bytes are left

@@ -18,7 +18,9 @@ use Rattle.model.proofs.Gap.{order_before}
 -- seen from the other item, the packing realises the converse
 realises_converse : (p : Problem) (q : Positions) (x a u v : ℕ) → Realises p q (converse x) a v u → Realises p q x a u v
 unfolding Overlaps
-realises_converse p q x a u v = elim x [ zero ↦ λ h. (h.1, h.0) | suc zero ↦ λ h. h | suc (suc x) ↦ λ h. h ]
+realises_converse p q zero a u v = λ h. (h.1, h.0)
+realises_converse p q (suc zero) a u v = λ h. h
+realises_converse p q (suc (suc x)) a u v = λ h. h
 
 module _ (p : Problem) (sound : Sound p) (q : Positions) (k : Domains) (w : WellFormed k) (admits : Admits p k q) where
   pub without_admits : {a u v : ℕ} (x : ℕ) → x < 3 → Proper p.items a u v → (Realises p q x a u v → ⊥) → Admits p (without k x a u v) q

@@ -28,10 +28,12 @@ free zero had = 0
 free (suc n) had = free n had + cond (listed n had) 0 1
 
 unlisted_or : (x y : Bool) → cond (x || y) 0 1 ≤ cond y 0 1
-unlisted_or x y = elim x [ true ↦ zero-le | false ↦ le_refl _ ]
+unlisted_or true y = zero-le
+unlisted_or false y = le_refl _
 
 unlisted_le : (b : Bool) → cond b 0 1 ≤ 1
-unlisted_le b = elim b [ true ↦ zero-le | false ↦ le_refl 1 ]
+unlisted_le true = zero-le
+unlisted_le false = le_refl 1
 
 free_cons_le : (n : ℕ) (had : List ℕ) (v : ℕ) → free n (v ∷ had) ≤ free n had
 free_cons_le zero had v = zero-le

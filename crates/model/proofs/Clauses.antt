@@ -126,7 +126,7 @@ pub obeyed-at-rest : (p : Problem) (k : Domains) → Obeyed p.items k
     → ((a u v : ℕ) → Proper p.items a u v → rule5 p k a u v ≡ true → may_before k a u v ≡ false) → AtRest p k
 unfolding asks asks_before asks_overlap gone
 obeyed-at-rest p k o no-c2 = record {
-  done = λ x a u v h s. elim x [
+  done = λ x a u v h s. elim x as (λ x. asks p k x a u v ≡ true → gone k x a u v ≡ true) [
     | zero ↦ λ e. ap not (or_elim (rule1 p k a u v) _ (by_c3 p k o a u v s) (or_elim (rule2 p k a u v) _
         (λ e. (fixed_before-says k a u v (by_d2 p k o a u v s e)).0) (λ e. may_overlap-sym k a v u ∙ (down a u v s e).0)) e)
     | suc zero ↦ λ e. ap not (before a u v s e)

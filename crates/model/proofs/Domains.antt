@@ -9,7 +9,9 @@ use Rattle.model.proofs.Slots.{lt_or_gt, index-sym, index-up}
 
 -- How two items compare
 by_tests : (o : Ordering) → o ≡ cond (compare_is_eq o) ordering_eq (cond (is_le o) ordering_lt ordering_gt)
-by_tests o = elim o [ ordering_lt ↦ refl | ordering_eq ↦ refl | ordering_gt ↦ refl ]
+by_tests ordering_lt = refl
+by_tests ordering_eq = refl
+by_tests ordering_gt = refl
 
 compare_self : (u : ℕ) → compare u u ≡ ordering_eq
 compare_self u = by_tests (compare u u) ∙ rw (eq-eqb u u refl)
@@ -22,10 +24,14 @@ compare-gt u v h = by_tests (compare v u) ∙ rw (ne_eqb v u (λ e. omega arith)
 
 -- The numbers of relations, and their bits
 pub converse-small : (x : ℕ) → converse x < 3
-converse-small x = elim x [ zero ↦ omega arith | suc zero ↦ omega arith | suc (suc x) ↦ omega arith ]
+converse-small zero = omega arith
+converse-small (suc zero) = omega arith
+converse-small (suc (suc x)) = omega arith
 
 converse_twice : (x : ℕ) → converse (converse x) ≡ min x 2
-converse_twice x = elim x [ zero ↦ refl | suc zero ↦ refl | suc (suc x) ↦ omega arith ]
+converse_twice zero = refl
+converse_twice (suc zero) = refl
+converse_twice (suc (suc x)) = omega arith
 
 module _ {u v : ℕ} (h : u ≢ v) where
   pub place-small : (x : ℕ) → place (compare u v) x < 3
@@ -51,11 +57,11 @@ module _ (k : Domains) (x a u v : ℕ) where
 module _ (k : Domains) (x a u v : ℕ) where
   pub gone-is : gone k x a u v ≡ not (left k x a u v)
   unfolding gone may_overlap may_before
-  gone-is = elim x [ zero ↦ refl | suc zero ↦ refl | suc (suc x) ↦ ap not (left-converse k (suc (suc x)) a u v) ]
+  gone-is = elim x as (λ x. gone k x a u v ≡ not (left k x a u v)) [ zero ↦ refl | suc zero ↦ refl | suc (suc x) ↦ ap not (left-converse k (suc (suc x)) a u v) ]
 
   pub without_is : without k x a u v ≡ cleared k x a u v
   unfolding without remove_overlap remove_before
-  without_is = elim x [ zero ↦ refl | suc zero ↦ refl | suc (suc x) ↦ rw (place-converse k (suc (suc x)) a u v, index-sym a v u) ]
+  without_is = elim x as (λ x. without k x a u v ≡ cleared k x a u v) [ zero ↦ refl | suc zero ↦ refl | suc (suc x) ↦ rw (place-converse k (suc (suc x)) a u v, index-sym a v u) ]
 
 pub may_overlap-sym : (k : Domains) (a u v : ℕ) → may_overlap k a v u ≡ may_overlap k a u v
 unfolding may_overlap

@@ -69,7 +69,9 @@ kind no_packing = 1
 kind (packing q) = 2
 
 next_or : (s : Status) (x y : ℕ) → x ≤ y → x ≤ elim s as (λ _. ℕ) [ running ↦ x | failed ↦ y | succeeded ↦ x ]
-next_or s x y h = elim s [ running ↦ le_refl x | failed ↦ h | succeeded ↦ le_refl x ]
+next_or running x y h = le_refl x
+next_or failed x y h = h
+next_or succeeded x y h = le_refl x
 
 module _ (t : Turnable) where
   -- what `finish_from` comes to, by the search of the next length

@@ -10,14 +10,20 @@ use Rattle.model.proofs.Machine.{running_is, steps_add, past-count, count-later,
 -- The numbers of answers
 
 number_small : (s : Status) → status_number s < 100
-number_small s = elim s [ running ↦ omega arith | failed ↦ omega arith | succeeded ↦ omega arith ]
+number_small running = omega arith
+number_small failed = omega arith
+number_small succeeded = omega arith
 
 ended_not-zero : (s : Status) → Ended s → status_number s ≡ 0 → ⊥
-ended_not-zero s = elim s [ running ↦ λ f e. f | failed ↦ λ f e. omega arith | succeeded ↦ λ f e. omega arith ]
+ended_not-zero running = λ f e. f
+ended_not-zero failed = λ f e. omega arith
+ended_not-zero succeeded = λ f e. omega arith
 
 -- no state but a placed one has a plan
 unplanned : {S C X P : Type 0} (w : Service S C X P) (c : C) (κ : S) (s : Status) → (status_number s ≡ 1 → ⊥) → plan_by w c κ s ≡ w.no_plan c
-unplanned w c κ s = elim s [ running ↦ λ n. refl | failed ↦ λ n. refl | succeeded ↦ λ n. absurd (n refl) ]
+unplanned w c κ running = λ n. refl
+unplanned w c κ failed = λ n. refl
+unplanned w c κ succeeded = λ n. absurd (n refl)
 
 module _ {S C X P : Type 0} (M : Machine S) (Follows : S → Type 0) (ι : Invariant M Follows) (w : Service S C X P) (υ : Serves M w Follows)
     (count : ℕ) (k : Count M M.opening count) where

@@ -5,17 +5,25 @@ use Rattle.model.specs.Machine.{Status, running, failed, succeeded, Machine, Run
 
 -- not both open and finished
 pub ended_not_running : (s : Status) → Ended s → Running s → ⊥
-ended_not_running s = elim s [ running ↦ λ f o. f | failed ↦ λ f o. o | succeeded ↦ λ f o. o ]
+ended_not_running running = λ f o. f
+ended_not_running failed = λ f o. o
+ended_not_running succeeded = λ f o. o
 
 pub running_is : (s : Status) → Running s → s ≡ running
-running_is s = elim s [ running ↦ λ o. refl | failed ↦ λ o. absurd o | succeeded ↦ λ o. absurd o ]
+running_is running = λ o. refl
+running_is failed = λ o. absurd o
+running_is succeeded = λ o. absurd o
 
 -- what is done only while running is not done at the end
 ended_skips : {A : Type 0} (x y : A) (s : Status) → Ended s → elim s as (λ _. A) [ running ↦ x | failed ↦ y | succeeded ↦ y ] ≡ y
-ended_skips x y s = elim s [ running ↦ λ f. absurd f | failed ↦ λ f. refl | succeeded ↦ λ f. refl ]
+ended_skips x y running = λ f. absurd f
+ended_skips x y failed = λ f. refl
+ended_skips x y succeeded = λ f. refl
 
 status_or : {A : Type 0} (s : Status) → (Running s → A) → (Ended s → A) → A
-status_or s = elim s [ running ↦ λ f g. f tt | failed ↦ λ f g. g tt | succeeded ↦ λ f g. g tt ]
+status_or running = λ f g. f tt
+status_or failed = λ f g. g tt
+status_or succeeded = λ f g. g tt
 
 module _ {S : Type 0} (M : Machine S) where
   -- one step, by what the state is

@@ -66,4 +66,6 @@ module _ (k j : Domains) (h : k ⊑ j) where
 
     pub asks_mono : (x u v : ℕ) → Implies (asks p j x a u v) (asks p k x a u v)
     unfolding asks
-    asks_mono x u v = elim x [ zero ↦ overlap_asked u v | suc zero ↦ before_asked u v | suc (suc x) ↦ before_asked v u ]
+    asks_mono zero u v = overlap_asked u v
+    asks_mono (suc zero) u v = before_asked u v
+    asks_mono (suc (suc x)) u v = before_asked v u

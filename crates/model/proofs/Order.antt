@@ -8,10 +8,14 @@ use Rattle.model.proofs.Below.{Implies, implies_refl, implies_false, past_three,
 -- The three bits of a domain made of three tests, and that it is a small number
 bits_of : (o f b : Bool) → let m = domain o f b in (overlap_bit m ≡ o) × (before_bit m ≡ f) × (after_bit m ≡ b) × (m < 8)
 unfolding domain overlap_bit before_bit after_bit
-bits_of true true b = elim b [ true ↦ (refl, refl, refl, omega arith) | false ↦ (refl, refl, refl, omega arith) ]
-bits_of true false b = elim b [ true ↦ (refl, refl, refl, omega arith) | false ↦ (refl, refl, refl, omega arith) ]
-bits_of false true b = elim b [ true ↦ (refl, refl, refl, omega arith) | false ↦ (refl, refl, refl, omega arith) ]
-bits_of false false b = elim b [ true ↦ (refl, refl, refl, omega arith) | false ↦ (refl, refl, refl, omega arith) ]
+bits_of true true true = (refl, refl, refl, omega arith)
+bits_of true true false = (refl, refl, refl, omega arith)
+bits_of true false true = (refl, refl, refl, omega arith)
+bits_of true false false = (refl, refl, refl, omega arith)
+bits_of false true true = (refl, refl, refl, omega arith)
+bits_of false true false = (refl, refl, refl, omega arith)
+bits_of false false true = (refl, refl, refl, omega arith)
+bits_of false false false = (refl, refl, refl, omega arith)
 
 pub overlap_bit-of : (o f b : Bool) → overlap_bit (domain o f b) ≡ o
 overlap_bit-of o f b = (bits_of o f b).0

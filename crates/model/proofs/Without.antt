@@ -104,7 +104,7 @@ unfolding says
 says_elsewhere k x {a} {u} {v} {b} {s} {t} w z h c =
     let stays : (y : ℕ) → gone (without k x a u v) y b s t ≡ gone k y b s t = λ y.
     stored_apart k x a u v y b s t (λ e. let q = index_of-same z w e in absurd (h q.0 q.1 q.2)) in
-    elim c [
+    elim c as (λ c. says c (without k x a u v) b s t ≡ says c k b s t) [
       | overlaps ↦ rw (stays 1, stays 2)
       | nothing ↦ rw (stays 0, stays 1, stays 2)
       | removed y ↦ stays y
