@@ -4,14 +4,14 @@ use Rattle.prelude.specs.Names.{zero, suc, add-zero, take, drop, replicate, le-l
 use lib.Dec.{leb-suc-suc}
 use Rattle.refusal.specs.declared.Refusal.TheVariants.{EndsEarly, UnknownBit, WrittenDefault, BadCount, BadItem, NotRising, NoLag, TooLarge}
 use Rattle.formats.specs.Reading.{Reading, Read, due, got, refused, run, read_as, ◌>>=◌}
-use Rattle.formats.specs.Formats.{byte, word, presence, pair, converted, testing, tested, keyed, row_reading, row, count}
-use Rattle.formats.specs.Fields.{optional_reading, is_set, fields_reading, fields, map_byte, with_map}
+use Rattle.formats.specs.Formats.{byte, word, presence, pair, converted, testing, tested, keyed, row_reading, row, count, count_tests}
+use Rattle.formats.specs.Fields.{optional_reading, is_set, fields_reading, fields, map_byte, map_tests, with_map}
 use Rattle.formats.proofs.Run.{after, after_after, cond_after, run-then, read_as-cond}
 use Rattle.parts.specs.declared.Size.{Size}
 use Rattle.parts.specs.declared.Previous.{Previous}
 use Rattle.parts.specs.Sizes.{max_measure}
 use Rattle.parts.specs.Precedences.{Arc, unlagged, names_items, rises}
-use Rattle.parts.specs.Parts.{number, byte_number, measure, count_field, measures, size_fields, may_turn, item_fields, item, precedence}
+use Rattle.parts.specs.Parts.{low_test, measure_tests, number, byte_number, measure, count_field, measures, size_fields, may_turn, item_fields, item, precedence}
 use Rattle.parts.specs.Parts.{precedence_tests, lags_zero, lag_row, lag_list}
 
 -- one byte is read, or two, where they are there
@@ -33,14 +33,14 @@ pub number-run : (default at : ℕ) (present : Bool) (rest : List ℕ) → run (
     (cond (ltb (length rest) 2) (refused (EndsEarly (at + length rest)))
     (cond (leb v default) (refused (WrittenDefault at)) (got v (at + 2) (drop 2 rest)))))
 unfolding number tested testing word run ◌>>=◌
-number-run default at true rest = two_due _ at rest
+number-run default at true rest = two_due (λ x y. let v = x + 256 * y in testing (low_test default v ∷ []) at v) at rest
 number-run default at false rest = refl
 
 pub byte_number-run : (at : ℕ) (present : Bool) (rest : List ℕ) → run (optional_reading byte_number present) at rest
     ≡ (let v = get_or rest 0 0 in cond (not present) (got 0 at rest) (cond (ltb (length rest) 1) (refused (EndsEarly at))
     (cond (leb v 0) (refused (WrittenDefault at)) (got v (at + 1) (drop 1 rest)))))
 unfolding byte_number tested testing byte run ◌>>=◌
-byte_number-run at true rest = one_due _ at rest
+byte_number-run at true rest = one_due (λ v. testing (low_test 0 v ∷ []) at v) at rest
 byte_number-run at false rest = refl
 
 -- a measure passes one test more
@@ -49,14 +49,14 @@ pub measure-run : (at : ℕ) (present : Bool) (rest : List ℕ) → run (optiona
     (cond (ltb (length rest) 2) (refused (EndsEarly (at + length rest)))
     (cond (leb v 1) (refused (WrittenDefault at)) (cond (ltb max_measure v) (refused (TooLarge at)) (got v (at + 2) (drop 2 rest))))))
 unfolding measure tested testing word run ◌>>=◌
-measure-run at true rest = two_due _ at rest
+measure-run at true rest = two_due (λ x y. let v = x + 256 * y in testing (measure_tests v) at v) at rest
 measure-run at false rest = refl
 
 pub count-run : (limit at : ℕ) (present : Bool) (rest : List ℕ) → run (optional_reading (count_field limit) present) at rest
     ≡ (let n = get_or rest 0 0 in cond (not present) (got 0 at rest) (cond (ltb (length rest) 1) (refused (EndsEarly at))
     (cond (eqb n 0 || ltb limit n) (refused (BadCount at)) (got n (at + 1) (drop 1 rest)))))
 unfolding count_field count tested testing byte run ◌>>=◌
-count-run limit at true rest = one_due _ at rest
+count-run limit at true rest = one_due (λ n. testing (count_tests limit n) at n) at rest
 count-run limit at false rest = refl
 
 -- three measures in turn: the shifts after width and depth, the depth and the shifts after the width, all
@@ -84,7 +84,7 @@ pub item-run : (at : ℕ) (rest : List ℕ) → run item.reading at rest
     (after (run (fields_reading size_fields (get_or rest 0 0) 1) (at + 1) (drop 1 rest)) λ s at₁ rest₁.
     got (record { size = s; may_turn = is_set (get_or rest 0 0) 8 }) at₁ rest₁))
 unfolding item item_fields measures with_map map_byte keyed tested testing byte fields fields_reading size_fields run ◌>>=◌
-item-run at rest = one_due _ at rest ∙ simp (run-then, after_after, turn_run)
+item-run at rest = one_due (λ m. testing (map_tests 4 m) at m >>= λ k. (fields item_fields k).reading) at rest ∙ simp (run-then, after_after, turn_run)
 
 pub precedence-run : (n : ℕ) (last : Previous) (at : ℕ) (rest : List ℕ)
     → read_as unlagged (run (tested precedence (precedence_tests n last)).reading at rest)
@@ -92,7 +92,8 @@ pub precedence-run : (n : ℕ) (last : Previous) (at : ℕ) (rest : List ℕ)
     cond (ltb (length rest) 2) (refused (EndsEarly (at + length rest))) (cond (not (names_items n a)) (refused (BadItem at))
     (cond (not (rises last a)) (refused (NotRising at)) (got (unlagged a) (at + 2) (drop 2 rest)))))
 unfolding precedence converted pair tested testing byte run ◌>>=◌
-precedence-run n last at rest = ap (read_as unlagged) (two_due _ at rest) ∙ simp read_as-cond
+precedence-run n last at rest = ap (read_as unlagged) (two_due (λ u v. let a : Arc = record { predecessor = u; successor = v } in
+    testing (precedence_tests n last a) at a) at rest) ∙ simp read_as-cond
 
 -- a row of bytes is the next so many, where they are there
 lag_row-run : (m at : ℕ) (rest : List ℕ) → run (lag_row m).reading at rest

@@ -1,5 +1,5 @@
 -- `c_api::check_instance` meets its contract.
-use Rattle.prelude.specs.Names.{◌≡◌, arith, sym, ap, ◌∙◌, ne_eqb, needs}
+use Rattle.prelude.specs.Names.{◌≡◌, arith, sym, ap, ◌∙◌, ne_eqb, rules}
 use Rattle.instance.proofs.Sheets.{valid-says}
 use Rattle.packing.specs.Check.{check_number}
 use Rattle.c_api.specs.Calls.{instance_checked}
@@ -35,5 +35,5 @@ returns_4 c =
     c.refusal-code2.ensures ∙ sym (ap check_number e.e.given.1) ∙ checked e.before.before
 
 pub check_instance_spec : {M : Type 1} → Rattle.c_api.proofs.check_instance.Statement.statement M
-check_instance_spec = tie.close (tie.spec mul_if1 (λ c κs. search needs) returns read_packing_requires (λ c κs. search needs) (λ c. search needs)
-    (λ c. search needs) (λ c. search needs) (λ c κs. search needs) returns_2 returns_3 returns_4)
+check_instance_spec = tie.close (tie.spec mul_if1 (λ c κs. search rules) returns read_packing_requires (λ c κs. search rules) (λ c. search rules)
+    (λ c. search rules) (λ c. search rules) (λ c κs. search rules) returns_2 returns_3 returns_4)

@@ -1,5 +1,5 @@
 -- `c_api::hallplan_check` meets its contract.
-use Rattle.prelude.specs.Names.{List, ℕ, arith, needs}
+use Rattle.prelude.specs.Names.{List, ℕ, arith, rules}
 use Rattle.formats.specs.Reading.{Bytes}
 use Rattle.instance.specs.Sheets.{decode}
 use Rattle.instance.proofs.RoundTrips.{read_valid}
@@ -32,5 +32,5 @@ unfolding check_code
 returns_2 c = rw (as_instance c.before).was (c.check-instance.ensures, bytes c.before.before.before.before)
 
 pub hallplan_check_spec : {M : Type 1} → Rattle.c_api.proofs.hallplan_check.Statement.statement M
-hallplan_check_spec = tie.close (tie.spec (λ c κs. search needs) (λ c. search needs) (λ c κs. search needs) (λ c. search needs)
+hallplan_check_spec = tie.close (tie.spec (λ c κs. search rules) (λ c. search rules) (λ c κs. search rules) (λ c. search rules)
     check_instance_requires returns returns_2)

@@ -1,5 +1,5 @@
 -- `c_api::hallplan_pieces` meets its contract.
-use Rattle.prelude.specs.Names.{List, ℕ, refl, arith, needs}
+use Rattle.prelude.specs.Names.{List, ℕ, refl, arith, rules}
 use Rattle.formats.specs.Reading.{Bytes}
 use Rattle.instance.specs.Sheets.{decode}
 use Rattle.instance.proofs.RoundTrips.{read_valid}
@@ -34,5 +34,5 @@ unfolding pieces_code
 returns_2 c = rw (as_instance c.before).was (refl, bytes c.before.before.before.before)
 
 pub hallplan_pieces_spec : {M : Type 1} → Rattle.c_api.proofs.hallplan_pieces.Statement.statement M
-hallplan_pieces_spec = tie.close (tie.spec (λ c κs. search needs) (λ c. search needs) (λ c κs. search needs) (λ c. search needs)
+hallplan_pieces_spec = tie.close (tie.spec (λ c κs. search rules) (λ c. search rules) (λ c κs. search rules) (λ c. search rules)
     cast_result returns returns_2)

@@ -1,5 +1,5 @@
 -- `c_api::hand_over` meets its contract.
-use Rattle.prelude.specs.Names.{◌≡◌, sym, ◌∙◌, ◌≤◌, ◌<◌, arith, needs}
+use Rattle.prelude.specs.Names.{◌≡◌, sym, ◌∙◌, ◌≤◌, ◌<◌, arith, rules}
 use Rattle.search.specs.Results.{answer_number}
 use Rattle.c_api.proofs.Outcomes.{not_refused, path_room, refused-keeps}
 use Rattle.c_api.proofs.hand_over.Tie as tie
@@ -37,7 +37,7 @@ returns_2 c =
     )
 
 pub hand_over_spec : {M : Type 1} → Rattle.c_api.proofs.hand_over.Statement.statement M
-hand_over_spec = tie.close (tie.spec (λ c κs. search needs) (λ c κs. search needs) returns
+hand_over_spec = tie.close (tie.spec (λ c κs. search rules) (λ c κs. search rules) returns
     (λ c κs. let coded = c.before.before.before in let s = start coded.before in
     (s.pre.1.0, path_room s.args.res.answer s.args.res.checkpoint.length s.pre.0 (answered coded)))
-    (λ c κs. search needs) (λ c. search needs) (λ c. search needs) (λ c. search needs) returns_2)
+    (λ c κs. search rules) (λ c. search rules) (λ c. search rules) (λ c. search rules) returns_2)

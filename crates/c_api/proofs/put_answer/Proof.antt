@@ -1,5 +1,5 @@
 -- `c_api::put_answer` meets its contract.
-use Rattle.prelude.specs.Names.{◌≡◌, sym, ◌∙◌, needs}
+use Rattle.prelude.specs.Names.{◌≡◌, sym, ◌∙◌, rules}
 use Rattle.search.specs.Results.{answer_number}
 use Rattle.buffers.specs.Bytes.{packing_bytes}
 use Rattle.c_api.proofs.Outcomes.{plan-placed, plan-kept}
@@ -39,5 +39,5 @@ returns_2 c =
     )
 
 pub put_answer_spec : {M : Type 1} → Rattle.c_api.proofs.put_answer.Statement.statement M
-put_answer_spec = tie.close (tie.spec (λ c κs. search needs) (λ c κs. search needs) (λ c κs. search needs) (λ c κs. search needs)
-    (λ c. search needs) (λ c. search needs) returns (λ c. search needs) returns_2)
+put_answer_spec = tie.close (tie.spec (λ c κs. search rules) (λ c κs. search rules) (λ c κs. search rules) (λ c κs. search rules)
+    (λ c. search rules) (λ c. search rules) returns (λ c. search rules) returns_2)

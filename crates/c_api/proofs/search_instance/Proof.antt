@@ -1,5 +1,5 @@
 -- `c_api::search_instance` meets its contract.
-use Rattle.prelude.specs.Names.{◌≡◌, refl, sym, ap, ◌∙◌, length, not-true, not-false, true, needs}
+use Rattle.prelude.specs.Names.{◌≡◌, refl, sym, ap, ◌∙◌, length, not-true, not-false, true, rules}
 use Rattle.instance.proofs.Sheets.{valid-says}
 use Rattle.instance.proofs.Arrays.{length_mapped}
 use Rattle.search.specs.Results.{result_refused, search_result}
@@ -73,6 +73,6 @@ returns_3 c =
     rw (result h.before.before.before.before) h.hand-over.ensures
 
 pub search_instance_spec : {M : Type 1} → Rattle.c_api.proofs.search_instance.Statement.statement M
-search_instance_spec = tie.close (tie.spec (λ c κs. search needs) (λ c κs. search needs) returns (λ c κs. (lengths c.before).note_is)
-    (λ c κs. search needs) (λ c. search needs) returns_2 (λ c κs. (lengths c.before.before.before.before).note_is) (λ c κs. search needs)
-    hand_over_requires (λ c. search needs) (λ c. search needs) (λ c. search needs) returns_3)
+search_instance_spec = tie.close (tie.spec (λ c κs. search rules) (λ c κs. search rules) returns (λ c κs. (lengths c.before).note_is)
+    (λ c κs. search rules) (λ c. search rules) returns_2 (λ c κs. (lengths c.before.before.before.before).note_is) (λ c κs. search rules)
+    hand_over_requires (λ c. search rules) (λ c. search rules) (λ c. search rules) returns_3)

@@ -1,5 +1,5 @@
 -- `item_record::item_record` meets its contract.
-use Rattle.prelude.specs.Names.{needs, arith, ◌≡◌, sym, ◌∙◌, ◌≤◌, length}
+use Rattle.prelude.specs.Names.{rules, arith, ◌≡◌, sym, ◌∙◌, ◌≤◌, length}
 use Rattle.instance.specs.Sheets.{decode}
 use Rattle.sheet.specs.Places.{after_item, item_place}
 use Rattle.item_record.specs.declared.Lookup.TheVariants.{There}
@@ -19,7 +19,7 @@ ends_within c = rw c.place_of.ensures (found_there _ _ (found c.before))
 
 pub item_record_spec : {M : Type 1} → Rattle.item_record.proofs.item_record.Statement.statement M
 unfolding after_item item_record item_place
-item_record_spec = tie.close (tie.spec (λ c κs. search needs) (λ c. search needs) (λ c. search needs) (λ c. search needs)
+item_record_spec = tie.close (tie.spec (λ c κs. search rules) (λ c. search rules) (λ c. search rules) (λ c. search rules)
     (λ c κs. let a = c.before.before.before.before.args in omega (arith, found_there _ _ (found c), next_after a.bytes.now a.k))
     (λ c κs. ends_within c) (λ c. omega arith) (λ c. omega arith) (λ c. rw c.after-record.ensures (ends_within c.before))
     (λ c. rw (← c.before.before.before.look_up.ensures, c.before.enum_told.given.1))

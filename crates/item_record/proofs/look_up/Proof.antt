@@ -1,5 +1,5 @@
 -- `item_record::look_up` meets its contract.
-use Rattle.prelude.specs.Names.{needs, lt-ltb, le-ltb}
+use Rattle.prelude.specs.Names.{rules, lt-ltb, le-ltb}
 use Rattle.instance.specs.Sheets.{decode}
 use Rattle.instance.proofs.Readings.{WasRead, was_read, was_refused}
 use Rattle.item_record.proofs.look_up.Tie as tie
@@ -10,7 +10,7 @@ read : (c : tie.After-enum-told)
 read c = was_read _ _ c.before.before.before.read.ensures c.enum_told.given.1
 
 pub look_up_spec : {M : Type 1} → Rattle.item_record.proofs.look_up.Statement.statement M
-look_up_spec = tie.close (tie.spec (λ c κs. search needs) (λ c. search needs) (λ c. search needs)
+look_up_spec = tie.close (tie.spec (λ c κs. search rules) (λ c. search rules) (λ c. search rules)
     (λ c. rw ((read c.before.before).was, le-ltb _ _ c.if1.true)) (λ c. let b = c.before.before.before.before in
     rw (was_refused (decode b.before.before.args.bytes.now) _ b.read.ensures c.before.answer.given.1))
     (λ c. rw ((read c.before.before).was, lt-ltb _ _ c.if1.false)))

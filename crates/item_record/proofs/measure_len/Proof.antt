@@ -1,7 +1,7 @@
 -- `item_record::measure_len` meets its contract.
-use Rattle.prelude.specs.Names.{needs}
+use Rattle.prelude.specs.Names.{rules}
 use Rattle.item_record.proofs.measure_len.Tie as tie
 
 pub measure_len_spec : {M : Type 1} → Rattle.item_record.proofs.measure_len.Statement.statement M
-measure_len_spec = tie.close (tie.spec (λ c κs. search needs) (λ c. (rw (← c.before.bit-is-set.ensures, c.if1.true), search needs))
-    (λ c. (rw (← c.before.bit-is-set.ensures, c.if1.false), search needs)))
+measure_len_spec = tie.close (tie.spec (λ c κs. search rules) (λ c. (rw (← c.before.bit-is-set.ensures, c.if1.true), search rules))
+    (λ c. (rw (← c.before.bit-is-set.ensures, c.if1.false), search rules)))

@@ -1,5 +1,5 @@
 -- `item_record::place_of` meets its contract. Invariant: `place` is that of item i. Measure: the items left up to item k.
-use Rattle.prelude.specs.Names.{needs, add-one, arith, ◌≡◌, ◌≤◌, ◌-◌}
+use Rattle.prelude.specs.Names.{rules, add-one, arith, ◌≡◌, ◌≤◌, ◌-◌}
 use Rattle.sheet.specs.Places.{container_end, item_place}
 use Rattle.sheet.proofs.Faults.{item-before}
 use Rattle.item_record.proofs.Records.{place-positive}
@@ -14,8 +14,8 @@ decreases_loop bytes k place₀ i₀ place i = k - i
 pub place_of_spec : {M : Type 1} → Rattle.item_record.proofs.place_of.Statement.statement M
 unfolding container_end item_place
 place_of_spec = tie.close (tie.spec invariant_loop decreases_loop (λ c. let a = c.before.before.args in omega (arith, place-positive a.bytes.now a.k))
-    (λ c κs. search needs) (λ c. search needs) (λ c. omega arith)
+    (λ c κs. search rules) (λ c. search rules) (λ c. omega arith)
     (λ c κs. let l = c.before.loop in let a = c.before.before.before.before.before.args in
-    rw l.invariant.1 (omega (arith, item-before a.bytes.now a.k l.i (omega arith)))) (λ c. search needs) (λ c. search needs)
+    rw l.invariant.1 (omega (arith, item-before a.bytes.now a.k l.i (omega arith)))) (λ c. search rules) (λ c. search rules)
     (λ c. (omega arith, rw (add-one, c.after-record.ensures, c.before.before.loop.invariant.1)))
     (λ c. let l = c.before.loop in let q : l.i ≡ c.before.before.before.before.before.args.k = omega arith in rw (← q) l.invariant.1))

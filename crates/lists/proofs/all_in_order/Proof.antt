@@ -1,6 +1,6 @@
 -- `lists::all_in_order` meets its contract. Invariant: the first m precedences are allowed exactly where those from i on are, after the last one
 -- tested. Measure: the precedences left.
-use Rattle.prelude.specs.Names.{needs, not-true, not-false, arith, ◌&&◌, List, [], ◌∷◌, map, ℕ, ◌+◌, ◌-◌, ◌≤◌, ◌≡◌, refl, ap, ◌∙◌, length, get_or, take, drop}
+use Rattle.prelude.specs.Names.{rules, not-true, not-false, arith, ◌&&◌, List, [], ◌∷◌, map, ℕ, ◌+◌, ◌-◌, ◌≤◌, ◌≡◌, refl, ap, ◌∙◌, length, get_or, take, drop}
 use Rattle.formats.proofs.Entries.{part_next, part_done}
 use Rattle.parts.specs.declared.Previous.TheVariants.{Nothing, Was}
 use Rattle.parts.specs.Sizes.{no_precedence}
@@ -28,21 +28,21 @@ next-tested : (c : tie.After-both-items invariant_loop decreases_loop) →
     ≡ ((c.both-items.result && rises l.loop.last (arc_of o)) && all_allowed a.n (Was o) (map arc_of (drop (l.loop.i + 1) (take a.m a.t1))))
 unfolding all_allowed
 next-tested c =
-    let l = c.before.before.before in let a = l.before.args in let h : length a.t1 ≡ 90 = search needs in
+    let l = c.before.before.before in let a = l.before.args in let h : length a.t1 ≡ 90 = search rules in
     let o = get_or a.t1 l.loop.i no_precedence in
     l.loop.invariant.1 ∙ rw (part_next a.m l.loop.i a.t1 (omega arith) no_precedence (omega arith), ← c.both-items.ensures)
     (ap (◌&&◌ (c.both-items.result && rises l.loop.last (arc_of o))) (lag_unseen a.n o (map arc_of (drop (l.loop.i + 1) (take a.m a.t1)))))
 
 pub all_in_order_spec : {M : Type 1} → Rattle.lists.proofs.all_in_order.Statement.statement M
 unfolding all_allowed
-all_in_order_spec = tie.close (tie.spec invariant_loop decreases_loop (λ c. (omega arith, refl)) (λ c. search needs) (λ c. search needs) (λ c κs. search needs)
-    (λ c. rw (next-tested c.before, not-true c.before.both-items.result c.if1.true)) (λ c κs. search needs)
+all_in_order_spec = tie.close (tie.spec invariant_loop decreases_loop (λ c. (omega arith, refl)) (λ c. search rules) (λ c. search rules) (λ c κs. search rules)
+    (λ c. rw (next-tested c.before, not-true c.before.both-items.result c.if1.true)) (λ c κs. search rules)
     (λ c. let r = c.before.is-rising in let b = c.before.before in
     rw (next-tested b.before, not-false b.before.both-items.result b.if1.false, ← r.ensures, not-true r.result c.if2.true))
-    (λ c. search needs) (λ c. search needs)
+    (λ c. search rules) (λ c. search rules)
     (λ c. let r = c.before.is-rising in let b = c.before.before in (
       omega arith,
       rw (next-tested b.before, not-false b.before.both-items.result b.if1.false, ← r.ensures, not-false r.result c.if2.false),
     ))
-    (λ c. let d = c.before in let a = d.before.args in let h : length a.t1 ≡ 90 = search needs in
+    (λ c. let d = c.before in let a = d.before.args in let h : length a.t1 ≡ 90 = search rules in
     rw (d.loop.invariant.1, part_done a.m d.loop.i a.t1 (omega arith) (omega arith))))

@@ -1,5 +1,5 @@
 -- `lists::all_in_range` meets its contract. Invariant: the first n items are in range exactly where those from i on are. Measure: the items left.
-use Rattle.prelude.specs.Names.{needs, not-true, not-false, arith, ◌&&◌, ◌+◌, ◌-◌, ◌≤◌, ◌≡◌, refl, length, take, drop}
+use Rattle.prelude.specs.Names.{rules, not-true, not-false, arith, ◌&&◌, ◌+◌, ◌-◌, ◌≤◌, ◌≡◌, refl, length, take, drop}
 use Rattle.formats.proofs.Entries.{part_next, part_done}
 use Rattle.parts.specs.Sizes.{all_in_range, no_item}
 use Rattle.lists.proofs.all_in_range.Tie as tie
@@ -16,13 +16,13 @@ next-tested : (c : tie.After-size-in-range invariant_loop decreases_loop) →
     all_in_range (take a.n a.t1) ≡ (c.size_in_range.result && all_in_range (drop (l.loop.i + 1) (take a.n a.t1)))
 unfolding all_in_range
 next-tested c =
-    let l = c.before.before.before.before in let a = l.before.args in let h : length a.t1 ≡ 10 = search needs in
+    let l = c.before.before.before.before in let a = l.before.args in let h : length a.t1 ≡ 10 = search rules in
     rw (l.loop.invariant.1, part_next a.n l.loop.i a.t1 (omega arith) no_item (omega arith), ← c.size_in_range.ensures)
 
 pub all_in_range_spec : {M : Type 1} → Rattle.lists.proofs.all_in_range.Statement.statement M
 unfolding all_in_range
-all_in_range_spec = tie.close (tie.spec invariant_loop decreases_loop (λ c. (omega arith, refl)) (λ c. search needs) (λ c. search needs) (λ c κs. search needs)
-    (λ c. rw (next-tested c.before, not-true c.before.size_in_range.result c.if1.true)) (λ c. search needs) (λ c. search needs)
+all_in_range_spec = tie.close (tie.spec invariant_loop decreases_loop (λ c. (omega arith, refl)) (λ c. search rules) (λ c. search rules) (λ c κs. search rules)
+    (λ c. rw (next-tested c.before, not-true c.before.size_in_range.result c.if1.true)) (λ c. search rules) (λ c. search rules)
     (λ c. (omega arith, rw (next-tested c.before, not-false c.before.size_in_range.result c.if1.false)))
-    (λ c. let d = c.before in let a = d.before.args in let h : length a.t1 ≡ 10 = search needs in
+    (λ c. let d = c.before in let a = d.before.args in let h : length a.t1 ≡ 10 = search rules in
     rw (d.loop.invariant.1, part_done a.n d.loop.i a.t1 (omega arith) (omega arith))))

@@ -1,5 +1,5 @@
 -- `lists::all_zero` meets its contract. Invariant: the lags are all 0 exactly where those from i on are. Measure: the lags left.
-use Rattle.prelude.specs.Names.{needs, arith, ◌&&◌, eqb, ◌+◌, ◌-◌, ◌≤◌, ◌≡◌, refl, ◌∙◌, length, get_or, drop, drop-cons, add-one, drop_of_length-le}
+use Rattle.prelude.specs.Names.{rules, arith, ◌&&◌, eqb, ◌+◌, ◌-◌, ◌≤◌, ◌≡◌, refl, ◌∙◌, length, get_or, drop, drop-cons, add-one, drop_of_length-le}
 use Rattle.prelude.specs.Names.{eq-eqb, ne_eqb}
 use Rattle.parts.specs.Parts.{lags_zero}
 use Rattle.lists.proofs.all_zero.Tie as tie
@@ -16,13 +16,13 @@ next-tested : (c : tie.In-loop invariant_loop decreases_loop) →
     lags_zero gs ≡ (eqb (get_or gs l.loop.i 0) 0 && lags_zero (drop (l.loop.i + 1) gs))
 unfolding lags_zero
 next-tested c =
-    let l = c.before in let gs = l.before.args.t1 in let h : length gs ≡ 90 = search needs in
+    let l = c.before in let gs = l.before.args.t1 in let h : length gs ≡ 90 = search rules in
     l.loop.invariant.1 ∙ rw (drop-cons gs l.loop.i 0 (omega arith), add-one)
 
 pub all_zero_spec : {M : Type 1} → Rattle.lists.proofs.all_zero.Statement.statement M
 unfolding lags_zero
-all_zero_spec = tie.close (tie.spec invariant_loop decreases_loop (λ c. (omega arith, refl)) (λ c. search needs)
-    (λ c. rw (next-tested c.before, ne_eqb _ _ c.if1.true)) (λ c. search needs) (λ c. search needs)
+all_zero_spec = tie.close (tie.spec invariant_loop decreases_loop (λ c. (omega arith, refl)) (λ c. search rules)
+    (λ c. rw (next-tested c.before, ne_eqb _ _ c.if1.true)) (λ c. search rules) (λ c. search rules)
     (λ c. (omega arith, rw (next-tested c.before, eq-eqb _ _ c.if1.false)))
-    (λ c. let l = c.before in let gs = l.before.args.t1 in let h : length gs ≡ 90 = search needs in
+    (λ c. let l = c.before in let gs = l.before.args.t1 in let h : length gs ≡ 90 = search rules in
     rw (l.loop.invariant.1, drop_of_length-le gs {i = l.loop.i} (omega arith))))

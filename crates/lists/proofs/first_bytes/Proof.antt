@@ -1,5 +1,5 @@
 -- `lists::first_bytes` meets its contract. Invariant: the first i bytes are stored, before blanks. Measure: the bytes left.
-use Rattle.prelude.specs.Names.{needs, arith, ◌-◌, ◌≤◌, ◌≡◌, refl, ◌∙◌, take}
+use Rattle.prelude.specs.Names.{rules, arith, ◌-◌, ◌≤◌, ◌≡◌, refl, ◌∙◌, take}
 use Rattle.lists.specs.Lists.{padded}
 use Rattle.lists.proofs.Lags.{byte_next}
 use Rattle.lists.proofs.first_bytes.Tie as tie
@@ -11,8 +11,8 @@ abbrev decreases_loop : tie.decreases_loop
 decreases_loop rest m bytes₀ i₀ bytes i = m - i
 
 pub first_bytes_spec : {M : Type 1} → Rattle.lists.proofs.first_bytes.Statement.statement M
-first_bytes_spec = tie.close (tie.spec invariant_loop decreases_loop (λ c. (omega arith, refl)) (λ c. search needs) (λ c. search needs) (λ c. search needs)
-    (λ c. search needs) (λ c. let l = c.before.before in (
+first_bytes_spec = tie.close (tie.spec invariant_loop decreases_loop (λ c. (omega arith, refl)) (λ c. search rules) (λ c. search rules) (λ c. search rules)
+    (λ c. search rules) (λ c. let l = c.before.before in (
       omega arith,
       rw l.loop.invariant.1 (byte_next 90 l.before.args.rest.now l.loop.i (omega arith) (omega arith)),
     ))

@@ -1,6 +1,6 @@
 -- `lists::read_item_row` meets its contract. Invariant: i items are read and stored, and the row reads as they do, followed by what is left of it
 -- after `used` bytes. Measure: the items left.
-use Rattle.prelude.specs.Names.{needs, arith, ◌-◌, length-drop, ◌∙◌, []}
+use Rattle.prelude.specs.Names.{rules, arith, ◌-◌, length-drop, ◌∙◌, []}
 use Rattle.formats.proofs.Entries.{rest_of}
 use Rattle.formats.proofs.Laws.{untested}
 use Rattle.parts.specs.Parts.{item}
@@ -26,12 +26,12 @@ returns c =
     (read_same _ ∙ untested item _ _ ∙ rw c.before.e.given.1 at c.before.before.before.read-item.ensures))
 
 pub read_item_row_spec : {M : Type 1} → Rattle.lists.proofs.read_item_row.Statement.statement M
-read_item_row_spec = tie.close (tie.spec invariant_loop decreases_loop (λ c κs. search needs) (λ c. along-start c.no_items.ensures c.before.before.requires.1)
+read_item_row_spec = tie.close (tie.spec invariant_loop decreases_loop (λ c κs. search rules) (λ c. along-start c.no_items.ensures c.before.before.requires.1)
     (λ c. omega arith) (λ c. omega arith) (λ c. omega arith) (λ c. omega arith) (λ c κs. simp (rest_of, length-drop) (omega arith))
-    (λ c. search needs) (λ c. search needs) (λ c. omega arith) (λ c. let l = c.before.before.before.before.before.before in
+    (λ c. search rules) (λ c. search rules) (λ c. omega arith) (λ c. let l = c.before.before.before.before.before.before in
     omega (
       arith,
       part_took (λ x. x) item.reading _ l.loop.used l.before.before.before.args.rest.now
           (read_same _ ∙ rw c.before.item.given.1 at c.before.before.before.read-item.ensures),
     )) (λ c. omega arith) (λ c. omega arith) loop_again
-    (λ c. search needs) returns (λ c. rw row_same at (along-done c.before.loop.invariant (omega arith) (omega arith))))
+    (λ c. search rules) returns (λ c. rw row_same at (along-done c.before.loop.invariant (omega arith) (omega arith))))

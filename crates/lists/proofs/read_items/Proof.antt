@@ -1,5 +1,5 @@
 -- `lists::read_items` meets its contract.
-use Rattle.prelude.specs.Names.{arith, needs}
+use Rattle.prelude.specs.Names.{arith, rules}
 use Rattle.sheet.specs.Sheet.{max_items, item_list}
 use Rattle.formats.proofs.Run.{run_took}
 use Rattle.lists.proofs.Counted.{list_run, count-within}
@@ -7,11 +7,11 @@ use Rattle.lists.proofs.read_items.Tie as tie
 
 pub read_items_spec : {M : Type 1} → Rattle.lists.proofs.read_items.Statement.statement M
 unfolding item_list
-read_items_spec = tie.close (tie.spec (λ c κs. search needs) (λ c. search needs) (λ c κs. search needs)
+read_items_spec = tie.close (tie.spec (λ c κs. search rules) (λ c. search rules) (λ c κs. search rules)
     (λ c κs. let b = c.before.before.before.before.before.before in
     let e = rw c.before.before.n.given.1 at c.before.before.before.before.read_count.ensures in
     let m = count-within max_items b.args.present b.args.at b.args.rest.now e in
-    (b.requires, run_took _ _ _ e, omega (arith, c.widened.ensures))) (λ c. search needs) (λ c κs. search needs)
+    (b.requires, run_took _ _ _ e, omega (arith, c.widened.ensures))) (λ c. search rules) (λ c κs. search rules)
     (λ c. let e = rw c.before.before.before.n.given.1 at c.before.before.before.before.before.read_count.ensures in
     (rw (list_run, e, ← c.before.widened.ensures) c.read-item-row.ensures.0, c.read-item-row.ensures.1))
     (λ c. (

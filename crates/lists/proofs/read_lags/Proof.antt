@@ -1,5 +1,5 @@
 -- `lists::read_lags` meets its contract.
-use Rattle.prelude.specs.Names.{needs, arith, ◌≤◌, ◌≡◌, ap, subst, sym, ◌∙◌, Bool, false, not, cond, ◌+◌, ℕ, List}
+use Rattle.prelude.specs.Names.{rules, arith, ◌≤◌, ◌≡◌, ap, subst, sym, ◌∙◌, Bool, false, not, cond, ◌+◌, ℕ, List}
 use Rattle.prelude.specs.Names.{length, drop, take, replicate, add-zero, length-replicate, length-take-le, lt-ltb, le-ltb}
 use Rattle.refusal.specs.declared.Refusal.TheVariants.{NoLag}
 use Rattle.formats.specs.Reading.{run, got, refused}
@@ -47,9 +47,9 @@ there c =
 pub read_lags_spec : {M : Type 1} → Rattle.lists.proofs.read_lags.Statement.statement M
 read_lags_spec = tie.close (tie.spec
     (λ c. let a = c.before.before.args in let (n, p) = none a.m (omega arith) in
-    (lags-run a.m a.at a.present a.rest.now ∙ rw (c.if1.true, n, add-zero), p)) (λ c. search needs)
+    (lags-run a.m a.at a.present a.rest.now ∙ rw (c.if1.true, n, add-zero), p)) (λ c. search rules)
     (λ c. let s = c.before.before.before in let a = s.args in let (n, p) = none a.m (omega arith) in
-    (lags-run a.m a.at a.present a.rest.now ∙ rw (c.before.if1.false, lt-ltb _ _ c.if2.true), p)) (λ c κs. search needs)
-    (λ c κs. search needs)
+    (lags-run a.m a.at a.present a.rest.now ∙ rw (c.before.if1.false, lt-ltb _ _ c.if2.true), p)) (λ c κs. search rules)
+    (λ c κs. search rules)
     (λ c. let (read, full) = there c.before in (read ∙ rw c.if3.true, full))
     (λ c. let (read, full) = there c.before in (read ∙ rw c.if3.false, full)))

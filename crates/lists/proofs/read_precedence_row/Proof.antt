@@ -1,6 +1,6 @@
 -- `lists::read_precedence_row` meets its contract. Invariant: i precedences are read and stored, and the row reads as they do, followed by what is
 -- left of it after `used` bytes and the precedence `last`. Measure: the precedences left.
-use Rattle.prelude.specs.Names.{needs, arith, ◌-◌, length-drop}
+use Rattle.prelude.specs.Names.{rules, arith, ◌-◌, length-drop}
 use Rattle.formats.proofs.Entries.{rest_of}
 use Rattle.formats.specs.Formats.{tested}
 use Rattle.parts.specs.Precedences.{unlagged}
@@ -28,13 +28,13 @@ returns c =
     (rw c.before.e.given.1 at c.before.before.before.read-precedence.ensures)
 
 pub read_precedence_row_spec : {M : Type 1} → Rattle.lists.proofs.read_precedence_row.Statement.statement M
-read_precedence_row_spec = tie.close (tie.spec invariant_loop decreases_loop (λ c κs. search needs)
+read_precedence_row_spec = tie.close (tie.spec invariant_loop decreases_loop (λ c κs. search rules)
     (λ c. along-start c.no-precedences.ensures c.before.before.requires.1) (λ c. omega arith) (λ c. omega arith) (λ c. omega arith)
-    (λ c. omega arith) (λ c κs. simp (rest_of, length-drop) (omega arith)) (λ c. search needs) (λ c. search needs) (λ c. omega arith)
+    (λ c. omega arith) (λ c κs. simp (rest_of, length-drop) (omega arith)) (λ c. search rules) (λ c. search rules) (λ c. omega arith)
     (λ c. let l = c.before.before.before.before.before.before in
     omega (
       arith,
       part_took unlagged (tested precedence _).reading _ l.loop.used l.before.before.before.args.rest.now
           (rw c.before.o.given.1 at c.before.before.before.read-precedence.ensures),
     )) (λ c. omega arith) (λ c. omega arith) loop_again
-    (λ c. search needs) returns (λ c. along-done c.before.loop.invariant (omega arith) (omega arith)))
+    (λ c. search rules) returns (λ c. along-done c.before.loop.invariant (omega arith) (omega arith)))

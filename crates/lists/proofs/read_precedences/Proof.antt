@@ -1,5 +1,5 @@
 -- `lists::read_precedences` meets its contract.
-use Rattle.prelude.specs.Names.{arith, needs}
+use Rattle.prelude.specs.Names.{arith, rules}
 use Rattle.sheet.specs.Sheet.{max_precedences, precedence_list}
 use Rattle.formats.proofs.Run.{run_took}
 use Rattle.lists.proofs.Counted.{list_run, count-within}
@@ -7,11 +7,11 @@ use Rattle.lists.proofs.read_precedences.Tie as tie
 
 pub read_precedences_spec : {M : Type 1} → Rattle.lists.proofs.read_precedences.Statement.statement M
 unfolding precedence_list
-read_precedences_spec = tie.close (tie.spec (λ c κs. search needs) (λ c. search needs) (λ c κs. search needs)
+read_precedences_spec = tie.close (tie.spec (λ c κs. search rules) (λ c. search rules) (λ c κs. search rules)
     (λ c κs. let b = c.before.before.before.before.before.before in
     let e = rw c.before.before.m.given.1 at c.before.before.before.before.read_count.ensures in
     let m = count-within max_precedences b.args.present b.args.at b.args.rest.now e in
-    (b.requires, run_took _ _ _ e, omega (arith, c.widened.ensures))) (λ c. search needs) (λ c κs. search needs)
+    (b.requires, run_took _ _ _ e, omega (arith, c.widened.ensures))) (λ c. search rules) (λ c κs. search rules)
     (λ c. let e = rw c.before.before.before.m.given.1 at c.before.before.before.before.before.read_count.ensures in
     (rw (list_run, e, ← c.before.widened.ensures) c.read-precedence-row.ensures.0, c.read-precedence-row.ensures.1))
     (λ c. (

@@ -1,6 +1,6 @@
 -- `lists::with_lags` meets its contract. Invariant: the first i precedences have their lags, and the precedences with their lags are those followed by
 -- the others with theirs. Measure: the precedences left.
-use Rattle.prelude.specs.Names.{needs, arith, ◌++◌, map, append-nil, ◌-◌, ◌≤◌, ◌≡◌, refl, sym, ◌∙◌, length, take, drop, drop_of_length-le, take_all, length-set}
+use Rattle.prelude.specs.Names.{rules, arith, ◌++◌, map, append-nil, ◌-◌, ◌≤◌, ◌≡◌, refl, sym, ◌∙◌, length, take, drop, drop_of_length-le, take_all, length-set}
 use Rattle.parts.specs.Precedences.{arc_of}
 use Rattle.lists.specs.Lists.{with_lags}
 use Rattle.lists.proofs.Lags.{lag-next}
@@ -16,7 +16,7 @@ decreases_loop lags lagged₀ i₀ os i = 90 - i
 loop_again : tie.Need-loop-preserved invariant_loop decreases_loop
 loop_again c =
     let l = c.before.before in let a = l.before.args in
-    let k : length a.t2 ≡ 90 = search needs in
+    let k : length a.t2 ≡ 90 = search rules in
     (omega arith, rw length-set l.loop.invariant.1, l.loop.invariant.2 ∙ lag-next l.loop.lagged a.t2 l.loop.i (omega arith) (omega arith))
 
 returns : tie.Need-returns invariant_loop decreases_loop
@@ -26,5 +26,5 @@ returns c =
     sym (l.loop.invariant.2 ∙ rw (drop_of_length-le l.loop.lagged n, append-nil, take_all _ _ n))
 
 pub with_lags_spec : {M : Type 1} → Rattle.lists.proofs.with_lags.Statement.statement M
-with_lags_spec = tie.close (tie.spec invariant_loop decreases_loop (λ c. (omega arith, search needs, refl)) (λ c. search needs) (λ c. search needs) (λ c. search needs)
-    (λ c. search needs) (λ c. search needs) (λ c. search needs) (λ c. search needs) loop_again returns)
+with_lags_spec = tie.close (tie.spec invariant_loop decreases_loop (λ c. (omega arith, search rules, refl)) (λ c. search rules) (λ c. search rules) (λ c. search rules)
+    (λ c. search rules) (λ c. search rules) (λ c. search rules) (λ c. search rules) loop_again returns)

@@ -1,5 +1,5 @@
 -- `makespan::earliest_finish` meets its contract.
-use Rattle.prelude.specs.Names.{true, ◌≡◌, sym, ap, ◌∙◌, ℕ, suc, ◌+◌, ◌*◌, ◌/◌, ◌≤◌, ◌<◌, arith, needs, not-true, not-false}
+use Rattle.prelude.specs.Names.{true, ◌≡◌, sym, ap, ◌∙◌, ℕ, suc, ◌+◌, ◌*◌, ◌/◌, ◌≤◌, ◌<◌, arith, rules, not-true, not-false}
 use Rattle.model.specs.Earliest.{earliest_finish}
 use Rattle.instance.proofs.Arrays.{length_mapped}
 use Rattle.instance.proofs.Sheets.{valid-says}
@@ -59,10 +59,10 @@ afforded : (c : tie.Else2) → let s = c.before.before.before.before.before in
 afforded c = known_afforded c.before.conflicts.result (c.before.before.last_choice.result + 1) _ (omega arith) (omega (arith, c.if2.false))
 
 pub earliest_finish_spec : {M : Type 1} → Rattle.makespan.proofs.earliest_finish.Statement.statement M
-earliest_finish_spec = tie.close (tie.spec (λ c κs. search needs) (λ c κs. search needs) refused_here
-    (λ c κs. (valid-says _ (is-valid c)).items-few) (λ c. search needs) (λ c. search needs)
-    (λ c κs. (is-valid c.before, choices c)) (λ c. search needs) (λ c. search needs) (λ c. search needs) (λ c κs. search needs) spent_here
-    (λ c. search needs) (λ c. omega (arith, afforded c))
+earliest_finish_spec = tie.close (tie.spec (λ c κs. search rules) (λ c κs. search rules) refused_here
+    (λ c κs. (valid-says _ (is-valid c)).items-few) (λ c. search rules) (λ c. search rules)
+    (λ c κs. (is-valid c.before, choices c)) (λ c. search rules) (λ c. search rules) (λ c. search rules) (λ c κs. search rules) spent_here
+    (λ c. search rules) (λ c. omega (arith, afforded c))
     (λ c κs. let k = c.before in let s = k.before.before.before.before in
     (is-valid k.before.before, ap (λ (w : ℕ). k.conflicts.result * w) (choices k.before), afforded c, k.conflicts.ensures))
     (λ c. let k = c.before.before in let s = k.before.before.before.before in

@@ -1,5 +1,5 @@
 -- `makespan::in_conflict` meets its contract: by what the first steps answer.
-use Rattle.prelude.specs.Names.{◌≡◌, subst, needs}
+use Rattle.prelude.specs.Names.{◌≡◌, subst, rules}
 use Rattle.turning.specs.Turned.{turnable_of}
 use Rattle.instance.specs.Values.{opening_checkpoint}
 use Rattle.search.specs.declared.answer.Answer.{Answer}
@@ -16,6 +16,6 @@ answered c e =
     subst (λ a. ConflictIf (turnable_of i) (says_none a)) (rw is at e) (first-steps i c.before.before.requires.0 c.search.ensures.1)
 
 pub in_conflict_spec : {M : Type 1} → Rattle.makespan.proofs.in_conflict.Statement.statement M
-in_conflict_spec = tie.close (tie.spec (λ c κs. search needs) (λ c κs. search needs) (λ c. search needs) (λ c. search needs) (λ c. search needs)
-    (λ c. search needs) (λ c. answered c.before.before c.enum_told.given.1) (λ c. answered c.before.before c.enum-told2.given.1)
+in_conflict_spec = tie.close (tie.spec (λ c κs. search rules) (λ c κs. search rules) (λ c. search rules) (λ c. search rules) (λ c. search rules)
+    (λ c. search rules) (λ c. answered c.before.before c.enum_told.given.1) (λ c. answered c.before.before c.enum-told2.given.1)
     (λ c. answered c.before.before c.enum-told3.given.1) (λ c. answered c.before.before c.enum-told4.given.1))

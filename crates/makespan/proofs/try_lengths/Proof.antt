@@ -1,6 +1,6 @@
 -- `makespan::try_lengths` meets its contract. The invariant: what is asked for is what the lengths left come to under the rest of the budget, after the
 -- steps taken; `shortened` is the instance but for its shifts. `most - length` falls.
-use Rattle.prelude.specs.Names.{◌≡◌, refl, sym, ap, ◌∙◌, subst, ℕ, suc, ◌+◌, ◌-◌, ◌≤◌, ◌<◌, arith, needs}
+use Rattle.prelude.specs.Names.{◌≡◌, refl, sym, ap, ◌∙◌, subst, ℕ, suc, ◌+◌, ◌-◌, ◌≤◌, ◌<◌, arith, rules}
 use Rattle.model.specs.Earliest.{steps_before, finish_from, earliest_finish}
 use Rattle.model.specs.Turning.{Turnable}
 use Rattle.refusal.specs.declared.Refusal.{Refusal}
@@ -131,23 +131,23 @@ none_left t most length budget left h = let zero : most - length ≡ 0 = omega a
 pub try_lengths_spec : {M : Type 1} → Rattle.makespan.proofs.try_lengths.Statement.statement M
 try_lengths_spec = tie.close (tie.spec invariant_loop decreases_loop
     (λ c. c.requires.2) started
-    (λ c. omega arith) (λ c κs. search needs) (λ c κs. search needs)
-    (λ c. search needs) (λ c. omega (arith, c.before.before.before.before.before.before.before.loop.invariant.2))
+    (λ c. omega arith) (λ c κs. search rules) (λ c κs. search rules)
+    (λ c. search rules) (λ c. omega (arith, c.before.before.before.before.before.before.before.loop.invariant.2))
     (λ c. omega (arith, steps_fit c.before.before.before.before, c.before.before.before.before.before.before.before.before.loop.invariant.2))
-    (λ c κs. search needs)
+    (λ c κs. search rules)
     (λ c. c.packed.ensures ∙ packed_here c.before.before.before.before.before c.before.before.enum_told.given.1)
-    (λ c. search needs) (λ c. steps_fit c.before.before.before.before) (λ c. omega arith)
+    (λ c. search rules) (λ c. steps_fit c.before.before.before.before) (λ c. omega arith)
     (λ c. let s = c.before.before.before.before in (
       ap (λ j. with_shifts j (n s + 1)) (looped s).loop.invariant.0,
       omega (arith, s.before.before.before.loop-test.true),
       omega (arith, (looped s).loop.invariant.2),
       none_here s c.before.enum-told2.given.1,
     ))
-    (λ c. search needs) (λ c κs. search needs)
+    (λ c. search rules) (λ c κs. search rules)
     (λ c. c.spent.ensures ∙ spent_here c.before.before.before.before c.before.enum-told3.given.1)
-    (λ c. search needs) (λ c κs. search needs)
+    (λ c. search rules) (λ c κs. search rules)
     (λ c. absurd (refused-not c.before.before.before.before.before _ c.before.before.answer.given.1))
-    (λ c. omega (arith, c.before.loop.invariant.2)) (λ c κs. search needs)
+    (λ c. omega (arith, c.before.loop.invariant.2)) (λ c κs. search rules)
     (λ c. let l = c.before.before in
     c.infeasible.ensures ∙ (none_left (turnable_of l.before.args.instance) l.before.args.instance.container.shifts l.loop.length
     l.before.args.budget l.loop.left (omega (arith, c.before.loop-test.false))

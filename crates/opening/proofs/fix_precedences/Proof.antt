@@ -1,6 +1,6 @@
 -- `opening::fix_precedences` meets its contract. Invariant: the first i precedences are fixed, and fixing the rest comes to fixing all.
 -- Measure: the precedences left.
-use Rattle.prelude.specs.Names.{needs, not-true, not-false, arith, ◌≡◌, ◌-◌, length}
+use Rattle.prelude.specs.Names.{rules, not-true, not-false, arith, ◌≡◌, ◌-◌, length}
 use Rattle.opening.proofs.Openings.{Fixing, fixing_none, next-proper, fixable, fixing_next, fixing_fails, fixing_done}
 use Rattle.opening.proofs.fix_precedences.Tie as tie
 
@@ -28,11 +28,11 @@ loop_again c =
 
 pub fix_precedences_spec : {M : Type 1} → Rattle.opening.proofs.fix_precedences.Statement.statement M
 fix_precedences_spec = tie.close (tie.spec invariant_loop decreases_loop
-    (λ c. let long : length c.args.t4 ≡ 90 = search needs in fixing_none (omega (arith, c.requires.1)) c.requires.0) (λ c. search needs)
-    (λ c. search needs) (λ c. search needs) (λ c. search needs) (λ c κs. let b = c.before.before.before.before.before.before in
-    omega (arith, (next-proper b.before.loop.invariant b.before.before.requires.2 b.loop-test.true).item_v)) (λ c. search needs)
+    (λ c. let long : length c.args.t4 ≡ 90 = search rules in fixing_none (omega (arith, c.requires.1)) c.requires.0) (λ c. search rules)
+    (λ c. search rules) (λ c. search rules) (λ c. search rules) (λ c κs. let b = c.before.before.before.before.before.before in
+    omega (arith, (next-proper b.before.loop.invariant b.before.before.requires.2 b.loop-test.true).item_v)) (λ c. search rules)
     (λ c κs. let b = c.before.before.before.before.before.before.before in
     omega (arith, (next-proper b.before.loop.invariant b.before.before.requires.2 b.loop-test.true).item_v))
     (λ c κs. let b = c.before.before.before.before.before.before.before.before in
     fixable b.before.loop.invariant b.before.before.requires.2 b.loop-test.true c.before.bit.ensures c.bit2.ensures) returns
-    (λ c. search needs) (λ c. search needs) loop_again (λ c. fixing_done c.before.loop.invariant c.loop-test.false))
+    (λ c. search rules) (λ c. search rules) loop_again (λ c. fixing_done c.before.loop.invariant c.loop-test.false))

@@ -1,5 +1,5 @@
 -- `opening::root_of` meets its contract.
-use Rattle.prelude.specs.Names.{needs, not-true, not-false, true, subst, ◌≡◌}
+use Rattle.prelude.specs.Names.{rules, not-true, not-false, true, subst, ◌≡◌}
 use Rattle.model.specs.Admits.{Sound}
 use Rattle.model.specs.Domains.{full_domains}
 use Rattle.model.specs.Branching.{opening_domains}
@@ -74,8 +74,8 @@ returns_4 c =
     rooted (sound (totals b).before.before.before) o.0.0 o.0.1 o.1 o.2 x.0 x.1
 
 pub root_of_spec : {M : Type 1} → Rattle.opening.proofs.root_of.Statement.statement M
-root_of_spec = tie.close (tie.spec (λ c κs. search needs) (λ c κs. search needs) returns (λ c. search needs)
+root_of_spec = tie.close (tie.spec (λ c κs. search rules) (λ c κs. search rules) returns (λ c. search rules)
     (λ c κs. let b = c.before.before.before.before.before.before.before in
     let says = valid-says b.args.instance b.requires in
     (full_good, says.precedences-few, allowed-wide _ says.items-few _ _ says.precedences-allowed))
-    (λ c κs. search needs) returns_2 cut_pairs_requires (λ c κs. search needs) returns_3 returns_4)
+    (λ c κs. search rules) returns_2 cut_pairs_requires (λ c κs. search rules) returns_3 returns_4)

@@ -1,5 +1,5 @@
 -- `packing::check` meets its contract.
-use Rattle.prelude.specs.Names.{Bool, true, ◌≡◌, ap, ◌∙◌, length, needs}
+use Rattle.prelude.specs.Names.{Bool, true, ◌≡◌, ap, ◌∙◌, length, rules}
 use Rattle.model.specs.Problem.{Problem, Positions, inside_test, apart_test, ordered_test, feasible}
 use Rattle.instance.specs.Valid.{valid}
 use Rattle.instance.specs.Meaning.{problem_of, positions_of}
@@ -50,10 +50,10 @@ is-apart c = test_passed (c.before.apart.ensures ∙ tested c.before.before.befo
 
 pub check_spec : {M : Type 1} → Rattle.packing.proofs.check.Statement.statement M
 unfolding check_answer feasible
-check_spec = tie.close (tie.spec (λ c κs. search needs) (λ c. decided _ _ _ (rw (test_failed c.before.is-valid.ensures c.if1.true)))
+check_spec = tie.close (tie.spec (λ c κs. search rules) (λ c. decided _ _ _ (rw (test_failed c.before.is-valid.ensures c.if1.true)))
     (λ c κs. (valid-says _ (is-instance c.before)).items-few)
     (λ c. decided _ _ _ (rw (is-instance c.before.before.before, test_failed c.before.marks_allowed.ensures c.if2.true)))
-    (λ c κs. search needs) (λ c κs. (valid-says _ (turned-valid c)).items-few)
+    (λ c κs. search rules) (λ c κs. (valid-says _ (turned-valid c)).items-few)
     (λ c. let t = c.before.before in
     decided _ _ _ (rw (
       is-instance t.before.before.before.before,

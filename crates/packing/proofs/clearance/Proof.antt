@@ -1,5 +1,5 @@
 -- `packing::clearance` meets its contract.
-use Rattle.prelude.specs.Names.{true, ◌≡◌, ap, ◌∙◌, arith, lt-ltb, le-ltb, length, needs}
+use Rattle.prelude.specs.Names.{true, ◌≡◌, ap, ◌∙◌, arith, lt-ltb, le-ltb, length, rules}
 use Rattle.model.specs.Problem.{Problem}
 use Rattle.instance.specs.Valid.{valid}
 use Rattle.instance.specs.Meaning.{problem_of, positions_of}
@@ -37,7 +37,7 @@ module _ (c : tie.After-turned) where
 
 pub clearance_spec : {M : Type 1} → Rattle.packing.proofs.clearance.Statement.statement M
 unfolding clearance_answer
-clearance_spec = tie.close (tie.spec (λ c κs. search needs) (λ c. answered _ _ _ _ _ _ (rw (test_failed c.before.is-valid.ensures c.if1.true)))
+clearance_spec = tie.close (tie.spec (λ c κs. search rules) (λ c. answered _ _ _ _ _ _ (rw (test_failed c.before.is-valid.ensures c.if1.true)))
     (λ c. answered _ _ _ _ _ _ (rw (is-instance c.before, le-ltb _ _ c.if2.true)))
     (λ c. answered _ _ _ _ _ _ (rw (is-instance c.before.before, lt-ltb _ _ c.before.if2.false, le-ltb _ _ c.if3.true)))
     (λ c. let d = c.before.before in
@@ -50,7 +50,7 @@ clearance_spec = tie.close (tie.spec (λ c κs. search needs) (λ c. answered _ 
       lt-ltb _ _ e.before.if3.false,
       lt-ltb d.before.before.before.args.axis 3 (omega arith),
       test_failed c.before.marks_allowed.ensures c.if5.true,
-    ))) (λ c κs. search needs)
+    ))) (λ c κs. search rules)
     (λ c κs. let l = (valid-says _ (is-instance c.before.before.before.before.before.before.before)).items-few in omega arith)
     (λ c. let m = c.before.before in let e = m.before.before.before in let d = e.before.before in
     answered _ _ _ _ _ _ (rw (

@@ -10,5 +10,5 @@ sum_fits : {r n u : ℕ} → r ≡ pair_number 0 n → n ≤ 10 → u < 10 → F
 sum_fits {r} {n} e h l = omega (arith, pair-count-small n h)
 
 pub pair_number_spec : {M : Type 1} → Rattle.pairs.proofs.pair_number.Statement.statement M
-pair_number_spec = tie.close (tie.spec (λ c κs. omega arith) (λ c. sum_fits c.pair-count.ensures (omega arith) (omega arith))
-    (λ c. omega (arith, c.pair-count.ensures, number_split c.before.args.u c.before.args.v)))
+pair_number_spec = tie.close (tie.spec (λ c κs. omega arith) (λ c. sum_fits c.pair_count.ensures (omega arith) (omega arith))
+    (λ c. omega (arith, c.pair_count.ensures, number_split c.args.u c.args.v)))

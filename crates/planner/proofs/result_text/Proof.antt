@@ -1,13 +1,13 @@
 -- `planner::result_text` meets its contract: by the answer.
-use Rattle.prelude.specs.Names.{needs}
+use Rattle.prelude.specs.Names.{rules}
 use Rattle.planner.specs.Program.{result_text}
 use Rattle.planner.proofs.result_text.Tie as tie
 
 pub result_text_spec : {M : Type 1} → Rattle.planner.proofs.result_text.Statement.statement M
 unfolding result_text
-result_text_spec = tie.close (tie.spec (λ c. search needs) (λ c κs. search needs) (λ c. search needs) (λ c κs. search needs) (λ c. search needs)
-    (λ c κs. search needs) (λ c. search needs) (λ c κs. search needs)
-    (λ c. search needs) (λ c. rw c.before.before.before.before.enum_told.given.1 c.before.before.packed.ensures)
-    (λ c. search needs) (λ c. rw c.before.before.before.before.enum-told2.given.1 c.before.before.infeasible.ensures)
-    (λ c. search needs) (λ c. rw c.before.before.before.before.enum-told3.given.1 c.before.before.spent.ensures)
-    (λ c. search needs) (λ c. rw c.before.before.before.before.before.answer.given.1 c.before.before.refused.ensures))
+result_text_spec = tie.close (tie.spec (λ c. search rules) (λ c κs. search rules) (λ c. search rules) (λ c κs. search rules) (λ c. search rules)
+    (λ c κs. search rules) (λ c. search rules) (λ c κs. search rules)
+    (λ c. search rules) (λ c. rw c.before.before.before.before.enum_told.given.1 c.before.before.packed.ensures)
+    (λ c. search rules) (λ c. rw c.before.before.before.before.enum-told2.given.1 c.before.before.infeasible.ensures)
+    (λ c. search rules) (λ c. rw c.before.before.before.before.enum-told3.given.1 c.before.before.spent.ensures)
+    (λ c. search rules) (λ c. rw c.before.before.before.before.before.answer.given.1 c.before.before.refused.ensures))

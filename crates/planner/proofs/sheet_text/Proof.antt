@@ -1,5 +1,5 @@
 -- `planner::sheet_text` meets its contract.
-use Rattle.prelude.specs.Names.{arith, needs}
+use Rattle.prelude.specs.Names.{arith, rules}
 use Rattle.planner.proofs.Programs.{text_read, text_refused, few-items}
 use Rattle.planner.proofs.sheet_text.Tie as tie
 
@@ -27,5 +27,5 @@ returns_2 c =
     rw e c.before.before.refused.ensures
 
 pub sheet_text_spec : {M : Type 1} → Rattle.planner.proofs.sheet_text.Statement.statement M
-sheet_text_spec = tie.close (tie.spec (λ c κs. search needs) (λ c. search needs) (λ c κs. search needs) (λ c κs. search needs) result_text_requires
-    (λ c. search needs) (λ c κs. search needs) (λ c. search needs) returns (λ c. search needs) returns_2)
+sheet_text_spec = tie.close (tie.spec (λ c κs. search rules) (λ c. search rules) (λ c κs. search rules) (λ c κs. search rules) result_text_requires
+    (λ c. search rules) (λ c κs. search rules) (λ c. search rules) returns (λ c. search rules) returns_2)

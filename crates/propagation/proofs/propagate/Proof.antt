@@ -1,6 +1,6 @@
 -- `propagation::propagate` meets its contract. Invariant: the queue is worked off up to the head, and what is still to be done is of pairs from
 -- there on. Measure: the places of the queue from the head on.
-use Rattle.prelude.specs.Names.{◌-◌, arith, needs, not-true, not-false}
+use Rattle.prelude.specs.Names.{◌-◌, arith, rules, not-true, not-false}
 use Rattle.domains.proofs.Narrowed.{good-long}
 use Rattle.chains.proofs.Linking.{same_then}
 use Rattle.propagation.proofs.Settling.{Settling, settling_start, pair-coded, settling_next, settling_none, settling_done}
@@ -37,6 +37,6 @@ returns_2 c =
     ((good-long d.good, d.same), λ p ready. settling_done d p ready c.if1.false)
 
 pub propagate_spec : {M : Type 1} → Rattle.propagation.proofs.propagate.Statement.statement M
-propagate_spec = tie.close (tie.spec invariant_loop decreases_loop (λ c. settling_start c.requires) (λ c. omega arith) (λ c. omega arith) (λ c. search needs)
+propagate_spec = tie.close (tie.spec invariant_loop decreases_loop (λ c. settling_start c.requires) (λ c. omega arith) (λ c. omega arith) (λ c. search rules)
     (λ c. omega arith) (λ c. let e = c.before in omega (arith, (pair-coded e.before.before.loop.invariant e.if1.true).axis)) work_off_requires
     returns (λ c. omega arith) (λ c. omega arith) loop_again returns_2)

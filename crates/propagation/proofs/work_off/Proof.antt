@@ -1,5 +1,5 @@
 -- `propagation::work_off` meets its contract.
-use Rattle.prelude.specs.Names.{needs, not-true, not-false}
+use Rattle.prelude.specs.Names.{rules, not-true, not-false}
 use Rattle.propagation.proofs.Working.{extended_refuted, worked_all}
 use Rattle.propagation.proofs.work_off.Tie as tie
 
@@ -34,6 +34,6 @@ returns_3 c =
     c.work-overlap.ensures
 
 pub work_off_spec : {M : Type 1} → Rattle.propagation.proofs.work_off.Statement.statement M
-work_off_spec = tie.close (tie.spec (λ c κs. search needs)
+work_off_spec = tie.close (tie.spec (λ c κs. search rules)
     (λ c. rw (not-true c.before.work-order.result c.if1.true) at c.before.work-order.ensures) follow_requires returns_2
     work_overlap_requires returns_3)

@@ -1,5 +1,5 @@
 -- `propagation::work_order` meets its contract.
-use Rattle.prelude.specs.Names.{inl, inr, needs, not-true, not-false}
+use Rattle.prelude.specs.Names.{inl, inr, rules, not-true, not-false}
 use Rattle.model.proofs.Below.{and_intro}
 use Rattle.propagation.proofs.Working.{row_overlap, row_orders, unordered, in_order_fixed, in_order_charted}
 use Rattle.propagation.proofs.work_order.Tie as tie
@@ -28,5 +28,5 @@ returns_3 : tie.Need-returns-3
 returns_3 c = (c.apply-link.ensures.0, λ p from h. c.apply-link.ensures.1 p from (in_order_charted h c.before.in_order.ensures))
 
 pub work_order_spec : {M : Type 1} → Rattle.propagation.proofs.work_order.Statement.statement M
-work_order_spec = tie.close (tie.spec (λ c. search needs) (λ c. search needs) (λ c. search needs) (λ c. search needs) (λ c κs. search needs) returns
-    (λ c. search needs) (λ c κs. search needs) returns_2 (λ c κs. search needs) apply_link_requires returns_3)
+work_order_spec = tie.close (tie.spec (λ c. search rules) (λ c. search rules) (λ c. search rules) (λ c. search rules) (λ c κs. search rules) returns
+    (λ c. search rules) (λ c κs. search rules) returns_2 (λ c κs. search rules) apply_link_requires returns_3)

@@ -1,15 +1,15 @@
 -- `propagation::work_overlap` meets its contract.
-use Rattle.prelude.specs.Names.{inl, inr, arith, needs, not-true, not-false}
+use Rattle.prelude.specs.Names.{inl, inr, arith, rules, not-true, not-false}
 use Rattle.model.specs.Facts.{says}
 use Rattle.model.proofs.Below.{and_intro}
 use Rattle.propagation.proofs.Working.{row_overlap, row_order, across-all, along-all, overlap_none}
 use Rattle.propagation.proofs.work_overlap.Tie as tie
 
 returns_2 : tie.Need-returns-2
-returns_2 c = let off = not-true c.before.has2.result c.if2.true in search (needs, overlap_none, inl, row_overlap, row_order)
+returns_2 c = let off = not-true c.before.has2.result c.if2.true in search (rules, overlap_none, inl, row_overlap, row_order)
 
 returns_3 : tie.Need-returns-3
-returns_3 c = let off = not-true c.before.has3.result c.if3.true in search (needs, overlap_none, inr, row_overlap, row_order)
+returns_3 c = let off = not-true c.before.has3.result c.if3.true in search (rules, overlap_none, inr, row_overlap, row_order)
 
 overlap_requires : tie.Need-overlap-requires
 unfolding says
@@ -21,6 +21,6 @@ overlap_requires c κs =
     (good, (s, and_intro first (row_order good.laid.mirror s 2 (omega arith) f.before.has3.ensures (not-false _ f.if3.false))))
 
 pub work_overlap_spec : {M : Type 1} → Rattle.propagation.proofs.work_overlap.Statement.statement M
-work_overlap_spec = tie.close (tie.spec (λ c. search needs) (λ c. search needs) (λ c. search needs) (λ c. search needs) (λ c κs. search needs)
-    (λ c κs. search (needs, row_overlap)) (λ c. search (across-all, row_overlap)) (λ c. search needs) (λ c κs. search needs) returns_2
-    (λ c. search needs) (λ c κs. search needs) returns_3 overlap_requires (λ c. search (along-all, row_overlap)))
+work_overlap_spec = tie.close (tie.spec (λ c. search rules) (λ c. search rules) (λ c. search rules) (λ c. search rules) (λ c κs. search rules)
+    (λ c κs. search (rules, row_overlap)) (λ c. search (across-all, row_overlap)) (λ c. search rules) (λ c κs. search rules) returns_2
+    (λ c. search rules) (λ c κs. search rules) returns_3 overlap_requires (λ c. search (along-all, row_overlap)))

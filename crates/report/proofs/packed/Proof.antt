@@ -1,5 +1,5 @@
 -- `report::packed` meets its contract.
-use Rattle.prelude.specs.Names.{needs, arith, ◌∙◌, ◌++◌, length-append}
+use Rattle.prelude.specs.Names.{rules, arith, ◌∙◌, ◌++◌, length-append}
 use Rattle.report.specs.Text.{placed_word, answer_line, item_lines}
 use Rattle.formats.proofs.Stores.{sets-front}
 use Rattle.report.proofs.Puts.{sets-joined}
@@ -21,6 +21,6 @@ returns c =
     )
 
 pub packed_spec : {M : Type 1} → Rattle.report.proofs.packed.Statement.statement M
-packed_spec = tie.close (tie.spec (λ c. search needs) (λ c κs. (omega arith, omega arith))
+packed_spec = tie.close (tie.spec (λ c. search rules) (λ c κs. (omega arith, omega arith))
     (λ c κs. (omega arith, omega (arith, c.before.before.before.put-answer.auto.0)))
     (λ c. let x = c.before.before in omega (arith, x.before.before.before.before.put-answer.auto.0, x.put-items.auto.0)) returns)

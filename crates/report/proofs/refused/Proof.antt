@@ -1,5 +1,5 @@
 -- `report::refused` meets its contract.
-use Rattle.prelude.specs.Names.{needs, arith, [], ◌∷◌}
+use Rattle.prelude.specs.Names.{rules, arith, [], ◌∷◌}
 use Rattle.report.proofs.Puts.{fields_short, line-front}
 use Rattle.report.specs.Text.{refused_word}
 use Rattle.report.proofs.refused.Tie as tie
@@ -25,7 +25,7 @@ returns c =
     rw (← number.number.ensures, ← place.place.ensures) ((l.0, omega (arith, w.0, f.0)), l.1)
 
 pub refused_spec : {M : Type 1} → Rattle.report.proofs.refused.Statement.statement M
-refused_spec = tie.close (tie.spec (λ c. search needs) (λ c κs. omega arith) (λ c κs. search needs) (λ c. search needs) (λ c κs. search needs)
+refused_spec = tie.close (tie.spec (λ c. search rules) (λ c κs. omega arith) (λ c κs. search rules) (λ c. search rules) (λ c κs. search rules)
     put-fields_requires
     (λ c. let f = c.before.before in omega (arith, f.put-fields.auto.0, f.before.before.before.before.before.before.put-bytes.auto.0))
     returns)

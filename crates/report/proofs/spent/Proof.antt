@@ -1,7 +1,7 @@
 -- `report::spent` meets its contract.
-use Rattle.prelude.specs.Names.{needs, arith}
+use Rattle.prelude.specs.Names.{rules, arith}
 use Rattle.report.proofs.spent.Tie as tie
 
 pub spent_spec : {M : Type 1} → Rattle.report.proofs.spent.Statement.statement M
-spent_spec = tie.close (tie.spec (λ c. search needs) (λ c κs. (omega arith, omega arith)) (λ c. search needs)
+spent_spec = tie.close (tie.spec (λ c. search rules) (λ c κs. (omega arith, omega arith)) (λ c. search rules)
     (λ c. let w = c.before.before.put-answer.ensures in ((w.0.0, omega arith), w.1)))

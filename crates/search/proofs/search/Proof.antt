@@ -1,5 +1,5 @@
 -- `search::search` meets its contract.
-use Rattle.prelude.specs.Names.{Bool, true, false, ◌≡◌, refl, sym, ap, ◌∙◌, ◌≤◌, arith, needs, not-true, not-false, lt-leb, ltb}
+use Rattle.prelude.specs.Names.{Bool, true, false, ◌≡◌, refl, sym, ap, ◌∙◌, ◌≤◌, arith, rules, not-true, not-false, lt-leb, ltb}
 use Rattle.model.specs.Turning.{last_choice}
 use Rattle.model.specs.Series.{stage}
 use Rattle.instance.proofs.Arrays.{length_mapped}
@@ -68,11 +68,11 @@ returns_3 c =
     )
 
 pub search_spec : {M : Type 1} → Rattle.search.proofs.search.Statement.statement M
-search_spec = tie.close (tie.spec (λ c κs. search needs) (λ c κs. search needs) returns (λ c κs. search needs) (λ c κs. search needs) returns_2
+search_spec = tie.close (tie.spec (λ c κs. search rules) (λ c κs. search rules) returns (λ c κs. search rules) (λ c κs. search rules) returns_2
     (λ c κs. let w = c.before in let v = w.before.before in
-    (valid-says _ (sym v.is-valid.ensures ∙ not-false _ w.before.if1.false)).items-few) (λ c κs. search needs) returns_3
-    (λ c. search needs) (λ c κs. let e = c.before.before in ((passed e).0, bits e, (passed e).2)) (λ c. search needs)
-    (λ c κs. let e = c.before.before in ((passed e).0, (passed e).2)) (λ c. search needs)
+    (valid-says _ (sym v.is-valid.ensures ∙ not-false _ w.before.if1.false)).items-few) (λ c κs. search rules) returns_3
+    (λ c. search rules) (λ c κs. let e = c.before.before in ((passed e).0, bits e, (passed e).2)) (λ c. search rules)
+    (λ c κs. let e = c.before.before in ((passed e).0, (passed e).2)) (λ c. search rules)
     (λ c κs. let e = c.before.before in ((passed e).0, bits e, (passed e).2))
     (λ c. answered c.before.before.before c.before.enum_told.given.1 c.run.ensures)
     (λ c. let e = c.before.before.before in answered e c.before.enum-told2.given.1 (c.repeat-infeasible.ensures (arguments e).args.budget))

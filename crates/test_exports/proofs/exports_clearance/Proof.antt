@@ -1,5 +1,5 @@
 -- `test_exports::exports_clearance` meets its contract, by that of `clearance_of`.
-use Rattle.prelude.specs.Names.{ap, ◌∙◌, needs}
+use Rattle.prelude.specs.Names.{ap, ◌∙◌, rules}
 use mir.Syntax.{w32}
 use mir.ValLaws.{to_z-of_z}
 use Rattle.packing.specs.Clearance.{clearance_values}
@@ -12,4 +12,4 @@ returns c =
     to_z-of_z w32 _ (record { sfits = integer.type-inv }) ∙ integer.ensures ∙ ap (λ a. clearance_in (clearance_values a)) c.before.clearance-of.ensures
 
 pub exports_clearance_spec : {M : Type 1} → Rattle.test_exports.proofs.exports_clearance.Statement.statement M
-exports_clearance_spec = tie.close (tie.spec (λ c κs. search needs) (λ c κs. search needs) returns)
+exports_clearance_spec = tie.close (tie.spec (λ c κs. search rules) (λ c κs. search rules) returns)

@@ -1,5 +1,5 @@
 -- `test_exports::exports_record_byte` meets its contract: within the record its byte, past its end 256.
-use Rattle.prelude.specs.Names.{◌≡◌, sym, ap, ◌∙◌, Bool, cond, List, ℕ, ◌<◌, ◌≤◌, length, get_or, lt-ltb, le-ltb, needs}
+use Rattle.prelude.specs.Names.{◌≡◌, sym, ap, ◌∙◌, Bool, cond, List, ℕ, ◌<◌, ◌≤◌, length, get_or, lt-ltb, le-ltb, rules}
 use Rattle.test_exports.specs.Exports.{record_byte}
 use Rattle.test_exports.proofs.exports_record_byte.Tie as tie
 
@@ -20,4 +20,4 @@ returns_2 c =
     c.wide.ensures.0 ∙ within _ i c.before.before.if1.false ∙ ap (λ s. record_byte s i) c.before.before.before.item_record.ensures
 
 pub exports_record_byte_spec : {M : Type 1} → Rattle.test_exports.proofs.exports_record_byte.Statement.statement M
-exports_record_byte_spec = tie.close (tie.spec (λ c κs. search needs) returns (λ c. search needs) (λ c κs. search needs) returns_2)
+exports_record_byte_spec = tie.close (tie.spec (λ c κs. search rules) returns (λ c. search rules) (λ c κs. search rules) returns_2)

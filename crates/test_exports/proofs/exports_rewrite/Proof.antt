@@ -1,5 +1,5 @@
 -- `test_exports::exports_rewrite` meets its contract: where the sheet reads, what writing returns and leaves; else nothing.
-use Rattle.prelude.specs.Names.{◌≡◌, refl, sym, inl, inr, needs}
+use Rattle.prelude.specs.Names.{◌≡◌, refl, sym, inl, inr, rules}
 use Rattle.refusal.specs.declared.Refusal.{Refusal}
 use Rattle.refusal.specs.Numbers.{number_of, place_of}
 use Rattle.instance.specs.declared.ReadResult.{ReadResult}
@@ -27,5 +27,5 @@ returns_2 c =
     (rw e, rw e)
 
 pub exports_rewrite_spec : {M : Type 1} → Rattle.test_exports.proofs.exports_rewrite.Statement.statement M
-exports_rewrite_spec = tie.close (tie.spec (λ c κs. search needs) (λ c. search needs) (λ c κs. search needs) (λ c κs. search needs)
-    (λ c. search needs) (λ c. search needs) returns returns_2)
+exports_rewrite_spec = tie.close (tie.spec (λ c κs. search rules) (λ c. search rules) (λ c κs. search rules) (λ c κs. search rules)
+    (λ c. search rules) (λ c. search rules) returns returns_2)

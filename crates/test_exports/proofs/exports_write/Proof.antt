@@ -1,5 +1,5 @@
 -- `test_exports::exports_write` meets its contract, by that of `writer::write`.
-use Rattle.prelude.specs.Names.{needs}
+use Rattle.prelude.specs.Names.{rules}
 use Rattle.test_exports.proofs.exports_write.Tie as tie
 
 returns : tie.Need-returns
@@ -9,4 +9,4 @@ returns c =
     (rw (c.write-length.ensures, w.0, v), rw (w.1.0, v))
 
 pub exports_write_spec : {M : Type 1} → Rattle.test_exports.proofs.exports_write.Statement.statement M
-exports_write_spec = tie.close (tie.spec (λ c κs. search needs) (λ c κs. search needs) (λ c κs. search needs) (λ c. search needs) returns)
+exports_write_spec = tie.close (tie.spec (λ c κs. search rules) (λ c κs. search rules) (λ c κs. search rules) (λ c. search rules) returns)

@@ -1,5 +1,5 @@
 -- `test_lines::is_rest_zero` meets its contract.
-use Rattle.prelude.specs.Names.{needs, not-true, not-false}
+use Rattle.prelude.specs.Names.{rules, not-true, not-false}
 use Rattle.test_lines.proofs.is_rest_zero.Tie as tie
 
 returns : tie.Need-returns
@@ -11,4 +11,4 @@ returns_2 c =
     rw (c.precedences-zero-from.ensures, ← z.ensures, not-false z.result c.before.before.if1.false)
 
 pub is_rest_zero_spec : {M : Type 1} → Rattle.test_lines.proofs.is_rest_zero.Statement.statement M
-is_rest_zero_spec = tie.close (tie.spec (λ c κs. search needs) returns (λ c κs. search needs) returns_2)
+is_rest_zero_spec = tie.close (tie.spec (λ c κs. search rules) returns (λ c κs. search rules) returns_2)

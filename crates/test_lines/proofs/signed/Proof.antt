@@ -1,5 +1,5 @@
 -- `test_lines::signed` meets its contract: in 64 bits the number and its negation fit, and what is printed is not below 0.
-use Rattle.prelude.specs.Names.{needs}
+use Rattle.prelude.specs.Names.{rules}
 use Rattle.test_lines.proofs.Widths.{fits_wider, negation_fits, negation_natural, natural}
 use mir.Syntax.{w32, w64}
 use mir.ValLaws.{to_z-of_z}
@@ -38,6 +38,6 @@ cast_print_decimal_3 c =
     rw e (natural n f (rw e at c.before.before.if1.false))
 
 pub signed_spec : {M : Type 1} → Rattle.test_lines.proofs.signed.Statement.statement M
-signed_spec = tie.close (tie.spec (λ c. search needs) (λ c κs. search needs) cast_print_decimal sub_print_decimal cast_print_decimal_2
-    (λ c κs. search needs) (λ c. search needs) (λ c. search needs) (λ c κs. search needs) cast_print_decimal_3 (λ c κs. search needs)
-    (λ c. search needs))
+signed_spec = tie.close (tie.spec (λ c. search rules) (λ c κs. search rules) cast_print_decimal sub_print_decimal cast_print_decimal_2
+    (λ c κs. search rules) (λ c. search rules) (λ c. search rules) (λ c κs. search rules) cast_print_decimal_3 (λ c κs. search rules)
+    (λ c. search rules))

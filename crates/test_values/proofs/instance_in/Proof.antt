@@ -1,5 +1,5 @@
 -- `test_values::instance_in` meets its contract.
-use Rattle.prelude.specs.Names.{needs}
+use Rattle.prelude.specs.Names.{rules}
 use Rattle.test_values.specs.Values.{instance_in}
 use Rattle.test_values.proofs.instance_in.Tie as tie
 
@@ -21,5 +21,5 @@ returns c =
     )
 
 pub instance_in_spec : {M : Type 1} → Rattle.test_values.proofs.instance_in.Statement.statement M
-instance_in_spec = tie.close (tie.spec (λ c κs. search needs) (λ c κs. search needs) (λ c κs. search needs) (λ c κs. search needs)
-    (λ c κs. search needs) (λ c κs. search needs) (λ c κs. search needs) returns)
+instance_in_spec = tie.close (tie.spec (λ c κs. search rules) (λ c κs. search rules) (λ c κs. search rules) (λ c κs. search rules)
+    (λ c κs. search rules) (λ c κs. search rules) (λ c κs. search rules) returns)

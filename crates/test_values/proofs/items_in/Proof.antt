@@ -1,5 +1,5 @@
 -- `test_values::items_in` meets its contract. Invariant: the first i items are filled. Measure: the items left.
-use Rattle.prelude.specs.Names.{◌+◌, ◌*◌, ◌-◌, arith, needs}
+use Rattle.prelude.specs.Names.{◌+◌, ◌*◌, ◌-◌, arith, rules}
 use Rattle.test_values.specs.Values.{item_in}
 use Rattle.test_values.proofs.Tables.{Filled, fill_none, fill_next, fill_all}
 use Rattle.test_values.proofs.items_in.Tie as tie
@@ -17,5 +17,5 @@ returns : tie.Need-returns invariant_loop decreases_loop
 returns c = fill_all c.before.loop.invariant (omega arith)
 
 pub items_in_spec : {M : Type 1} → Rattle.test_values.proofs.items_in.Statement.statement M
-items_in_spec = tie.close (tie.spec invariant_loop decreases_loop (λ c κs. search needs) (λ c. fill_none (search needs)) (λ c. omega arith)
-    (λ c. omega arith) (λ c. omega arith) (λ c κs. omega arith) (λ c. omega arith) (λ c. search needs) (λ c. omega arith) (λ c. omega arith) loop_again returns)
+items_in_spec = tie.close (tie.spec invariant_loop decreases_loop (λ c κs. search rules) (λ c. fill_none (search rules)) (λ c. omega arith)
+    (λ c. omega arith) (λ c. omega arith) (λ c κs. omega arith) (λ c. omega arith) (λ c. search rules) (λ c. omega arith) (λ c. omega arith) loop_again returns)

@@ -1,5 +1,5 @@
 -- `test_values::marks_at` meets its contract. Invariant: the first u marks are filled. Measure: the marks left.
-use Rattle.prelude.specs.Names.{refl, ◌+◌, ◌-◌, arith, needs}
+use Rattle.prelude.specs.Names.{refl, ◌+◌, ◌-◌, arith, rules}
 use Rattle.sheet.specs.Places.{byte_at}
 use Rattle.test_values.proofs.Tables.{Filled, fill_none, fill_next, fill_all}
 use Rattle.test_values.proofs.marks_at.Tie as tie
@@ -17,5 +17,5 @@ returns : tie.Need-returns invariant_loop decreases_loop
 returns c = fill_all c.before.loop.invariant (omega arith)
 
 pub marks_at_spec : {M : Type 1} → Rattle.test_values.proofs.marks_at.Statement.statement M
-marks_at_spec = tie.close (tie.spec invariant_loop decreases_loop (λ c. fill_none refl) (λ c. omega arith) (λ c κs. search needs) (λ c. omega arith) (λ c. search needs)
+marks_at_spec = tie.close (tie.spec invariant_loop decreases_loop (λ c. fill_none refl) (λ c. omega arith) (λ c κs. search rules) (λ c. omega arith) (λ c. search rules)
     (λ c. omega arith) loop_again returns)

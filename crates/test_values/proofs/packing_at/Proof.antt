@@ -1,5 +1,5 @@
 -- `test_values::packing_at` meets its contract.
-use Rattle.prelude.specs.Names.{needs}
+use Rattle.prelude.specs.Names.{rules}
 use Rattle.test_values.specs.Values.{packing_at}
 use Rattle.test_values.proofs.packing_at.Tie as tie
 
@@ -8,4 +8,4 @@ unfolding packing_at
 returns c = rw (c.marks-at.ensures, c.before.positions-at.ensures)
 
 pub packing_at_spec : {M : Type 1} → Rattle.test_values.proofs.packing_at.Statement.statement M
-packing_at_spec = tie.close (tie.spec (λ c κs. search needs) (λ c. search needs) (λ c κs. search needs) returns)
+packing_at_spec = tie.close (tie.spec (λ c κs. search rules) (λ c. search rules) (λ c κs. search rules) returns)

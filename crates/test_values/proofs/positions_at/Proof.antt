@@ -1,5 +1,5 @@
 -- `test_values::positions_at` meets its contract. Invariant: the first u positions are filled. Measure: the positions left.
-use Rattle.prelude.specs.Names.{refl, ◌+◌, ◌*◌, ◌-◌, arith, needs}
+use Rattle.prelude.specs.Names.{refl, ◌+◌, ◌*◌, ◌-◌, arith, rules}
 use Rattle.test_values.specs.Values.{position_in}
 use Rattle.test_values.proofs.Tables.{Filled, fill_none, fill_next, fill_all}
 use Rattle.test_values.proofs.positions_at.Tie as tie
@@ -18,4 +18,4 @@ returns c = fill_all c.before.loop.invariant (omega arith)
 
 pub positions_at_spec : {M : Type 1} → Rattle.test_values.proofs.positions_at.Statement.statement M
 positions_at_spec = tie.close (tie.spec invariant_loop decreases_loop (λ c. fill_none refl) (λ c. omega arith) (λ c. omega arith) (λ c κs. omega arith)
-    (λ c. omega arith) (λ c. search needs) (λ c. omega arith) (λ c. omega arith) loop_again returns)
+    (λ c. omega arith) (λ c. search rules) (λ c. omega arith) (λ c. omega arith) loop_again returns)

@@ -1,5 +1,5 @@
 -- `tree_search::dead_end` meets its contract: no look is behind it.
-use Rattle.prelude.specs.Names.{[], ◌≡◌, refl, sym, ap, ◌∙◌, ℕ, ◌+◌, ◌-◌, arith, needs}
+use Rattle.prelude.specs.Names.{[], ◌≡◌, refl, sym, ap, ◌∙◌, ℕ, ◌+◌, ◌-◌, arith, rules}
 use Rattle.tree_paths.specs.Checkpoints.{branches_of}
 use Rattle.tree_search.specs.Results.{infeasible_after, spent_after}
 use Rattle.tree_search.proofs.Stepping.{progress_root, result_not_following, result_infeasible, result_spent}
@@ -25,4 +25,4 @@ returns_3 c = λ p given e.
     ∙ result_infeasible {given = given} {n = n} (progress_root refl) (omega (arith, c.before.before.if1.false)) (omega (arith, c.before.if2.false)) e refl
 
 pub dead_end_spec : {M : Type 1} → Rattle.tree_search.proofs.dead_end.Statement.statement M
-dead_end_spec = tie.close (tie.spec (λ c κs. search needs) returns (λ c κs. search needs) returns_2 (λ c κs. search needs) returns_3)
+dead_end_spec = tie.close (tie.spec (λ c κs. search rules) returns (λ c κs. search rules) returns_2 (λ c κs. search rules) returns_3)

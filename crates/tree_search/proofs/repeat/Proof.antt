@@ -1,5 +1,5 @@
 -- `tree_search::repeat` meets its contract.
-use Rattle.prelude.specs.Names.{◌≡◌, ◌∙◌, ℕ, arith, needs}
+use Rattle.prelude.specs.Names.{◌≡◌, ◌∙◌, ℕ, arith, rules}
 use Rattle.instance.specs.Meaning.{problem_of}
 use Rattle.tree_paths.specs.Checkpoints.{path_of}
 use Rattle.tree_search.proofs.Outcomes.{again_packed, again_not}
@@ -34,5 +34,5 @@ returns_4 c = λ budget.
     (λ n. let m = c.before.enum-told4.given.1 in let z : ◌≡◌ {A = ℕ} 0 1 = cc in omega arith)
 
 pub repeat_spec : {M : Type 1} → Rattle.tree_search.proofs.repeat.Statement.statement M
-repeat_spec = tie.close (tie.spec (λ c κs. search needs) (λ c. search needs) (λ c κs. search needs) (λ c. search needs) (λ c κs. search needs)
-    (λ c. search needs) (λ c κs. search needs) (λ c. search needs) (λ c κs. search needs) returns returns_2 returns_3 returns_4)
+repeat_spec = tie.close (tie.spec (λ c κs. search rules) (λ c. search rules) (λ c κs. search rules) (λ c. search rules) (λ c κs. search rules)
+    (λ c. search rules) (λ c κs. search rules) (λ c. search rules) (λ c κs. search rules) returns returns_2 returns_3 returns_4)

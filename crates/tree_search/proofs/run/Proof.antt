@@ -1,6 +1,6 @@
 -- `tree_search::run` meets its contract. Invariant: so many looks have led, along the path given and on by steps, to the path whose
 -- domains are in the arrays, with a snapshot of each branching point at which it takes the first branch. Measure: the looks left.
-use Rattle.prelude.specs.Names.{List, [], ◌≡◌, refl, sym, ap, ◌∙◌, subst, ℕ, ◌+◌, ◌-◌, ◌≤◌, ◌<◌, arith, get_or, length-replicate, needs, not-true, not-false}
+use Rattle.prelude.specs.Names.{List, [], ◌≡◌, refl, sym, ap, ◌∙◌, subst, ℕ, ◌+◌, ◌-◌, ◌≤◌, ◌<◌, arith, get_or, length-replicate, rules, not-true, not-false}
 use Rattle.model.proofs.Slots.{proper-up, proper-wide}
 use Rattle.model.proofs.Theorems.{path_270}
 use Rattle.model.specs.Admits.{Sound}
@@ -249,15 +249,15 @@ returns_6 c =
     ∙ comes_of h (result_spent h.loop.invariant.progress (omega arith) (omega (arith, h.loop.invariant.within)) h.loop.invariant.state.deep)
 
 pub run_spec : {M : Type 1} → Rattle.tree_search.proofs.run.Statement.statement M
-run_spec = tie.close (tie.spec invariant_loop decreases_loop (λ c κs. search needs) (λ c κs. search needs) returns
+run_spec = tie.close (tie.spec invariant_loop decreases_loop (λ c κs. search rules) (λ c κs. search rules) returns
     (λ c. omega (arith, c.before.before.before.requires.1.within))
     (λ c κs. c.before.before.before.before.before.before.before.requires.1) loop_holds
     (λ c. omega (arith, (start c.before).pre.1.within)) (λ c κs. let h = c.before.before.before.before.before in
-    (rw (count (start h).args.instance) at (sound h).limited, (wide (problem h), h.loop.invariant.state.at.ready))) (λ c. search needs)
-    (λ c κs. search needs) returns_2 (λ c κs. let h = head c.before.before.before.before in let i = h.loop.inv in (
+    (rw (count (start h).args.instance) at (sound h).limited, (wide (problem h), h.loop.invariant.state.at.ready))) (λ c. search rules)
+    (λ c κs. search rules) returns_2 (λ c κs. let h = head c.before.before.before.before in let i = h.loop.inv in (
       ap L.length (i.progress.late (omega (arith, c.before.if2.false))).held ∙ branches_length i.path,
       omega (arith, i.state.deep, path_270 (problem h) (sound h) i.path i.state.forks),
-    )) (λ c. omega arith) (λ c. omega (arith, looks_left c.before.before.before.before.before.before)) (λ c κs. search needs) returns_3
+    )) (λ c. omega arith) (λ c. omega (arith, looks_left c.before.before.before.before.before.before)) (λ c κs. search rules) returns_3
     (λ c. let h = head (last_look c) in omega (arith, back_level (sound h) h.loop.inv.state (back c)))
     (λ c κs. let e = c.before.before in let l = last_look e in
     record { room = (head l).loop.inv.state.room.domains; level_below = last_level_small e; enough = omega (arith, l.look.ensures.0.0.domains) })
@@ -265,16 +265,16 @@ run_spec = tie.close (tie.spec invariant_loop decreases_loop (λ c κs. search n
     record { room = (head l).loop.inv.state.room.rows; level_below = last_level_small e; enough = omega (arith, l.look.ensures.0.0.rows_long) })
     (λ c κs. let e = c.before.before.before.before.before.before.before.before in let l = last_look e in let σ = (head l).loop.inv.state in
     record { room = σ.room.totals; level_below = last_level_small e; enough = omega (arith, l.look.ensures.0.1.long, σ.at.ready.tabled.long) })
-    (λ c. omega (arith, last_level_small (before_loads c))) (λ c. last_level_small (before_loads c)) (λ c κs. search needs)
+    (λ c. omega (arith, last_level_small (before_loads c))) (λ c. last_level_small (before_loads c)) (λ c κs. search rules)
     (λ c κs. let e = before_loads c.before in let h = head (last_look e) in
     back-pair (sound h) h.loop.inv.state (back e) c.place_of.result c.place_of.ensures)
     (λ c κs. let o = c.before.before.before.before in let e = before_loads o.before in let l = last_look e in
     back_branchable (sound (head l)) (head l).loop.inv.state (back e) (loaded o.before) o.place_of.result o.place_of.ensures
     l.look.ensures.0.0.queue)
-    (λ c. omega (arith, looks_left (last_look (before_loads c.before.before.before.before.before.before)))) loop_again (λ c. search needs)
-    (λ c κs. search needs) returns_4 (λ c κs. let h = head c.before.before.before.before in
+    (λ c. omega (arith, looks_left (last_look (before_loads c.before.before.before.before.before.before)))) loop_again (λ c. search rules)
+    (λ c κs. search rules) returns_4 (λ c κs. let h = head c.before.before.before.before in
     rw (count (start h).args.instance) at (startable (problem h) (sound h).limited h.loop.inv.path (complete c.before.before).1))
-    (λ c. omega arith) (λ c. omega (arith, looks_left c.before.before.before.before.before)) (λ c κs. search needs) returns_5 (λ c. search needs)
+    (λ c. omega arith) (λ c. omega (arith, looks_left c.before.before.before.before.before)) (λ c κs. search rules) returns_5 (λ c. search rules)
     (λ c κs. let w = c.before.before.before in let σ = (fork_head w).loop.invariant.state in
     record { room = σ.room.domains; level_below = level_small w; enough = omega (arith, (forked w).1.rested.laid.well_formed.long) })
     (λ c κs. let w = c.before.before.before.before.before.before in let σ = (fork_head w).loop.invariant.state in
@@ -292,4 +292,4 @@ run_spec = tie.close (tie.spec invariant_loop decreases_loop (λ c κs. search n
     (λ c κs. let w = at_fork c.before.before.before.before in let (f, s, e) = forked w in let l = w.before.before in
     let i = (head l).loop.inv in
     branchable (problem (head l)) (sound (head l)) i.path i.state.forks f s (place w) e _ l.look.ensures.0.0.queue)
-    (λ c. omega (arith, looks_left (at_fork c.before.before.before.before.before).before.before)) loop_again_2 (λ c κs. search needs) returns_6)
+    (λ c. omega (arith, looks_left (at_fork c.before.before.before.before.before).before.before)) loop_again_2 (λ c κs. search rules) returns_6)

@@ -1,5 +1,5 @@
 -- `turning::last_choice` meets its contract. Invariant: so many choices are there for the items from u on. Measure: the items left.
-use Rattle.prelude.specs.Names.{◌≡◌, sym, ap, ◌∙◌, ℕ, suc, ◌+◌, ◌-◌, ◌≤◌, ◌<◌, arith, needs}
+use Rattle.prelude.specs.Names.{◌≡◌, sym, ap, ◌∙◌, ℕ, suc, ◌+◌, ◌-◌, ◌≤◌, ◌<◌, arith, rules}
 use Rattle.model.specs.Turning.{choice_count}
 use Rattle.turning.specs.Turned.{may_turn_of}
 use Rattle.turning.proofs.Counts.{count_512, count_1024, count_some, may_turn-at, count_next, last_choice-is}
@@ -64,5 +64,5 @@ returns c =
     )
 
 pub last_choice_spec : {M : Type 1} → Rattle.turning.proofs.last_choice.Statement.statement M
-last_choice_spec = tie.close (tie.spec invariant_loop decreases_loop holds (λ c. search needs) (λ c. search needs) (λ c. search needs) small (λ c. search needs) again some
+last_choice_spec = tie.close (tie.spec invariant_loop decreases_loop holds (λ c. search rules) (λ c. search rules) (λ c. search rules) small (λ c. search rules) again some
     returns)

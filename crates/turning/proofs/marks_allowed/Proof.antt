@@ -1,5 +1,5 @@
 -- `turning::marks_allowed` meets its contract. Invariant: the marks of all items are allowed exactly where those of the first u are. Measure: the items left.
-use Rattle.prelude.specs.Names.{Bool, ◌&&◌, ◌≡◌, refl, sym, ◌∙◌, ℕ, suc, ◌+◌, ◌-◌, ◌≤◌, ◌<◌, arith, needs, get_or, not-true, not-false}
+use Rattle.prelude.specs.Names.{Bool, ◌&&◌, ◌≡◌, refl, sym, ◌∙◌, ℕ, suc, ◌+◌, ◌-◌, ◌≤◌, ◌<◌, arith, rules, get_or, not-true, not-false}
 use Rattle.model.specs.Below.{all_below}
 use Rattle.parts.specs.Sizes.{no_item}
 use Rattle.turning.specs.Turned.{mark_allowed, marks_allowed}
@@ -37,6 +37,6 @@ returns c =
     sym (rw z at c.before.loop.invariant.1)
 
 pub marks_allowed_spec : {M : Type 1} → Rattle.turning.proofs.marks_allowed.Statement.statement M
-marks_allowed_spec = tie.close (tie.spec invariant_loop decreases_loop (λ c. (omega arith, refl)) (λ c. search needs) (λ c. search needs) (λ c. search needs)
-    (λ c. search needs)
-    (λ c κs. search needs) fails (λ c. search needs) again returns)
+marks_allowed_spec = tie.close (tie.spec invariant_loop decreases_loop (λ c. (omega arith, refl)) (λ c. search rules) (λ c. search rules) (λ c. search rules)
+    (λ c. search rules)
+    (λ c κs. search rules) fails (λ c. search rules) again returns)

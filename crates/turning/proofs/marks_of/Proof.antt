@@ -1,6 +1,6 @@
 -- `turning::marks_of` meets its contract. Invariant: the first u marks are the choice's, the others 0, and its digits from u on are left. Measure: the items
 -- left.
-use Rattle.prelude.specs.Names.{◌≡◌, refl, sym, ap, ◌∙◌, ℕ, suc, ◌+◌, ◌-◌, ◌≤◌, ◌<◌, arith, needs, get_or, replicate}
+use Rattle.prelude.specs.Names.{◌≡◌, refl, sym, ap, ◌∙◌, ℕ, suc, ◌+◌, ◌-◌, ◌≤◌, ◌<◌, arith, rules, get_or, replicate}
 use Rattle.model.specs.Turning.{marks_of, digits_from}
 use Rattle.parts.specs.Sizes.{no_item}
 use Rattle.turning.specs.Turned.{may_turn_of, turnable_of, mark_of, choice_marks, digit_of, digits_after}
@@ -41,6 +41,6 @@ returns c =
     (may_not-past a.item_count a.items k (omega (arith, c.loop-test.false))))))
 
 pub marks_of_spec : {M : Type 1} → Rattle.turning.proofs.marks_of.Statement.statement M
-marks_of_spec = tie.close (tie.spec invariant_loop decreases_loop (λ c. (omega arith, refl, fill_none refl)) (λ c. search needs) (λ c. search needs)
-    (λ c κs. search needs) (λ c. search needs) (λ c κs. search needs)
-    (λ c. search needs) (λ c. search needs) again returns)
+marks_of_spec = tie.close (tie.spec invariant_loop decreases_loop (λ c. (omega arith, refl, fill_none refl)) (λ c. search rules) (λ c. search rules)
+    (λ c κs. search rules) (λ c. search rules) (λ c κs. search rules)
+    (λ c. search rules) (λ c. search rules) again returns)

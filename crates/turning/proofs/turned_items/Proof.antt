@@ -1,5 +1,5 @@
 -- `turning::turned_items` meets its contract. Invariant: the first u items are turned or not, by their marks. Measure: the items left.
-use Rattle.prelude.specs.Names.{◌≡◌, ◌+◌, ◌-◌, ◌≤◌, ◌<◌, arith, needs, get_or}
+use Rattle.prelude.specs.Names.{◌≡◌, ◌+◌, ◌-◌, ◌≤◌, ◌<◌, arith, rules, get_or}
 use Rattle.instance.proofs.Arrays.{length_mapped}
 use Rattle.parts.specs.Sizes.{no_item}
 use Rattle.turning.specs.Turned.{marks_in, turned_item, turned_items}
@@ -20,6 +20,6 @@ unfolding turned_items
 returns c = fill_all c.before.loop.invariant (λ k h l. absurd (omega (arith, c.loop-test.false)))
 
 pub turned_items_spec : {M : Type 1} → Rattle.turning.proofs.turned_items.Statement.statement M
-turned_items_spec = tie.close (tie.spec invariant_loop decreases_loop (λ c. fill_none (search length_mapped)) (λ c. search needs) (λ c. search needs)
-    (λ c. search needs) (λ c κs. search needs) (λ c. search needs)
-    (λ c. search needs) (λ c. search needs) (λ c. search needs) again returns)
+turned_items_spec = tie.close (tie.spec invariant_loop decreases_loop (λ c. fill_none (search length_mapped)) (λ c. search rules) (λ c. search rules)
+    (λ c. search rules) (λ c κs. search rules) (λ c. search rules)
+    (λ c. search rules) (λ c. search rules) (λ c. search rules) again returns)

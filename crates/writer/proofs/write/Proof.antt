@@ -1,5 +1,5 @@
 -- `writer::write` meets its contract.
-use Rattle.prelude.specs.Names.{arith, true, ◌≡◌, sym, ◌∙◌, ◌≤◌, ◌<◌, length, lt-ltb, le-ltb, le-leb, lt-leb, not-true, not-false, needs}
+use Rattle.prelude.specs.Names.{arith, true, ◌≡◌, sym, ◌∙◌, ◌≤◌, ◌<◌, length, lt-ltb, le-ltb, le-leb, lt-leb, not-true, not-false, rules}
 use Rattle.formats.proofs.Stores.{sets-front}
 use Rattle.instance.specs.Valid.{valid}
 use Rattle.instance.specs.Sheets.{encode}
@@ -13,12 +13,12 @@ is-instance c = sym c.before.is-valid.ensures ∙ not-false c.before.is-valid.re
 
 pub write_spec : {M : Type 1} → Rattle.writer.proofs.write.Statement.statement M
 unfolding write_answer written_room
-write_spec = tie.close (tie.spec (λ c κs. search needs)
+write_spec = tie.close (tie.spec (λ c κs. search rules)
     (λ c. let h = sym c.before.is-valid.ensures ∙ not-true c.before.is-valid.result c.if1.true in (rw h, (rw h, search length_mapped)))
     (λ c κs. is-instance c) (λ c. let a = c.before.before.before.before.before.args in let h = is-instance c.before.before in
     let l : length a.out.now < length (encode a.instance) = omega arith in
     (rw (h, lt-ltb _ _ l), (rw (h, lt-leb _ _ l), search length_mapped))) (λ c κs. (is-instance c.before.before.before, omega arith))
-    (λ c. search needs) (λ c. let a = c.before.before.before.before.before.before.before.before.before.args in
+    (λ c. search rules) (λ c. let a = c.before.before.before.before.before.before.before.before.before.args in
     let h = is-instance c.before.before.before.before.before.before in
     let l : length (encode a.instance) ≤ length a.out.now = omega arith in let w = c.before.before.write-sheet.ensures in
     (rw (h, le-ltb _ _ l, w.0), (rw (h, le-leb _ _ l) (w.1 ∙ sets-front (encode a.instance) a.out.now l), search length_mapped))))

@@ -1,5 +1,5 @@
 -- `writer::write_sheet` meets its contract.
-use Rattle.prelude.specs.Names.{arith, length-set, needs}
+use Rattle.prelude.specs.Names.{arith, length-set, rules}
 use Rattle.instance.specs.Reads.{Full}
 use Rattle.instance.proofs.Arrays.{length_mapped}
 use Rattle.instance.proofs.Sheets.{valid-says}
@@ -55,7 +55,7 @@ write_sheet_spec = tie.close (tie.spec (λ c κs. c.before.before.before.before.
       (valid-says _ s.requires.0).precedences-few,
       omega (arith, long s, s.requires.1, k, x.write-items.auto.0, y.write-precedences.auto.0, w.write-size.ensures.0, x.write-items.ensures.0, e),
     ))
-    (λ c κs. search needs)
+    (λ c κs. search rules)
     (λ c κs. let v = c.before.before.before.before in let z = v.before.before.before.before in let y = z.before.before.before.before in
     let x = y.before.before.before.before in let w = x.before.before.before.before in
     let s = w.before.before.before.before.before.before.before in (

@@ -1,5 +1,5 @@
 -- `buffers::checkpoints::is_checkpoint` meets its contract.
-use Rattle.prelude.specs.Names.{◌≤◌, ◌<◌, arith, get_or, lt-ltb, le-ltb, needs}
+use Rattle.prelude.specs.Names.{◌≤◌, ◌<◌, arith, get_or, lt-ltb, le-ltb, rules}
 use Rattle.buffers.specs.Checkpoints.{is_checkpoint}
 use Rattle.buffers.proofs.checkpoints.is_checkpoint.Tie as tie
 
@@ -11,6 +11,6 @@ returns_2 c =
 
 pub is_checkpoint_spec : {M : Type 1} → Rattle.buffers.proofs.checkpoints.is_checkpoint.Statement.statement M
 unfolding is_checkpoint
-is_checkpoint_spec = tie.close (tie.spec (λ c. search needs)
-    (λ c. let h : 3 ≤ get_or c.before.before.before.args.note.now 0 0 = omega arith in rw (le-ltb _ _ h)) (λ c. search needs) (λ c. search needs)
-    (λ c. search needs) (λ c κs. search needs) (λ c. search needs) (λ c κs. search needs) returns_2)
+is_checkpoint_spec = tie.close (tie.spec (λ c. search rules)
+    (λ c. let h : 3 ≤ get_or c.before.before.before.args.note.now 0 0 = omega arith in rw (le-ltb _ _ h)) (λ c. search rules) (λ c. search rules)
+    (λ c. search rules) (λ c κs. search rules) (λ c. search rules) (λ c κs. search rules) returns_2)

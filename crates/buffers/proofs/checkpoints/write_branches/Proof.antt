@@ -1,5 +1,5 @@
 -- `buffers::checkpoints::write_branches` meets its contract. Invariant: the first i branches are written. Measure: the branches left.
-use Rattle.prelude.specs.Names.{◌≡◌, refl, ◌-◌, ◌≤◌, arith, length, take, length-set, sets, take_all, needs}
+use Rattle.prelude.specs.Names.{◌≡◌, refl, ◌-◌, ◌≤◌, arith, length, take, length-set, sets, take_all, rules}
 use Rattle.formats.proofs.Stores.{sets-next}
 use Rattle.buffers.proofs.checkpoints.write_branches.Tie as tie
 
@@ -13,14 +13,14 @@ loop_again : tie.Need-loop-preserved invariant_loop decreases_loop
 loop_again c =
     let l = c.before.loop in
     let a = c.before.before.args in
-    let h : length a.t2 ≡ 270 = search needs in
+    let h : length a.t2 ≡ 270 = search rules in
     (omega arith, rw l.invariant.1 (sets-next a.out.now a.t2 3 l.i (omega arith)), simp length-set l.invariant.2)
 
 returns : tie.Need-returns invariant_loop decreases_loop
 returns c =
     let l = c.before.loop in
     let a = c.before.before.args in
-    let h : length a.t2 ≡ 270 = search needs in
+    let h : length a.t2 ≡ 270 = search rules in
     let e : l.i ≡ 270 = omega arith in
     rw (l.invariant.1, e, take_all 270 a.t2 (omega arith))
 

@@ -1,5 +1,5 @@
 -- `buffers::checkpoints::write_checkpoint` meets its contract.
-use Rattle.prelude.specs.Names.{◌≡◌, arith, length, length-set, needs}
+use Rattle.prelude.specs.Names.{◌≡◌, arith, length, length-set, rules}
 use Rattle.buffers.proofs.CheckpointBytes.{checkpoint_fills}
 use Rattle.buffers.proofs.checkpoints.write_checkpoint.Tie as tie
 
@@ -18,7 +18,7 @@ same_length c =
     omega (arith, w.write-word2.auto.0, b.write-branches.auto.0, simp length-set at b.before.before.before.before.write_word.auto.0)
 
 branches_fill : (c : tie.Start) → length c.args.checkpoint.branches ≡ 270
-branches_fill c = search needs
+branches_fill c = search rules
 
 returns : tie.Need-returns
 returns c =
@@ -32,5 +32,5 @@ returns c =
     (checkpoint_fills a.checkpoint (branches_fill start) a.out.now (omega arith))
 
 pub write_checkpoint_spec : {M : Type 1} → Rattle.buffers.proofs.checkpoints.write_checkpoint.Statement.statement M
-write_checkpoint_spec = tie.close (tie.spec (λ c κs. search needs) (λ c. search needs) (λ c. search needs) (λ c κs. simp length-set (omega arith))
+write_checkpoint_spec = tie.close (tie.spec (λ c κs. search rules) (λ c. search rules) (λ c. search rules) (λ c κs. simp length-set (omega arith))
     write_branches_requires choice_requires same_length returns)

@@ -1,5 +1,5 @@
 -- `buffers::plans::read_packing` meets its contract. Invariant: the first u positions and marks are read, the others 0. Measure: the items left.
-use Rattle.prelude.specs.Names.{◌≡◌, refl, ◌-◌, ◌≤◌, arith, needs}
+use Rattle.prelude.specs.Names.{◌≡◌, refl, ◌-◌, ◌≤◌, arith, rules}
 use Rattle.instance.specs.Values.{origin}
 use Rattle.buffers.specs.Bytes.{plan_position, plan_mark}
 use Rattle.buffers.proofs.Bytes.{ReadTo, read_none, read_next, read_all}
@@ -31,5 +31,5 @@ returns c =
 pub read_packing_spec : {M : Type 1} → Rattle.buffers.proofs.plans.read_packing.Statement.statement M
 read_packing_spec = tie.close (tie.spec invariant_loop decreases_loop
     (λ c. let s = c.before.args.s.now in (omega arith, read_none origin (plan_position s), read_none 0 (plan_mark s)))
-    (λ c κs. (omega arith, omega arith)) (λ c. search needs) (λ c. omega arith) (λ c. omega arith) (λ c. omega arith) (λ c. omega arith)
+    (λ c κs. (omega arith, omega arith)) (λ c. search rules) (λ c. omega arith) (λ c. omega arith) (λ c. omega arith) (λ c. omega arith)
     (λ c. omega arith) (λ c. omega arith) (λ c. omega arith) loop_again returns)

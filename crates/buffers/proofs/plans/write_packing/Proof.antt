@@ -1,5 +1,5 @@
 -- `buffers::plans::write_packing` meets its contract. Invariant: the first u pieces are written. Measure: the items left.
-use Rattle.prelude.specs.Names.{◌≡◌, refl, ◌∙◌, ◌-◌, ◌≤◌, arith, length, sets, needs}
+use Rattle.prelude.specs.Names.{◌≡◌, refl, ◌∙◌, ◌-◌, ◌≤◌, arith, length, sets, rules}
 use Rattle.buffers.specs.Bytes.{packing_bytes}
 use Rattle.buffers.proofs.Bytes.{pieces_next, packing_fills}
 use Rattle.buffers.proofs.plans.write_packing.Tie as tie
@@ -30,5 +30,5 @@ returns c =
     l.invariant.1 ∙ rw e (packing_fills a.n a.packing a.out.now (omega arith))
 
 pub write_packing_spec : {M : Type 1} → Rattle.buffers.proofs.plans.write_packing.Statement.statement M
-write_packing_spec = tie.close (tie.spec invariant_loop decreases_loop holds (λ c. omega arith) (λ c. omega arith) (λ c. search needs) (λ c. search needs)
+write_packing_spec = tie.close (tie.spec invariant_loop decreases_loop holds (λ c. omega arith) (λ c. omega arith) (λ c. search rules) (λ c. search rules)
     (λ c κs. omega arith) (λ c. omega arith) (λ c. omega arith) loop_again (λ c. c.before.loop.invariant.2) returns)

@@ -1,5 +1,5 @@
 -- `buffers::plans::write_piece` meets its contract.
-use Rattle.prelude.specs.Names.{arith, length-set, needs}
+use Rattle.prelude.specs.Names.{arith, length-set, rules}
 use Rattle.buffers.proofs.Bytes.{piece_run}
 use Rattle.buffers.proofs.plans.write_piece.Tie as tie
 
@@ -19,5 +19,5 @@ returns c =
     rw (third.write-word3.ensures, second.write-word2.ensures, first.write_word.ensures) (piece_run a.p a.mark a.out.now a.at)
 
 pub write_piece_spec : {M : Type 1} → Rattle.buffers.proofs.plans.write_piece.Statement.statement M
-write_piece_spec = tie.close (tie.spec (λ c κs. search needs) (λ c. search needs) (λ c κs. search needs) (λ c. search needs)
-    (λ c κs. search needs) (λ c. search needs) (λ c. search needs) same_length returns)
+write_piece_spec = tie.close (tie.spec (λ c κs. search rules) (λ c. search rules) (λ c κs. search rules) (λ c. search rules)
+    (λ c κs. search rules) (λ c. search rules) (λ c. search rules) same_length returns)

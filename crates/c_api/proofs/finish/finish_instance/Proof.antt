@@ -1,5 +1,5 @@
 -- `c_api::finish::finish_instance` meets its contract.
-use Rattle.prelude.specs.Names.{true, arith, ◌≡◌, refl, sym, subst, ◌∙◌, ◌<◌, length, not-true, not-false, needs}
+use Rattle.prelude.specs.Names.{true, arith, ◌≡◌, refl, sym, subst, ◌∙◌, ◌<◌, length, not-true, not-false, rules}
 use Rattle.instance.proofs.Sheets.{valid-says}
 use Rattle.search.specs.Results.{answer_number}
 use Rattle.buffers.proofs.Bytes.{fills}
@@ -58,8 +58,8 @@ returns_2 c =
     (e.0, (word ∙ not_refused a.answer _ _ (answered f), (e.1.0 ∙ not_refused a.answer _ _ (answered f), e.1.1)))
 
 pub finish_instance_spec : {M : Type 1} → Rattle.c_api.proofs.finish.finish_instance.Statement.statement M
-finish_instance_spec = tie.close (tie.spec (λ c κs. search needs) (λ c κs. search needs) returns (λ c κs. search needs)
+finish_instance_spec = tie.close (tie.spec (λ c κs. search rules) (λ c κs. search rules) returns (λ c κs. search rules)
     (λ c κs. omega (arith, (lengths c.before.before.before).length_is))
     (λ c κs. let f = c.before.before.before.before.before.before.before in let l = lengths f.before in
     (l.steps_are, l.plan_is, (valid-says (finish_start f).args.instance (finish_start f).requires).items-few))
-    (λ c. search needs) (λ c. search needs) (λ c. search needs) returns_2)
+    (λ c. search rules) (λ c. search rules) (λ c. search rules) returns_2)

@@ -1,5 +1,5 @@
 -- `c_api::finish::hallplan_finish` meets its contract.
-use Rattle.prelude.specs.Names.{List, ℕ, arith, refl, needs}
+use Rattle.prelude.specs.Names.{List, ℕ, arith, refl, rules}
 use Rattle.formats.specs.Reading.{Bytes}
 use Rattle.instance.specs.Sheets.{decode}
 use Rattle.instance.proofs.RoundTrips.{read_valid}
@@ -41,5 +41,5 @@ returns_2 c =
     rw (as_instance told).was (q.0, (q.1.0, (q.1.1.0, (q.1.1.1, bytes told.before.before.before))))
 
 pub hallplan_finish_spec : {M : Type 1} → Rattle.c_api.proofs.finish.hallplan_finish.Statement.statement M
-hallplan_finish_spec = tie.close (tie.spec (λ c κs. search needs) (λ c. search needs) (λ c κs. search needs) (λ c. search needs)
-    finish_instance_requires returns (λ c. search needs) (λ c. search needs) (λ c. search needs) returns_2)
+hallplan_finish_spec = tie.close (tie.spec (λ c κs. search rules) (λ c. search rules) (λ c κs. search rules) (λ c. search rules)
+    finish_instance_requires returns (λ c. search rules) (λ c. search rules) (λ c. search rules) returns_2)

@@ -1,6 +1,6 @@
 -- `chains::cuts::above_with_gaps` meets its contract. Invariant: the set has, of the items below v, those above the limit with what lies between. Measure: the
 -- items from v on.
-use Rattle.prelude.specs.Names.{⊎_elim, ◌≡◌, ◌+◌, ◌-◌, ◌≤◌, needs, arith, ltb, get_or, pow_mono, lt-ltb, le-ltb}
+use Rattle.prelude.specs.Names.{⊎_elim, ◌≡◌, ◌+◌, ◌-◌, ◌≤◌, rules, arith, ltb, get_or, pow_mono, lt-ltb, le-ltb}
 use Rattle.domains.specs.Bits.{Gives}
 use Rattle.chains.proofs.Cutting.{gives_none, gives_shifted, gives_skip}
 use Rattle.chains.proofs.cuts.above_with_gaps.Tie as tie
@@ -35,7 +35,7 @@ cast_result : tie.Need-overflow-cast-result invariant_loop decreases_loop
 cast_result c = let h = c.before.loop.invariant in omega (arith, h.1.small, pow_mono {i = c.before.loop.v} {j = 10} h.0)
 
 pub above_with_gaps_spec : {M : Type 1} → Rattle.chains.proofs.cuts.above_with_gaps.Statement.statement M
-above_with_gaps_spec = tie.close (tie.spec invariant_loop decreases_loop (λ c. (omega arith, gives_none _)) (λ c. search needs) (λ c. search needs)
-    (λ c. search needs) (λ c. search needs) (λ c. search needs) (λ c. search needs) sub_if1 (λ c. search needs) (λ c. search needs)
-    (λ c. search needs) add_if1_4 (λ c. search needs) (λ c. search needs) (λ c. search needs) (λ c. search needs) loop_again cast_result
+above_with_gaps_spec = tie.close (tie.spec invariant_loop decreases_loop (λ c. (omega arith, gives_none _)) (λ c. search rules) (λ c. search rules)
+    (λ c. search rules) (λ c. search rules) (λ c. search rules) (λ c. search rules) sub_if1 (λ c. search rules) (λ c. search rules)
+    (λ c. search rules) add_if1_4 (λ c. search rules) (λ c. search rules) (λ c. search rules) (λ c. search rules) loop_again cast_result
     (λ c. let e : c.before.loop.v ≡ 10 = omega arith in rw e at c.before.loop.invariant.1))

@@ -1,5 +1,5 @@
 -- `chains::cuts::cut_around` meets its contract. Places: at s it starts, at n the first cuts are made and at e they leave something.
-use Rattle.prelude.specs.Names.{arith, needs, not-true, not-false}
+use Rattle.prelude.specs.Names.{arith, rules, not-true, not-false}
 use Rattle.chains.proofs.Cutting.{around_refused, around_answer}
 use Rattle.chains.proofs.cuts.cut_around.Tie as tie
 
@@ -53,7 +53,7 @@ returns_4 c =
     c.cut-with-gaps2.ensures
 
 pub cut_around_spec : {M : Type 1} → Rattle.chains.proofs.cuts.cut_around.Statement.statement M
-cut_around_spec = tie.close (tie.spec (λ c. search needs) (λ c. search needs) (λ c. search needs)
+cut_around_spec = tie.close (tie.spec (λ c. search rules) (λ c. search rules) (λ c. search rules)
     (λ c κs. let test = c.before.before.before in let s = test.before.before in
     ((s.requires.0, s.requires.1, s.requires.2, s.requires.3), test.if1.true)) returns cut-starts_requires returns_2
     (λ c κs. let s = c.before.before.before.before.before in ((s.requires.0, s.requires.1, s.requires.2, s.requires.3), omega arith))

@@ -1,5 +1,5 @@
 -- `chains::cuts::cut_item` meets its contract.
-use Rattle.prelude.specs.Names.{arith, or_lt, needs}
+use Rattle.prelude.specs.Names.{arith, or_lt, rules}
 use Rattle.domains.proofs.Narrowed.{good-long}
 use Rattle.chains.proofs.Cutting.{askable, cut-none, cut_refuted, cut_spares, cut-done}
 use Rattle.chains.proofs.cuts.cut_item.Tie as tie
@@ -16,6 +16,6 @@ remove_items_requires c κs =
     (g, omega (arith, d.most), ha, hu, cut_spares g d ha hu small self t.before.emptied.ensures t.if2.false)
 
 pub cut_item_spec : {M : Type 1} → Rattle.chains.proofs.cuts.cut_item.Statement.statement M
-cut_item_spec = tie.close (tie.spec (λ c. search needs) (λ c. search needs) (λ c. search needs) (λ c. search needs) (λ c. search needs)
-    (λ c. search needs) (λ c. search needs) (λ c. search cut-none) (λ c. search needs) (λ c. search needs) (λ c. search needs) emptied_requires
+cut_item_spec = tie.close (tie.spec (λ c. search rules) (λ c. search rules) (λ c. search rules) (λ c. search rules) (λ c. search rules)
+    (λ c. search rules) (λ c. search rules) (λ c. search cut-none) (λ c. search rules) (λ c. search rules) (λ c. search rules) emptied_requires
     (λ c. (search good-long, search cut_refuted)) remove_items_requires (λ c. search cut-done))

@@ -1,6 +1,6 @@
 -- `chains::cuts::cut_starts` meets its contract. Invariant: what is too long is removed of the items that are no longer left, and nothing that
 -- has room. Measure: the items left, as a number.
-use Rattle.prelude.specs.Names.{arith, needs}
+use Rattle.prelude.specs.Names.{arith, rules}
 use Rattle.chains.proofs.Cutting.{Cutting, cutting_start, cutting_compared, cutting_given, cutting_refuted, cutting_next, cutting_end}
 use Rattle.chains.proofs.cuts.cut_starts.Tie as tie
 
@@ -11,11 +11,11 @@ abbrev decreases_loop : tie.decreases_loop
 decreases_loop k₀ rows₀ queue₀ t a grown left₀ k rows queue left = left
 
 pub cut_starts_spec : {M : Type 1} → Rattle.chains.proofs.cuts.cut_starts.Statement.statement M
-cut_starts_spec = tie.close (tie.spec invariant_loop decreases_loop (λ c. cutting_start (omega arith) c.requires.0) (λ c κs. search needs) (λ c κs. search needs)
+cut_starts_spec = tie.close (tie.spec invariant_loop decreases_loop (λ c. cutting_start (omega arith) c.requires.0) (λ c κs. search rules) (λ c κs. search rules)
     (λ c κs. let d = c.before.before.before in let l = d.before.before.before in
     (cutting_compared l.loop.invariant d.before.lowest.ensures, l.before.requires.1))
     (λ c κs. let d = c.before.before.before.before in
     cutting_given d.before.before.before.loop.invariant d.before.lowest.ensures c.too_long-plain.ensures)
     (λ c. let r = c.before.cut-item in let e = c.before.before in let d = e.before.before.before.before in
     cutting_refuted d.before.before.before.loop.invariant d.before.lowest.ensures e.too_long-plain.ensures r.result c.if1.true r.ensures)
-    (λ c. search needs) (λ c. search cutting_next) (λ c. search cutting_end))
+    (λ c. search rules) (λ c. search cutting_next) (λ c. search cutting_end))

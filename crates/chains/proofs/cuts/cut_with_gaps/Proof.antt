@@ -1,6 +1,6 @@
 -- `chains::cuts::cut_with_gaps` meets its contract. Invariant: what is too long is removed of the items that are no longer left, and nothing that
 -- has room. Measure: the items left, as a number.
-use Rattle.prelude.specs.Names.{arith, needs}
+use Rattle.prelude.specs.Names.{arith, rules}
 use Rattle.chains.proofs.Cutting.{Cutting, cutting_start, cutting_compared, cutting_given, cutting_refuted, cutting_next, cutting_end}
 use Rattle.chains.proofs.Cutting.{compared_from, exceeds-from}
 use Rattle.chains.proofs.cuts.cut_with_gaps.Tie as tie
@@ -43,8 +43,8 @@ loop_again c =
 
 pub cut_with_gaps_spec : {M : Type 1} → Rattle.chains.proofs.cuts.cut_with_gaps.Statement.statement M
 cut_with_gaps_spec = tie.close (tie.spec invariant_loop decreases_loop (λ c. omega (arith, c.requires.1.least)) (λ c. omega (arith, c.requires.1.most))
-    (λ c. cutting_start c.requires.1 c.requires.0) (λ c κs. search needs) (λ c κs. search needs)
+    (λ c. cutting_start c.requires.1 c.requires.0) (λ c κs. search rules) (λ c κs. search rules)
     (λ c. let s = c.before.before.before.before.before.before.before in omega (arith, s.requires.1.most))
     (λ c κs. let d = c.before.before.before in let l = d.before.before.before in
     compared_from _ _ _ _ l.before.requires.1 (cutting_compared l.loop.invariant d.before.lowest.ensures))
-    cut-item_requires returns (λ c. search needs) loop_again (λ c. search cutting_end))
+    cut-item_requires returns (λ c. search rules) loop_again (λ c. search cutting_end))

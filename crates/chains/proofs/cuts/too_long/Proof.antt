@@ -1,8 +1,8 @@
 -- `chains::cuts::too_long` meets its contract.
-use Rattle.prelude.specs.Names.{needs}
+use Rattle.prelude.specs.Names.{rules}
 use Rattle.chains.proofs.cuts.too_long.Tie as tie
 
 pub too_long_spec : {M : Type 1} → Rattle.chains.proofs.cuts.too_long.Statement.statement M
-too_long_spec = tie.close (tie.spec (λ c. search needs) (λ c. search needs) (λ c. search needs)
+too_long_spec = tie.close (tie.spec (λ c. search rules) (λ c. search rules) (λ c. search rules)
     (λ c κs. (c.before.before.requires, c.if1.true)) (λ c. c.too_long-plain.ensures) (λ c κs. c.before.before.requires)
     (λ c. c.too-long-with-gaps.ensures))

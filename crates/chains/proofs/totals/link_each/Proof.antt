@@ -1,6 +1,6 @@
 -- `chains::totals::link_each` meets its contract. Invariant: totals are raised along links from v to the items alone, and go on along those
 -- to the items that are no longer left. Measure: the items left, as a number.
-use Rattle.prelude.specs.Names.{needs, not-true, not-false}
+use Rattle.prelude.specs.Names.{rules, not-true, not-false}
 use Rattle.chains.proofs.Relaxing.{Partway, partway_start, partway_given, partway_bursts, partway_next, partway_end}
 use Rattle.chains.proofs.totals.link_each.Tie as tie
 
@@ -18,7 +18,7 @@ returns c =
     rw e (search partway_bursts)
 
 pub link_each_spec : {M : Type 1} → Rattle.chains.proofs.totals.link_each.Statement.statement M
-link_each_spec = tie.close (tie.spec invariant_loop decreases_loop (λ c. partway_start c.requires) (λ c κs. search needs) (λ c κs. search needs)
-    (λ c κs. partway_given c.before.before.before.before.loop.invariant c.before.before.lowest.ensures) returns (λ c. search needs)
+link_each_spec = tie.close (tie.spec invariant_loop decreases_loop (λ c. partway_start c.requires) (λ c κs. search rules) (λ c κs. search rules)
+    (λ c κs. partway_given c.before.before.before.before.loop.invariant c.before.before.lowest.ensures) returns (λ c. search rules)
     (λ c. let f = c.before.before.before.link in
     let q = rw (not-false f.result.fits c.before.if1.false) at f.ensures in search partway_next) (λ c. search partway_end))

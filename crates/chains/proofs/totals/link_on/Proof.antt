@@ -1,6 +1,6 @@
 -- `chains::totals::link_on` meets its contract. Invariant: totals are raised along links alone, and go on along that from u to v and those
 -- from every item that grew, but from the items of `todo`. Measure: how much the totals may still grow, and then `todo` as a number.
-use Rattle.prelude.specs.Names.{◌+◌, ◌*◌, arith, needs, not-true, not-false}
+use Rattle.prelude.specs.Names.{◌+◌, ◌*◌, arith, rules, not-true, not-false}
 use Rattle.chains.proofs.ChainMeasure.{room}
 use Rattle.chains.proofs.Relaxing.{link-given, first_bursts, Progress, progress_start, progress_item, progress_given, progress_bursts}
 use Rattle.chains.proofs.Relaxing.{progress_next, progress_falls, progress_end}
@@ -32,9 +32,9 @@ returns_2 c =
 pub link_on_spec : {M : Type 1} → Rattle.chains.proofs.totals.link_on.Statement.statement M
 link_on_spec = tie.close (tie.spec invariant_loop decreases_loop (λ c κs. link-given c.before.requires) returns
     (λ c. let f = c.before.before.link in let b = rw (not-false f.result.fits c.if1.false) at f.ensures in search progress_start)
-    (λ c κs. search needs) (λ c κs. search needs) (λ c. omega arith) (λ c. omega arith) (λ c. omega arith)
+    (λ c κs. search rules) (λ c κs. search rules) (λ c. omega arith) (λ c. omega arith) (λ c. omega arith)
     (λ c. let d = c.before in omega (arith, progress_item d.before.before.before.loop.invariant d.before.lowest.ensures))
-    (λ c κs. search needs) (λ c κs. let d = c.before.before.before in
+    (λ c κs. search rules) (λ c κs. let d = c.before.before.before in
     progress_given d.before.before.before.loop.invariant d.before.lowest.ensures c.linked.ensures) returns_2
     (λ c. let f = c.before.before.before.before.link-each in
     let q = rw (not-false f.result.fits c.before.before.if2.false) at f.ensures in search progress_falls)

@@ -1,5 +1,5 @@
 -- `chains::totals::linked` meets its contract.
-use Rattle.prelude.specs.Names.{and-true, ◌/◌, ◌*◌, ◌^◌, arith, bit_and, needs}
+use Rattle.prelude.specs.Names.{and-true, ◌/◌, ◌*◌, ◌^◌, arith, bit_and, rules}
 use Rattle.domains.proofs.BitLaws.{bit-and, bit_shr, bit_ones, and_small-right}
 use Rattle.chains.proofs.totals.linked.Tie as tie
 
@@ -10,4 +10,4 @@ returns c = record {
 }
 
 pub linked_spec : {M : Type 1} → Rattle.chains.proofs.totals.linked.Statement.statement M
-linked_spec = tie.close (tie.spec (λ c. search needs) (λ c. search needs) (λ c. search needs) returns)
+linked_spec = tie.close (tie.spec (λ c. search rules) (λ c. search rules) (λ c. search rules) returns)

@@ -1,5 +1,5 @@
 -- `domains::access::index` meets its contract.
-use Rattle.prelude.specs.Names.{needs, arith, ap, ℕ, ◌+◌, ◌*◌}
+use Rattle.prelude.specs.Names.{rules, arith, ap, ℕ, ◌+◌, ◌*◌}
 use Rattle.model.specs.Domains.{index}
 use Rattle.model.proofs.Slots.{index-small}
 use Rattle.domains.proofs.access.index.Tie as tie
@@ -12,5 +12,5 @@ returns c =
 
 pub index_spec : {M : Type 1} → Rattle.domains.proofs.access.index.Statement.statement M
 unfolding index
-index_spec = tie.close (tie.spec (λ c κs. search needs) (λ c. omega (arith, index-small c.before.requires))
+index_spec = tie.close (tie.spec (λ c κs. search rules) (λ c. omega (arith, index-small c.before.requires))
     (λ c. omega (arith, index-small c.before.requires)) returns)

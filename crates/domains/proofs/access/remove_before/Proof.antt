@@ -1,10 +1,10 @@
 -- `domains::access::remove_before` meets its contract.
-use Rattle.prelude.specs.Names.{arith, needs}
+use Rattle.prelude.specs.Names.{arith, rules}
 use Rattle.model.proofs.Domains.{remove_before-up, remove_before_down}
 use Rattle.domains.proofs.access.remove_before.Tie as tie
 
 pub remove_before_spec : {M : Type 1} → Rattle.domains.proofs.access.remove_before.Statement.statement M
-remove_before_spec = tie.close (tie.spec (λ c κs. search needs) (λ c. search needs) (λ c κs. search needs) (λ c. search needs)
-    (λ c. cc (remove_before-up _ _ c.before.before.before.if1.true)) (λ c κs. search needs) (λ c. search needs) (λ c κs. search needs)
-    (λ c. search needs)
+remove_before_spec = tie.close (tie.spec (λ c κs. search rules) (λ c. search rules) (λ c κs. search rules) (λ c. search rules)
+    (λ c. cc (remove_before-up _ _ c.before.before.before.if1.true)) (λ c κs. search rules) (λ c. search rules) (λ c κs. search rules)
+    (λ c. search rules)
     (λ c. let a = c.before.before.before.before.args in cc (remove_before_down a.k.now a.a {u = a.v} {v = a.u} (omega arith))))

@@ -1,9 +1,9 @@
 -- `domains::access::without_overlap` meets its contract.
-use Rattle.prelude.specs.Names.{arith, ◌/◌, needs}
+use Rattle.prelude.specs.Names.{arith, ◌/◌, rules}
 use Rattle.model.specs.Domains.{domain, overlap_bit, before_bit, after_bit}
 use Rattle.domains.proofs.BitLaws.{weigh}
 use Rattle.domains.proofs.access.without_overlap.Tie as tie
 
 pub without_overlap_spec : {M : Type 1} → Rattle.domains.proofs.access.without_overlap.Statement.statement M
-without_overlap_spec = tie.close (tie.spec (λ c. search needs) (λ c. search needs) (λ c. search needs)
+without_overlap_spec = tie.close (tie.spec (λ c. search rules) (λ c. search rules) (λ c. search rules)
     (λ c. unfold domain overlap_bit before_bit after_bit in omega (arith, weigh c.args.m 1, weigh (c.args.m / 2) 2, weigh (c.args.m / 4) 4)))

@@ -1,10 +1,10 @@
 -- `domains::removal::remove` meets its contract.
-use Rattle.prelude.specs.Names.{needs}
+use Rattle.prelude.specs.Names.{rules}
 use Rattle.domains.proofs.RemoveSet.{rest_askable, rest-left, rest-none, rest-outcome}
 use Rattle.domains.proofs.removal.remove.Tie as tie
 
 pub remove_spec : {M : Type 1} → Rattle.domains.proofs.removal.remove.Statement.statement M
-remove_spec = tie.close (tie.spec (λ c. search needs) (λ c. search needs) (λ c. search needs) (λ c. search needs)
+remove_spec = tie.close (tie.spec (λ c. search rules) (λ c. search rules) (λ c. search rules) (λ c. search rules)
     (λ c. let (g, ask) = c.before.before.requires in rest-none g ask c.if1.true)
     (λ c κs. let (g, ask) = c.before.before.before.before.before.requires in (g, rest_askable g ask, rest-left g ask))
     (λ c. let (g, ask) = c.before.before.before.before.before.before.requires in

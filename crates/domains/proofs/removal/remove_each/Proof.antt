@@ -1,5 +1,5 @@
 -- `domains::removal::remove_each` meets its contract. It removes the relations one after another: `Steps n` is reached when those below n are done.
-use Rattle.prelude.specs.Names.{arith, or_lt, needs}
+use Rattle.prelude.specs.Names.{arith, or_lt, rules}
 use Rattle.domains.proofs.Narrowed.{good-long}
 use Rattle.domains.proofs.RemoveSet.{nothing_left, steps-none, next_spares, steps_one}
 use Rattle.domains.proofs.BitLaws.{gives_first, gives_part}
@@ -32,7 +32,7 @@ returns_2 c =
     (steps_one g ask st' (omega arith) (gives_part _ 20) c.remove-items3.ensures).narrowed
 
 pub remove_each_spec : {M : Type 1} → Rattle.domains.proofs.removal.remove_each.Statement.statement M
-remove_each_spec = tie.close (tie.spec (λ c. search needs) (λ c. search needs) (λ c. search needs) (λ c. search needs)
+remove_each_spec = tie.close (tie.spec (λ c. search rules) (λ c. search rules) (λ c. search rules) (λ c. search rules)
     (λ c κs. let (g, ask, _) = c.before.requires in or_lt 30 _ _ (g.laid.mirror.small _) ask.small)
     (λ c. let (g, ask, _) = c.before.before.before.requires in (good-long g, nothing_left g ask c.before.emptied.ensures c.if1.true))
     (λ c κs. let t = c.before.before.before in let (g, ask, left) = t.before.before.before.requires in

@@ -1,10 +1,10 @@
 -- `domains::removal::remove_from` meets its contract.
-use Rattle.prelude.specs.Names.{◌≡◌, arith, needs}
+use Rattle.prelude.specs.Names.{◌≡◌, arith, rules}
 use Rattle.model.specs.Relations.{without}
 use Rattle.domains.proofs.removal.remove_from.Tie as tie
 
 pub remove_from_spec : {M : Type 1} → Rattle.domains.proofs.removal.remove_from.Statement.statement M
-remove_from_spec = tie.close (tie.spec (λ c κs. search needs)
-    (λ c. unfold without in rw c.before.before.if1.true c.remove_overlap.ensures) (λ c κs. search needs)
-    (λ c. unfold without in rw c.before.before.if2.true c.remove_before.ensures) (λ c κs. search needs)
+remove_from_spec = tie.close (tie.spec (λ c κs. search rules)
+    (λ c. unfold without in rw c.before.before.if1.true c.remove_overlap.ensures) (λ c κs. search rules)
+    (λ c. unfold without in rw c.before.before.if2.true c.remove_before.ensures) (λ c κs. search rules)
     (λ c. unfold without in let e : c.before.before.before.before.args.x ≡ 2 = omega arith in rw e c.remove-before2.ensures))

@@ -1,5 +1,5 @@
 -- `domains::removal::remove_one` meets its contract.
-use Rattle.prelude.specs.Names.{arith, needs}
+use Rattle.prelude.specs.Names.{arith, rules}
 use Rattle.model.proofs.Facts.{converse-small}
 use Rattle.domains.proofs.RemoveOne.{pushable, removed_one}
 use Rattle.domains.proofs.removal.remove_one.Tie as tie
@@ -13,11 +13,11 @@ returns c =
     (removed_one g hx w s)
 
 pub remove_one_spec : {M : Type 1} → Rattle.domains.proofs.removal.remove_one.Statement.statement M
-remove_one_spec = tie.close (tie.spec (λ c κs. search needs) (λ c. search needs) (λ c. search needs) (λ c. search needs) (λ c. search needs)
-    (λ c. search needs) (λ c. search needs) (λ c κs. search needs) (λ c. search needs) (λ c. search needs) (λ c. search needs) (λ c. search needs)
-    (λ c. search needs) (λ c. search needs) (λ c. search needs) (λ c. search needs) (λ c κs. search needs)
+remove_one_spec = tie.close (tie.spec (λ c κs. search rules) (λ c. search rules) (λ c. search rules) (λ c. search rules) (λ c. search rules)
+    (λ c. search rules) (λ c. search rules) (λ c κs. search rules) (λ c. search rules) (λ c. search rules) (λ c. search rules) (λ c. search rules)
+    (λ c. search rules) (λ c. search rules) (λ c. search rules) (λ c. search rules) (λ c κs. search rules)
     (λ c. omega (arith, c.converse.ensures, converse-small c.before.before.before.before.before.before.args.x))
     (λ c. omega (arith, c.converse.ensures, converse-small c.before.before.before.before.before.before.args.x))
-    (λ c κs. omega (arith, c.converse.ensures, converse-small c.before.before.before.before.before.before.args.x)) (λ c. search needs)
-    (λ c. search needs) (λ c. search needs) (λ c. search needs)
+    (λ c κs. omega (arith, c.converse.ensures, converse-small c.before.before.before.before.before.before.args.x)) (λ c. search rules)
+    (λ c. search rules) (λ c. search rules) (λ c. search rules)
     (λ c κs. let (g, (hx, w, s)) = c.before.before.before.before.before.before.before.before.requires in pushable g hx w s) returns)

@@ -1,5 +1,5 @@
 -- `instance::Instance::is_valid` meets its contract.
-use Rattle.prelude.specs.Names.{◌≡◌, sym, ◌∙◌, map, ◌&&◌, le-leb, lt-leb, not-true, not-false, needs}
+use Rattle.prelude.specs.Names.{◌≡◌, sym, ◌∙◌, map, ◌&&◌, le-leb, lt-leb, not-true, not-false, rules}
 use Rattle.parts.specs.declared.Previous.TheVariants.{Nothing}
 use Rattle.parts.specs.Precedences.{arc_of, all_allowed}
 use Rattle.parts.specs.Sizes.{size_in_range, all_in_range}
@@ -20,11 +20,11 @@ container-passed c = let p = c.before.size_in_range in
 pub is_valid_spec : {M : Type 1} → Rattle.instance.proofs.Instance.is_valid.Statement.statement M
 unfolding valid
 is_valid_spec = tie.close (tie.spec (λ c. simp (lt-leb _ _ c.if1.true))
-    (λ c. simp (le-leb _ _ c.before.if1.false, lt-leb _ _ c.if2.true)) (λ c κs. search needs)
+    (λ c. simp (le-leb _ _ c.before.if1.false, lt-leb _ _ c.if2.true)) (λ c κs. search rules)
     (λ c. let p = c.before.size_in_range in
-    sym (counts_passed c.before.before.before ∙ simp (← p.ensures, not-true p.result c.if3.true))) (λ c κs. search needs)
+    sym (counts_passed c.before.before.before ∙ simp (← p.ensures, not-true p.result c.if3.true))) (λ c κs. search rules)
     (λ c. let a = c.before.all_in_range in
-    sym (container-passed c.before.before.before ∙ simp (← a.ensures, not-true a.result c.if4.true))) (λ c κs. search needs)
+    sym (container-passed c.before.before.before ∙ simp (← a.ensures, not-true a.result c.if4.true))) (λ c κs. search rules)
     (λ c. let d = c.before.before in let a = d.before.all_in_range in
     c.all-in-order.ensures
     ∙ sym (container-passed d.before.before.before ∙ simp (← a.ensures, not-false a.result d.if4.false))))

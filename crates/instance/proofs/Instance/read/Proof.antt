@@ -1,5 +1,5 @@
 -- `instance::Instance::read` meets its contract.
-use Rattle.prelude.specs.Names.{◌-◌, ◌≤◌, arith, refl, ◌∙◌, length, length-drop, drop-drop, needs}
+use Rattle.prelude.specs.Names.{◌-◌, ◌≤◌, arith, refl, ◌∙◌, length, length-drop, drop-drop, rules}
 use Rattle.formats.proofs.Entries.{rest_of}
 use Rattle.formats.proofs.Run.{run_took}
 use Rattle.instance.specs.Answers.{empty_instance}
@@ -13,11 +13,11 @@ took : (c : tie.After-container) →
 took c = rw length-drop at (run_took _ _ _ (rw (c.container.given.1, rest_of) at c.before.before.read-size.ensures))
 
 pub read_spec : {M : Type 1} → Rattle.instance.proofs.Instance.read.Statement.statement M
-read_spec = tie.close (tie.spec (λ c κs. search needs)
-    (λ c. c.refuse.ensures ∙ simp (sheet_short c.before.before.before.args.bytes.now c.before.if1.true)) (λ c. search needs)
-    (λ c. search needs) (λ c. search needs) (λ c. search needs) (λ c κs. search needs) (λ c. search needs)
-    (λ c κs. search needs) (λ c. search needs) (λ c. omega (arith, took c.before)) (λ c κs. search needs) (λ c. omega (arith, took c.before.before))
-    (λ c. omega (arith, took c.before.before)) (λ c. search needs)
+read_spec = tie.close (tie.spec (λ c κs. search rules)
+    (λ c. c.refuse.ensures ∙ simp (sheet_short c.before.before.before.args.bytes.now c.before.if1.true)) (λ c. search rules)
+    (λ c. search rules) (λ c. search rules) (λ c. search rules) (λ c κs. search rules) (λ c. search rules)
+    (λ c κs. search rules) (λ c. search rules) (λ c. omega (arith, took c.before)) (λ c κs. search rules) (λ c. omega (arith, took c.before.before))
+    (λ c. omega (arith, took c.before.before)) (λ c. search rules)
     (λ c κs. let w = took c.before.before.before in let e = c.before.empty.ensures in (
       simp (rest_of, length-drop) (omega arith),
       record { items = rw e (record { few = omega arith; same = refl }); precedences = rw e (record { few = omega arith; same = refl }) },

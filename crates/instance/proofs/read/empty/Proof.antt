@@ -1,6 +1,6 @@
 -- `instance::read::empty` meets its contract.
-use Rattle.prelude.specs.Names.{needs}
+use Rattle.prelude.specs.Names.{rules}
 use Rattle.instance.proofs.read.empty.Tie as tie
 
 pub empty_spec : {M : Type 1} → Rattle.instance.proofs.read.empty.Statement.statement M
-empty_spec = tie.close (tie.spec (λ c κs. search needs) (λ c κs. search needs) (λ c. rw (c.before.no_items.ensures, c.no-precedences.ensures)))
+empty_spec = tie.close (tie.spec (λ c κs. search rules) (λ c κs. search rules) (λ c. rw (c.before.no_items.ensures, c.no-precedences.ensures)))

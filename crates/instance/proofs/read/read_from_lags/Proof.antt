@@ -1,5 +1,5 @@
 -- `instance::read::read_from_lags` meets its contract.
-use Rattle.prelude.specs.Names.{◌≤◌, arith, ◌∙◌, length, length-drop, needs}
+use Rattle.prelude.specs.Names.{◌≤◌, arith, ◌∙◌, length, length-drop, rules}
 use Rattle.formats.proofs.Entries.{rest_of}
 use Rattle.formats.proofs.Run.{run_took}
 use Rattle.instance.proofs.Readers.{lags-run, precedences-count, lagged_padding, lagged_orders, lagged-lags_are}
@@ -10,9 +10,9 @@ took : (c : tie.After-known-told2) → c.before.stop2.given.0.0 ≤ length c.bef
 took c = run_took _ _ _ (rw c.before.stop2.given.1 at c.before.before.before.read-lags.ensures.0)
 
 pub read_from_lags_spec : {M : Type 1} → Rattle.instance.proofs.read.read_from_lags.Statement.statement M
-read_from_lags_spec = tie.close (tie.spec (λ c κs. search needs) (λ c κs. search needs) (λ c. search needs) (λ c κs. search needs)
-    (λ c. search needs) (λ c κs. search needs) (λ c. omega (arith, took c.before.before.before))
-    (λ c. omega (arith, took c.before.before.before)) (λ c. search needs) (λ c. omega (arith, took c.before.before.before.before))
+read_from_lags_spec = tie.close (tie.spec (λ c κs. search rules) (λ c κs. search rules) (λ c. search rules) (λ c κs. search rules)
+    (λ c. search rules) (λ c κs. search rules) (λ c. omega (arith, took c.before.before.before))
+    (λ c. omega (arith, took c.before.before.before)) (λ c. search rules) (λ c. omega (arith, took c.before.before.before.before))
     (λ c κs. let k = c.before.before.before.before in let r = k.before.before.before in let s = r.before.before.before in
     let w = took k in (
       simp (rest_of, length-drop) (omega arith),

@@ -1,5 +1,5 @@
 -- `instance::read::read_from_precedences` meets its contract.
-use Rattle.prelude.specs.Names.{◌≤◌, arith, ◌≡◌, ◌∙◌, [], map, take, length, length-drop, needs}
+use Rattle.prelude.specs.Names.{◌≤◌, arith, ◌≡◌, ◌∙◌, [], map, take, length, length-drop, rules}
 use Rattle.formats.proofs.Entries.{rest_of}
 use Rattle.formats.proofs.Run.{run_took}
 use Rattle.formats.specs.Reading.{run, read_as}
@@ -24,8 +24,8 @@ took : (c : tie.After-known-told2) → c.before.stop2.given.0.0 ≤ length c.bef
 took c = run_took _ _ _ (rw c.before.stop2.given.1 at (read_arcs c.before.before.before))
 
 pub read_from_precedences_spec : {M : Type 1} → Rattle.instance.proofs.read.read_from_precedences.Statement.statement M
-read_from_precedences_spec = tie.close (tie.spec (λ c κs. search needs) (λ c κs. search needs) (λ c. search needs) (λ c κs. search needs)
-    (λ c. search needs) (λ c. omega (arith, took c.before)) (λ c. omega (arith, took c.before)) (λ c. search needs)
+read_from_precedences_spec = tie.close (tie.spec (λ c κs. search rules) (λ c κs. search rules) (λ c. search rules) (λ c κs. search rules)
+    (λ c. search rules) (λ c. omega (arith, took c.before)) (λ c. omega (arith, took c.before)) (λ c. search rules)
     (λ c. omega (arith, took c.before.before)) (λ c κs. let b = c.before.before.before.before.before in let w = took c.before.before in (
       simp (rest_of, length-drop) (omega arith),
       record { items = b.before.before.before.requires.1.items; precedences = b.read-precedences.ensures.1 },

@@ -1,5 +1,5 @@
 -- `instance::read::read_from_walkway` meets its contract.
-use Rattle.prelude.specs.Names.{◌<◌, length, drop, length-drop, arith, ◌≡◌, ◌∙◌, needs}
+use Rattle.prelude.specs.Names.{◌<◌, length, drop, length-drop, arith, ◌≡◌, ◌∙◌, rules}
 use Rattle.formats.proofs.Run.{run_took}
 use Rattle.sheet.specs.Sheet.{walkway}
 use Rattle.instance.proofs.Readers.{walkway-run, draft_is, bytes_left, no-bytes-left}
@@ -7,8 +7,8 @@ use Rattle.instance.proofs.read.read_from_walkway.Tie as tie
 
 pub read_from_walkway_spec : {M : Type 1} → Rattle.instance.proofs.read.read_from_walkway.Statement.statement M
 unfolding walkway
-read_from_walkway_spec = tie.close (tie.spec (λ c κs. search needs) (λ c κs. search needs) (λ c. search needs) (λ c κs. search needs)
-    (λ c. search needs) (λ c. search needs) (λ c κs. search needs)
+read_from_walkway_spec = tie.close (tie.spec (λ c κs. search rules) (λ c κs. search rules) (λ c. search rules) (λ c κs. search rules)
+    (λ c. search rules) (λ c. search rules) (λ c κs. search rules)
     (λ c. let b = c.before.before.before in let r = b.before.before in let s = r.before.before.before in
     let m : 0 < length (drop b.walkway.given.0.1.0 s.args.rest.now) = rw length-drop (omega arith) in
     c.refuse2.ensures ∙ simp (walkway-run, ← r.before.bit-is-set.ensures, rw b.walkway.given.1 at r.read_byte.ensures, bytes_left))

@@ -1,5 +1,5 @@
 -- `instance::read::read_from_yard_number` meets its contract.
-use Rattle.prelude.specs.Names.{◌≤◌, arith, ◌∙◌, length, length-drop, needs}
+use Rattle.prelude.specs.Names.{◌≤◌, arith, ◌∙◌, length, length-drop, rules}
 use Rattle.formats.proofs.Entries.{rest_of}
 use Rattle.formats.proofs.Run.{run_took}
 use Rattle.sheet.specs.Sheet.{yard_number}
@@ -12,8 +12,8 @@ took c = run_took _ _ _ (rw c.yard.given.1 at c.before.before.read-field.ensures
 
 pub read_from_yard_number_spec : {M : Type 1} → Rattle.instance.proofs.read.read_from_yard_number.Statement.statement M
 unfolding yard_number
-read_from_yard_number_spec = tie.close (tie.spec (λ c κs. search needs) (λ c κs. search needs) (λ c. search needs) (λ c κs. search needs)
-    (λ c. search needs) (λ c. omega (arith, took c.before)) (λ c. omega (arith, took c.before)) (λ c. search needs)
+read_from_yard_number_spec = tie.close (tie.spec (λ c κs. search rules) (λ c κs. search rules) (λ c. search rules) (λ c κs. search rules)
+    (λ c. search rules) (λ c. omega (arith, took c.before)) (λ c. omega (arith, took c.before)) (λ c. search rules)
     (λ c. omega (arith, took c.before.before))
     (λ c κs. let b = c.before.before in let s = b.before.before.before.before.before in let w = took b in (
       simp (rest_of, length-drop) (omega arith),

@@ -1,5 +1,5 @@
 -- `nodes::branching::apply_branch` meets its contract.
-use Rattle.prelude.specs.Names.{needs, arith, true, false, refl, sym, ◌∙◌}
+use Rattle.prelude.specs.Names.{rules, arith, true, false, refl, sym, ◌∙◌}
 use Rattle.model.specs.Domains.{fix_overlap}
 use Rattle.model.specs.Relations.{without}
 use Rattle.model.proofs.Slots.{proper-up}
@@ -50,13 +50,13 @@ returns_4 c =
     (set_one 0 (omega arith) g.place.item (omega arith) c.before.bit5.ensures) c.remove-each.result c.remove-each.ensures
 
 pub apply_branch_spec : {M : Type 1} → Rattle.nodes.proofs.branching.apply_branch.Statement.statement M
-apply_branch_spec = tie.close (tie.spec (λ c. search needs) (λ c. search needs) (λ c. search needs) (λ c. search needs) (λ c. search needs)
-    (λ c κs. search needs) (λ c. search needs) (λ c κs. search needs)
+apply_branch_spec = tie.close (tie.spec (λ c. search rules) (λ c. search rules) (λ c. search rules) (λ c. search rules) (λ c. search rules)
+    (λ c κs. search rules) (λ c. search rules) (λ c κs. search rules)
     (λ c κs. let g = c.before.before.before.before.before.before.before.before.requires in
-    branch_removes g (set_one 1 (omega arith) g.place.item refl c.bit.ensures)) returns (λ c. search needs) (λ c κs. search needs)
+    branch_removes g (set_one 1 (omega arith) g.place.item refl c.bit.ensures)) returns (λ c. search rules) (λ c κs. search rules)
     (λ c κs. let g = c.before.before.before.before.before.before.before.before.requires in
-    branch_removes g (set_one 2 (omega arith) g.place.item refl c.bit2.ensures)) returns_2 (λ c. search needs) (λ c κs. search needs)
-    (λ c. search needs) (λ c κs. search needs)
+    branch_removes g (set_one 2 (omega arith) g.place.item refl c.bit2.ensures)) returns_2 (λ c. search rules) (λ c κs. search rules)
+    (λ c. search rules) (λ c κs. search rules)
     (λ c κs. let g = c.before.before.before.before.before.before.before.before.before.requires in let v = g.place.item in
     branch_removes g (set_more (set_one 1 (omega arith) v refl c.before.bit3.ensures) (set_one 2 (omega arith) v refl c.bit4.ensures)))
-    returns_3 (λ c κs. search needs) remove_each_requires returns_4)
+    returns_3 (λ c κs. search rules) remove_each_requires returns_4)

@@ -1,5 +1,5 @@
 -- `nodes::branching::separated` meets its contract.
-use Rattle.prelude.specs.Names.{needs}
+use Rattle.prelude.specs.Names.{rules}
 use Rattle.nodes.proofs.branching.separated.Tie as tie
 
 returns_2 : tie.Need-returns-2
@@ -14,7 +14,7 @@ returns_3 c =
     rw (← b.before.is-separated.ensures, b.if1.false, ← d.before.is-separated2.ensures, d.if2.false) c.is-separated3.ensures
 
 pub separated_spec : {M : Type 1} → Rattle.nodes.proofs.branching.separated.Statement.statement M
-separated_spec = tie.close (tie.spec (λ c. search needs) (λ c. search needs) (λ c κs. c.before.requires.0.small _)
-    (λ c. rw (← c.before.is-separated.ensures, c.if1.true)) (λ c. search needs) (λ c. search needs) (λ c. search needs)
-    (λ c κs. c.before.before.before.before.requires.0.small _) returns_2 (λ c. search needs) (λ c. search needs) (λ c. search needs)
+separated_spec = tie.close (tie.spec (λ c. search rules) (λ c. search rules) (λ c κs. c.before.requires.0.small _)
+    (λ c. rw (← c.before.is-separated.ensures, c.if1.true)) (λ c. search rules) (λ c. search rules) (λ c. search rules)
+    (λ c κs. c.before.before.before.before.requires.0.small _) returns_2 (λ c. search rules) (λ c. search rules) (λ c. search rules)
     (λ c κs. c.before.before.before.before.before.before.before.requires.0.small _) returns_3)

@@ -1,6 +1,6 @@
 -- `opening::layout::put_items` meets its contract. Invariant: the first u items are laid out, and nothing is above the greatest measure with its walkway.
 -- Measure: the items left.
-use Rattle.prelude.specs.Names.{needs, arith, ℕ, ◌-◌, ◌≤◌, ◌<◌, get_or, set}
+use Rattle.prelude.specs.Names.{rules, arith, ℕ, ◌-◌, ◌≤◌, ◌<◌, get_or, set}
 use Rattle.parts.specs.Sizes.{max_measure, no_item}
 use Rattle.parts.specs.declared.Size.{Size}
 use Rattle.instance.specs.Meaning.{measure_on}
@@ -72,8 +72,8 @@ returns c =
 pub put_items_spec : {M : Type 1} → Rattle.opening.proofs.layout.put_items.Statement.statement M
 put_items_spec = tie.close (tie.spec invariant_loop decreases_loop
     (λ c κs. let s = c.before.before in let most = container-measures s.args.instance s.requires.1 in (most 0 (omega arith), most 1 (omega arith)))
-    (λ c. search needs) (λ c. search needs) (λ c. search needs) (λ c. search needs) (λ c. search needs) (λ c. search needs) (λ c. search needs)
+    (λ c. search rules) (λ c. search rules) (λ c. search rules) (λ c. search rules) (λ c. search rules) (λ c. search rules) (λ c. search rules)
     loop_holds (λ c. omega (arith, room c)) (λ c. omega (arith, room c))
     (λ c κs. let most = most c.before.before.before in (most 0 (omega arith), most 1 (omega arith)))
-    (λ c κs. let more = c.before.before.before.before in (more.before.loop.invariant.1.long, room more)) (λ c. search needs) (λ c. search needs)
+    (λ c κs. let more = c.before.before.before.before in (more.before.loop.invariant.1.long, room more)) (λ c. search rules) (λ c. search rules)
     loop_again returns)

@@ -1,5 +1,5 @@
 -- `opening::layout::put_lags` meets its contract. Invariant: the lags of the first i precedences are put, and the measures stay. Measure: the precedences left.
-use Rattle.prelude.specs.Names.{needs, arith, List, refl, ◌≡◌, ℕ, ◌∙◌, ◌+◌, ◌-◌, ◌≤◌, ◌<◌, get_or, length, take}
+use Rattle.prelude.specs.Names.{rules, arith, List, refl, ◌≡◌, ℕ, ◌∙◌, ◌+◌, ◌-◌, ◌≤◌, ◌<◌, get_or, length, take}
 use Rattle.model.specs.Order.{Proper}
 use Rattle.parts.specs.declared.Precedence.{Precedence}
 use Rattle.parts.specs.Sizes.{no_precedence}
@@ -58,7 +58,7 @@ loop_again c =
     )
 
 pub put_lags_spec : {M : Type 1} → Rattle.opening.proofs.layout.put_lags.Statement.statement M
-put_lags_spec = tie.close (tie.spec invariant_loop decreases_loop (λ c. let long : length c.args.t2 ≡ 90 = search needs in
-    (omega arith, omega (arith, c.requires.0.1), c.requires.0.0, λ j h. refl, λ p h. h)) (λ c. search needs) (λ c. search needs) (λ c. search needs)
-    (λ c. search needs) put_lag_requires (λ c. search needs) (λ c. search needs) loop_again
+put_lags_spec = tie.close (tie.spec invariant_loop decreases_loop (λ c. let long : length c.args.t2 ≡ 90 = search rules in
+    (omega arith, omega (arith, c.requires.0.1), c.requires.0.0, λ j h. refl, λ p h. h)) (λ c. search rules) (λ c. search rules) (λ c. search rules)
+    (λ c. search rules) put_lag_requires (λ c. search rules) (λ c. search rules) loop_again
     (λ c. let h = c.before.loop in let e : h.i ≡ c.before.before.args.m = omega (arith, h.invariant.0, c.loop-test.false) in rw e at h.invariant.4))

@@ -1,5 +1,5 @@
 -- `opening::layout::put_steps` meets its contract. Invariant: the first i rows are put. Measure: the rows left.
-use Rattle.prelude.specs.Names.{needs, arith, ◌≡◌, ◌-◌, ◌≤◌}
+use Rattle.prelude.specs.Names.{rules, arith, ◌≡◌, ◌-◌, ◌≤◌}
 use Rattle.opening.specs.Layout.{Stepped}
 use Rattle.opening.proofs.Lags.{steps-none, steps_next}
 use Rattle.opening.proofs.layout.put_steps.Tie as tie
@@ -13,7 +13,7 @@ decreases_loop t₀ i₀ t i = 60 - i
 pub put_steps_spec : {M : Type 1} → Rattle.opening.proofs.layout.put_steps.Statement.statement M
 put_steps_spec = tie.close (tie.spec invariant_loop decreases_loop (λ c. (omega arith, steps-none _))
     (λ c κs. let l = c.before.before in (omega (arith, l.loop.invariant.1.long, l.before.requires), omega (arith, c.before.loop-test.true), omega arith))
-    (λ c. search needs) (λ c. search needs)
+    (λ c. search rules) (λ c. search rules)
     (λ c. let l = c.before.before.before in
     (omega (arith, c.before.before.loop-test.true), steps_next l.loop.i l.loop.invariant.1 c.put-row.ensures))
     (λ c. let h = c.before.loop in let e : h.i ≡ 60 = omega (arith, h.invariant.0, c.loop-test.false) in rw e at h.invariant.1))

@@ -1,7 +1,7 @@
 -- `packing::axes::ends_ahead` meets its contract.
-use Rattle.prelude.specs.Names.{ap, ap₂, ◌+◌, leb, needs}
+use Rattle.prelude.specs.Names.{ap, ap₂, ◌+◌, leb, rules}
 use Rattle.packing.proofs.axes.ends_ahead.Tie as tie
 
 pub ends_ahead_spec : {M : Type 1} → Rattle.packing.proofs.axes.ends_ahead.Statement.statement M
-ends_ahead_spec = tie.close (tie.spec (λ c κs. search needs) (λ c κs. search needs) (λ c. search needs) (λ c. search needs)
+ends_ahead_spec = tie.close (tie.spec (λ c κs. search rules) (λ c κs. search rules) (λ c. search rules) (λ c. search rules)
     (λ c. ap₂ leb (ap (◌+ c.before.before.before.args.gap) c.before.end_on.ensures.0) c.start-on.ensures))

@@ -1,10 +1,10 @@
 -- `packing::axes::measure_on` meets its contract.
-use Rattle.prelude.specs.Names.{◌≡◌, refl, needs}
+use Rattle.prelude.specs.Names.{◌≡◌, refl, rules}
 use Rattle.instance.specs.Meaning.{measure_on}
 use Rattle.packing.proofs.Loops.{last_axis}
 use Rattle.packing.proofs.axes.measure_on.Tie as tie
 
 pub measure_on_spec : {M : Type 1} → Rattle.packing.proofs.axes.measure_on.Statement.statement M
-measure_on_spec = tie.close (tie.spec (λ c. search needs) (λ c. search needs)
+measure_on_spec = tie.close (tie.spec (λ c. search rules) (λ c. search rules)
     (λ c. last_axis (λ a. c.before.args.size.shifts ≡ measure_on a c.before.args.size) (λ a. refl) _ c.match.rest.0.1
     c.match.rest.1))

@@ -1,10 +1,10 @@
 -- `packing::axes::start_on` meets its contract.
-use Rattle.prelude.specs.Names.{◌≡◌, refl, needs}
+use Rattle.prelude.specs.Names.{◌≡◌, refl, rules}
 use Rattle.instance.specs.Meaning.{start}
 use Rattle.packing.proofs.Loops.{last_axis}
 use Rattle.packing.proofs.axes.start_on.Tie as tie
 
 pub start_on_spec : {M : Type 1} → Rattle.packing.proofs.axes.start_on.Statement.statement M
-start_on_spec = tie.close (tie.spec (λ c. search needs) (λ c. search needs)
+start_on_spec = tie.close (tie.spec (λ c. search rules) (λ c. search rules)
     (λ c. last_axis (λ a. c.before.args.position.t ≡ start a c.before.args.position) (λ a. refl) _ c.match.rest.0.1
     c.match.rest.1))

@@ -1,5 +1,5 @@
 -- `packing::feasible::apart` meets its contract. Invariant: each item below u is apart from every item of a lower number. Measure: the items left.
-use Rattle.prelude.specs.Names.{needs, not-true, not-false, ◌-◌}
+use Rattle.prelude.specs.Names.{rules, not-true, not-false, ◌-◌}
 use Rattle.instance.specs.Meaning.{problem_of, positions_of}
 use Rattle.packing.specs.Parts.{apart_from_lower}
 use Rattle.packing.proofs.Loops.{Passed, all_more, all_fails, all_done, apart_by}
@@ -12,5 +12,5 @@ abbrev decreases_loop : tie.decreases_loop
 decreases_loop instance packing n u₀ u = n - u
 
 pub apart_spec : {M : Type 1} → Rattle.packing.proofs.feasible.apart.Statement.statement M
-apart_spec = tie.close (tie.spec invariant_loop decreases_loop (λ c. search needs) (λ c κs. search needs) (λ c. rw apart_by (search (all_fails, not-true)))
-    (λ c. search needs) (λ c. search needs) (λ c. search (all_more, not-false)) (λ c. rw apart_by (search all_done)))
+apart_spec = tie.close (tie.spec invariant_loop decreases_loop (λ c. search rules) (λ c κs. search rules) (λ c. rw apart_by (search (all_fails, not-true)))
+    (λ c. search rules) (λ c. search rules) (λ c. search (all_more, not-false)) (λ c. rw apart_by (search all_done)))

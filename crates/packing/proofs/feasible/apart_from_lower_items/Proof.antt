@@ -1,6 +1,6 @@
 -- `packing::feasible::apart_from_lower_items` meets its contract. Invariant: item u is apart from each item below v. Measure: the lower items
 -- left.
-use Rattle.prelude.specs.Names.{needs, not-true, not-false, ◌-◌}
+use Rattle.prelude.specs.Names.{rules, not-true, not-false, ◌-◌}
 use Rattle.instance.specs.Meaning.{problem_of, positions_of}
 use Rattle.model.specs.Problem.{apart_on_some_axis}
 use Rattle.packing.specs.Parts.{apart_from_lower}
@@ -15,5 +15,5 @@ decreases_loop instance packing u v₀ v = u - v
 
 pub apart_from_lower_items_spec : {M : Type 1} → Rattle.packing.proofs.feasible.apart_from_lower_items.Statement.statement M
 unfolding apart_from_lower
-apart_from_lower_items_spec = tie.close (tie.spec invariant_loop decreases_loop (λ c. search needs) (λ c κs. search needs) (λ c. search (all_fails, not-true))
-    (λ c. search needs) (λ c. search needs) (λ c. search (all_more, not-false)) (λ c. search all_done))
+apart_from_lower_items_spec = tie.close (tie.spec invariant_loop decreases_loop (λ c. search rules) (λ c κs. search rules) (λ c. search (all_fails, not-true))
+    (λ c. search rules) (λ c. search rules) (λ c. search (all_more, not-false)) (λ c. search all_done))

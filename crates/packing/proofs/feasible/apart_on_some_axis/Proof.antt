@@ -1,5 +1,5 @@
 -- `packing::feasible::apart_on_some_axis` meets its contract. Invariant: on no axis so far are the two items parted. Measure: the axes left.
-use Rattle.prelude.specs.Names.{needs, ◌-◌}
+use Rattle.prelude.specs.Names.{rules, ◌-◌}
 use Rattle.packing.proofs.Loops.{Failed, parted_on, parted_left, parted_right, parted_more, parted, not_parted}
 use Rattle.packing.proofs.feasible.apart_on_some_axis.Tie as tie
 
@@ -10,8 +10,8 @@ abbrev decreases_loop : tie.decreases_loop
 decreases_loop u v first second walkway axis₀ axis = 3 - axis
 
 pub apart_on_some_axis_spec : {M : Type 1} → Rattle.packing.proofs.feasible.apart_on_some_axis.Statement.statement M
-apart_on_some_axis_spec = tie.close (tie.spec invariant_loop decreases_loop (λ c κs. search needs) (λ c κs. search needs) (λ c. search needs)
-    (λ c κs. search needs) (λ c κs. search needs) (λ c. search (parted, parted_left)) (λ c κs. search needs) (λ c. search (parted, parted_right))
-    (λ c. search needs) (λ c. search needs) (λ c. let e = c.before.before.before in let s = e.before in
+apart_on_some_axis_spec = tie.close (tie.spec invariant_loop decreases_loop (λ c κs. search rules) (λ c κs. search rules) (λ c. search rules)
+    (λ c κs. search rules) (λ c κs. search rules) (λ c. search (parted, parted_left)) (λ c κs. search rules) (λ c. search (parted, parted_right))
+    (λ c. search rules) (λ c. search rules) (λ c. let e = c.before.before.before in let s = e.before in
     parted_more _ _ _ _ s.spacing_on.ensures e.ends_ahead.ensures c.before.ends-ahead2.ensures s.before.before.loop.invariant
     s.before.loop-test.true c.before.before.if1.false c.if2.false) (λ c. search not_parted))

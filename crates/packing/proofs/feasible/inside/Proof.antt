@@ -1,5 +1,5 @@
 -- `packing::feasible::inside` meets its contract. Invariant: on the axes so far every item is inside. Measure: the axes left.
-use Rattle.prelude.specs.Names.{needs, not-true, not-false, ◌-◌}
+use Rattle.prelude.specs.Names.{rules, not-true, not-false, ◌-◌}
 use Rattle.instance.specs.Meaning.{problem_of, positions_of}
 use Rattle.packing.specs.Parts.{inside_on}
 use Rattle.packing.proofs.Loops.{Passed, all_more, all_fails, all_done, inside_loop}
@@ -12,5 +12,5 @@ abbrev decreases_loop : tie.decreases_loop
 decreases_loop instance packing axis₀ axis = 3 - axis
 
 pub inside_spec : {M : Type 1} → Rattle.packing.proofs.feasible.inside.Statement.statement M
-inside_spec = tie.close (tie.spec invariant_loop decreases_loop (λ c. search needs) (λ c κs. search needs) (λ c. rw inside_loop (search (all_fails, not-true)))
-    (λ c. search needs) (λ c. search needs) (λ c. search (all_more, not-false)) (λ c. rw inside_loop (search all_done)))
+inside_spec = tie.close (tie.spec invariant_loop decreases_loop (λ c. search rules) (λ c κs. search rules) (λ c. rw inside_loop (search (all_fails, not-true)))
+    (λ c. search rules) (λ c. search rules) (λ c. search (all_more, not-false)) (λ c. rw inside_loop (search all_done)))

@@ -1,5 +1,5 @@
 -- `packing::feasible::inside_on_axis` meets its contract. Invariant: on the axis the first u items are inside. Measure: the items left.
-use Rattle.prelude.specs.Names.{needs, le-leb, lt-leb, ◌-◌}
+use Rattle.prelude.specs.Names.{rules, le-leb, lt-leb, ◌-◌}
 use Rattle.packing.proofs.Loops.{Passed, all_more, all_fails, all_done, within_limit, within_limit_is, inside_by}
 use Rattle.packing.proofs.feasible.inside_on_axis.Tie as tie
 
@@ -10,10 +10,10 @@ abbrev decreases_loop : tie.decreases_loop
 decreases_loop axis items count positions limit u₀ u = count - u
 
 pub inside_on_axis_spec : {M : Type 1} → Rattle.packing.proofs.feasible.inside_on_axis.Statement.statement M
-inside_on_axis_spec = tie.close (tie.spec invariant_loop decreases_loop (λ c κs. search needs) (λ c. search needs) (λ c. search needs) (λ c κs. search needs)
-    (λ c κs. search needs)
+inside_on_axis_spec = tie.close (tie.spec invariant_loop decreases_loop (λ c κs. search rules) (λ c. search rules) (λ c. search rules) (λ c κs. search rules)
+    (λ c κs. search rules)
     (λ c. rw (inside_by _ _ _ c.before.before.before.before.before.measure_on.ensures) (search (all_fails, within_limit_is, lt-leb)))
-    (λ c. search needs) (λ c. search needs)
+    (λ c. search rules) (λ c. search rules)
     (λ c. all_more c.before.before.before.before.loop.invariant c.before.before.before.loop-test.true
     (within_limit_is _ _ _ _ _ c.before.before.placed-item.ensures c.before.end_on.ensures.0) (le-leb _ _ c.if1.false))
     (λ c. rw (inside_by _ _ _ c.before.before.measure_on.ensures) (search all_done)))

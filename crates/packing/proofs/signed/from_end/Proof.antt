@@ -1,5 +1,5 @@
 -- `packing::signed::from_end` meets its contract.
-use Rattle.prelude.specs.Names.{arith, ◌∙◌, needs}
+use Rattle.prelude.specs.Names.{arith, ◌∙◌, rules}
 use mir.Syntax.{w32}
 use mir.ValLaws.{to_z_pos, to_z-of_z}
 use Rattle.packing.proofs.Gaps.{diff_fits}
@@ -11,7 +11,7 @@ sub_result c =
     rw (to_z_pos w32 s (omega arith), to_z_pos w32 e (omega arith)) (diff_fits s e (omega arith) (omega arith))
 
 pub from_end_spec : {M : Type 1} → Rattle.packing.proofs.signed.from_end.Statement.statement M
-from_end_spec = tie.close (tie.spec (λ c κs. search needs) (λ c κs. search needs) (λ c. search needs) (λ c. search needs) sub_result
+from_end_spec = tie.close (tie.spec (λ c κs. search rules) (λ c κs. search rules) (λ c. search rules) (λ c. search rules) sub_result
     (λ c. to_z-of_z w32 _ (sub_result c)
     ∙ rw (
       to_z_pos w32 c.start-on.result (omega arith),

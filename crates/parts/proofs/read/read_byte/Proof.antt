@@ -5,8 +5,8 @@ use Rattle.parts.proofs.Answers.{answers}
 use Rattle.parts.proofs.read.read_byte.Tie as tie
 
 pub read_byte_spec : {M : Type 1} → Rattle.parts.proofs.read.read_byte.Statement.statement M
-read_byte_spec = tie.close (tie.spec (λ c. search (answers, byte_number-run, c.if1.true, add-zero))
-    (λ c. search (answers, byte_number-run, c.before.if1.false)) (λ c. search answers)
-    (λ c. let d = c.before.before in simp (byte_number-run, d.before.if1.false, le-ltb _ _ d.if2.false, c.if3.true))
-    (λ c. let d = c.before.before in let above = lt-leb (get_or d.before.before.args.rest.now 0 0) 0 (omega (arith, c.if3.false)) in
-    simp (byte_number-run, d.before.if1.false, le-ltb _ _ d.if2.false, above)))
+read_byte_spec = tie.close (tie.spec (λ c. search (answers, byte_number-run, c.if-not-present.true-raw, add-zero))
+    (λ c. search (answers, byte_number-run, c.if-not-present.false-raw)) (λ c. search answers)
+    (λ c. let d = c.before.before in simp (byte_number-run, d.if-not-present.false-raw, le-ltb _ _ d.if-rest-lt1.false, c.if-v-eq0.true))
+    (λ c. let d = c.before.before in let above = lt-leb (get_or d.args.rest.now 0 0) 0 (omega (arith, c.if-v-eq0.false)) in
+    simp (byte_number-run, d.if-not-present.false-raw, le-ltb _ _ d.if-rest-lt1.false, above)))

@@ -12,24 +12,24 @@ read_item_spec = tie.close (tie.spec (λ c. search (answers, item-run)) (λ c. s
     (λ c. omega (
       arith,
       rw length-drop at (run_took _ _ _ (rw (
-        c.before.size.given.1,
+        c.in-Value.is,
         rest_of,
-      ) at c.before.before.before.read-size.ensures)),
+      ) at c.read_size.ensures)),
     ))
-    (λ c. let h = rw (rest_of, c.before.e.given.1) at c.before.before.before.read-size.ensures in
+    (λ c. let h = rw (rest_of, c.in-Refused.is) at c.read_size.ensures in
     simp (
       item-run,
-      le-ltb _ _ c.before.before.before.before.before.before.before.before.if1.false,
-      le-ltb 15 _ c.before.before.before.before.before.before.if2.false,
+      le-ltb _ _ c.if-rest-lt1.false,
+      le-ltb 15 _ c.if-map-gt15.false,
       h,
     ))
-    (λ c. let h = rw (rest_of, c.before.size.given.1) at c.before.before.before.read-size.ensures in
+    (λ c. let h = rw (rest_of, c.in-Value.is) at c.read_size.ensures in
     simp (
       item-run,
-      le-ltb _ _ c.before.before.before.before.before.before.before.before.if1.false,
-      le-ltb 15 _ c.before.before.before.before.before.before.if2.false,
+      le-ltb _ _ c.if-rest-lt1.false,
+      le-ltb 15 _ c.if-map-gt15.false,
       h,
-      ← c.before.before.before.before.before.bit-is-set.ensures,
+      ← c.bit_is_set-may_turn.ensures,
       add_assoc,
       drop-drop,
     )))

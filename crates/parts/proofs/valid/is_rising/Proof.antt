@@ -1,5 +1,5 @@
 -- `parts::valid::is_rising` meets its contract.
-use Rattle.prelude.specs.Names.{lt-ltb, le-ltb, eq-eqb, ne_eqb, needs}
+use Rattle.prelude.specs.Names.{lt-ltb, le-ltb, eq-eqb, ne_eqb, rules}
 use Rattle.parts.specs.Precedences.{above}
 use Rattle.parts.proofs.valid.is_rising.Tie as tie
 
@@ -7,6 +7,6 @@ ruleset tests = (lt-ltb, le-ltb, eq-eqb, ne_eqb)
 
 pub is_rising_spec : {M : Type 1} → Rattle.parts.proofs.valid.is_rising.Statement.statement M
 unfolding above
-is_rising_spec = tie.close (tie.spec (λ c. search needs) (λ c. search needs) (λ c. search (tests, c.before.before.before.before.last.given.1))
-    (λ c. search (tests, c.before.before.before.before.before.before.before.before.before.last.given.1)) (λ c. search needs)
-    (λ c. search (tests, c.before.before.before.before.before.before.before.last.given.1)))
+is_rising_spec = tie.close (tie.spec (λ c. search rules) (λ c. search rules) (λ c. search (tests, c.in-Was.is))
+    (λ c. search (tests, c.in-Was.is)) (λ c. search rules)
+    (λ c. search (tests, c.in-Was.is)))

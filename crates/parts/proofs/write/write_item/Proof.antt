@@ -5,10 +5,10 @@ use Rattle.parts.proofs.Answers.{answers}
 use Rattle.parts.proofs.write.write_item.Tie as tie
 
 pub write_item_spec : {M : Type 1} → Rattle.parts.proofs.write.write_item.Statement.statement M
-write_item_spec = tie.close (tie.spec (λ c κs. search answers) (λ c. omega (arith, item-length c.before.before.before.args.i))
-    (λ c. search answers) (λ c κs. let h = item-length c.before.before.before.before.args.i in simp length-set (omega arith))
-    (λ c. omega (arith, simp length-set at c.before.before.write-size.auto.0))
+write_item_spec = tie.close (tie.spec (λ c κs. search answers) (λ c. omega (arith, item-length c.args.i))
+    (λ c. search answers) (λ c κs. let h = item-length c.args.i in simp length-set (omega arith))
+    (λ c. omega (arith, simp length-set at c.write_size.auto.out))
     (λ c. (
-      omega (arith, item-length c.before.before.before.before.before.before.before.args.i),
-      rw (c.before.before.write-size.ensures.1, c.before.before.before.before.item-flags-of.ensures, item-bytes, add-one),
+      omega (arith, item-length c.args.i),
+      rw (c.write_size.ensures.1, c.item_flags_of.ensures, item-bytes, add-one),
     )))

@@ -6,27 +6,27 @@ use Rattle.parts.proofs.Answers.{answers}
 use Rattle.parts.proofs.write.write_size.Tie as tie
 
 pub write_size_spec : {M : Type 1} → Rattle.parts.proofs.write.write_size.Statement.statement M
-write_size_spec = tie.close (tie.spec (λ c κs. omega (arith, size-length c.before.before.args.size))
+write_size_spec = tie.close (tie.spec (λ c κs. omega (arith, size-length c.args.size))
     (λ c κs. omega (
       arith,
-      size-length c.before.before.before.before.before.before.args.size,
-      c.before.before.before.write-field.auto.0,
+      size-length c.args.size,
+      c.write_field-a.auto.out,
     )) (λ c κs. let b = c.before.before.before.before.before.before.before in omega (
       arith,
-      size-length b.before.before.before.args.size,
-      b.write-field.auto.0,
-      c.before.before.before.write-field2.auto.0,
+      size-length b.args.size,
+      b.write_field-a.auto.out,
+      c.write_field-b.auto.out,
     ))
     (λ c. search answers) (λ c. let b = c.before.before.before.before.before.before in let a = b.before.before.before.before in (
-      omega (arith, size-length a.before.before.before.args.size),
+      omega (arith, size-length a.args.size),
       rw (
-        c.before.before.write-field3.ensures.1,
-        b.write-field2.ensures.1,
-        a.write-field.ensures.1,
-        b.write-field2.ensures.0,
-        a.write-field.ensures.0,
+        c.write_field.ensures.1,
+        b.write_field-b.ensures.1,
+        a.write_field-a.ensures.1,
+        b.write_field-b.ensures.0,
+        a.write_field-a.ensures.0,
         sets_append,
         sets_append,
-        size-bytes a.before.before.before.args.size,
+        size-bytes a.args.size,
       ),
     )))

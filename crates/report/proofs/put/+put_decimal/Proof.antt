@@ -1,5 +1,5 @@
 -- `report::put::put_decimal` meets its contract. Measure of the recursion: the number.
-use Rattle.prelude.specs.Names.{needs, arith, div-lt_self, ◌≡◌, [], ◌∷◌, ℕ, ◌+◌, ◌/◌, ◌%◌, ◌<◌, ◌≤◌, length, length-set, length-append}
+use Rattle.prelude.specs.Names.{rules, arith, div-lt_self, ◌≡◌, [], ◌∷◌, ℕ, ◌+◌, ◌/◌, ◌%◌, ◌<◌, ◌≤◌, length, length-set, length-append}
 use Rattle.formats.proofs.Stores.{sets_append}
 use Rattle.report.specs.Decimal.{decimal}
 use Rattle.report.proofs.Decimals.{decimal_one, decimal-more}
@@ -35,12 +35,12 @@ last_digit t c =
     (rw (e, length-append) (omega (arith, w.0)), rw (e, w.1, w.0) (sets_append (decimal (a.n / 10)) ((48 + a.n % 10) ∷ []) a.out.now a.at))
 
 pub +put_decimal_spec : {M : Type 1} → statement M
-+put_decimal_spec = close μ_put-decimal λ t. lts.spec (below t, put-decimal.Post) (of_size t) put-decimal.Post (λ c. search needs) (λ c. search needs)
++put_decimal_spec = close μ_put-decimal λ t. lts.spec (below t, put-decimal.Post) (of_size t) put-decimal.Post (λ c. search rules) (λ c. search rules)
     (λ c. omega (arith, length_one _ c.if1.true)) (λ c. omega (arith, length_one _ c.if1.true))
     (λ c. simp length-set) (λ c. let e = decimal_one c.before.before.args.n c.if1.true in (rw e, rw e))
     (λ c κs. let a = c.before.before.before.args in
     (omega (arith, div-lt_self {n = a.n} {k = 10} (omega arith) (omega arith)), omega (arith, length_more a.n c.before.if1.false)))
-    (λ c. search needs) (λ c. search needs)
+    (λ c. search rules) (λ c. search rules)
     (λ c. omega (arith, c.before.before.put-decimal.auto.0, length_more _ c.before.before.before.before.if1.false))
     (λ c. omega (arith, length_more _ c.before.before.before.before.if1.false))
     (λ c. simp length-set c.before.before.put-decimal.auto.0) (last_digit t)

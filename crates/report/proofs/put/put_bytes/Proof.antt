@@ -1,5 +1,5 @@
 -- `report::put::put_bytes` meets its contract. Invariant: the first i bytes are put, and nothing else. Measure: the bytes left.
-use Rattle.prelude.specs.Names.{needs, arith, ◌≡◌, refl, ◌∙◌, ◌-◌, ◌≤◌, length, take, length-set, sets}
+use Rattle.prelude.specs.Names.{rules, arith, ◌≡◌, refl, ◌∙◌, ◌-◌, ◌≤◌, length, take, length-set, sets}
 use lib.Seq.{take-length}
 use Rattle.formats.proofs.Stores.{sets-next}
 use Rattle.report.proofs.put.put_bytes.Tie as tie
@@ -17,7 +17,7 @@ loop_again : tie.Need-loop-preserved invariant_loop decreases_loop
 loop_again c =
     let l = c.before.before.loop in
     let a = c.before.before.before.args in
-    (search needs, rw l.invariant.1 (sets-next a.out.now a.bytes.now a.at l.i (omega arith)), simp length-set l.invariant.2)
+    (search rules, rw l.invariant.1 (sets-next a.out.now a.bytes.now a.at l.i (omega arith)), simp length-set l.invariant.2)
 
 returns : tie.Need-returns invariant_loop decreases_loop
 returns c =
@@ -26,5 +26,5 @@ returns c =
     (rw e, l.invariant.1 ∙ rw (e, take-length))
 
 pub put_bytes_spec : {M : Type 1} → Rattle.report.proofs.put.put_bytes.Statement.statement M
-put_bytes_spec = tie.close (tie.spec invariant_loop decreases_loop loop_holds (λ c. search needs) (λ c. omega arith) (λ c. omega arith) (λ c. search needs)
-    (λ c. search needs) loop_again (λ c. omega arith) (λ c. c.before.loop.invariant.2) returns)
+put_bytes_spec = tie.close (tie.spec invariant_loop decreases_loop loop_holds (λ c. search rules) (λ c. omega arith) (λ c. omega arith) (λ c. search rules)
+    (λ c. search rules) loop_again (λ c. omega arith) (λ c. c.before.loop.invariant.2) returns)

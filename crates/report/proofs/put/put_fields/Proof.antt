@@ -1,5 +1,5 @@
 -- `report::put::put_fields` meets its contract. Invariant: the fields from the i-th on, put at k, complete the text. Measure: the fields left.
-use Rattle.prelude.specs.Names.{needs, arith, ◌-◌, length-set}
+use Rattle.prelude.specs.Names.{rules, arith, ◌-◌, length-set}
 use Rattle.report.proofs.Puts.{Putting, putting_none, putting_room, putting_next, putting_done}
 use Rattle.report.proofs.put.put_fields.Tie as tie
 
@@ -19,8 +19,8 @@ returns : tie.Need-returns invariant_loop decreases_loop
 returns c = putting_done c.before.loop.invariant c.loop-test.false
 
 pub put_fields_spec : {M : Type 1} → Rattle.report.proofs.put.put_fields.Statement.statement M
-put_fields_spec = tie.close (tie.spec invariant_loop decreases_loop (λ c. putting_none (search needs)) (λ c. search needs) (λ c. search needs)
-    (λ c κs. let h = c.before.before.loop.invariant in omega (arith, h.same, putting_room h c.before.loop-test.true)) (λ c. search needs)
-    (λ c. search needs) loop_again (λ c. omega (arith, (putting_done c.before.loop.invariant c.loop-test.false).0, c.before.loop.invariant.same))
+put_fields_spec = tie.close (tie.spec invariant_loop decreases_loop (λ c. putting_none (search rules)) (λ c. search rules) (λ c. search rules)
+    (λ c κs. let h = c.before.before.loop.invariant in omega (arith, h.same, putting_room h c.before.loop-test.true)) (λ c. search rules)
+    (λ c. search rules) loop_again (λ c. omega (arith, (putting_done c.before.loop.invariant c.loop-test.false).0, c.before.loop.invariant.same))
     (λ c. omega (arith, (putting_done c.before.loop.invariant c.loop-test.false).0, c.before.loop.invariant.same))
     (λ c. simp length-set c.before.loop.invariant.same) returns)

@@ -1,5 +1,5 @@
 -- `report::put::put_item` meets its contract.
-use Rattle.prelude.specs.Names.{needs, arith, [], ◌∷◌}
+use Rattle.prelude.specs.Names.{rules, arith, [], ◌∷◌}
 use Rattle.report.proofs.Puts.{item_short, line-put}
 use Rattle.report.specs.Decimal.{decimal}
 use Rattle.report.specs.Text.{item_line}
@@ -33,7 +33,7 @@ returns c =
     ((l.0, omega (arith, w.0, f.0)), l.1)
 
 pub put_item_spec : {M : Type 1} → Rattle.report.proofs.put.put_item.Statement.statement M
-put_item_spec = tie.close (tie.spec (λ c κs. omega (arith, decimal_short 0 c.before.before.args.u (omega arith))) (λ c. search needs)
-    (λ c. search needs) (λ c. search needs) put-fields_requires
+put_item_spec = tie.close (tie.spec (λ c κs. omega (arith, decimal_short 0 c.before.before.args.u (omega arith))) (λ c. search rules)
+    (λ c. search rules) (λ c. search rules) put-fields_requires
     (λ c. let f = c.before.before in
     omega (arith, f.put-fields.auto.0, f.before.before.before.before.before.before.before.put-decimal.auto.0)) returns)

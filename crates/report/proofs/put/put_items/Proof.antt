@@ -1,5 +1,5 @@
 -- `report::put::put_items` meets its contract. Invariant: the lines of the first u items are put, and the next goes to k. Measure: the items left.
-use Rattle.prelude.specs.Names.{needs, arith, add-zero, ◌≡◌, refl, sym, ◌+◌, ◌-◌, ◌*◌, ◌≤◌, length, length-append, sets}
+use Rattle.prelude.specs.Names.{rules, arith, add-zero, ◌≡◌, refl, sym, ◌+◌, ◌-◌, ◌*◌, ◌≤◌, length, length-append, sets}
 use Rattle.formats.proofs.Stores.{sets_append}
 use Rattle.report.specs.Text.{item_lines}
 use Rattle.report.proofs.Puts.{items-none, items-next}
@@ -26,7 +26,7 @@ loop_again c =
     let l = round.loop in
     let w = c.before.before.put_item in
     let next = items-next round.before.before.before.before.args.packing l.u in (
-      search needs,
+      search rules,
       rw (next, length-append) (omega (arith, w.ensures.0.0)),
       rw (next, w.ensures.1, l.invariant.1, l.invariant.2, sets_append),
       omega (arith, w.auto.0),
@@ -40,5 +40,5 @@ returns c =
     ((rw (← e) l.invariant.1, omega arith), rw (← e) l.invariant.2)
 
 pub put_items_spec : {M : Type 1} → Rattle.report.proofs.put.put_items.Statement.statement M
-put_items_spec = tie.close (tie.spec invariant_loop decreases_loop loop_holds (λ c. search needs) (λ c. search needs) (λ c. search needs) (λ c κs. (omega arith, omega arith))
-    (λ c. search needs) (λ c. search needs) loop_again (λ c. c.before.loop.invariant.3) returns)
+put_items_spec = tie.close (tie.spec invariant_loop decreases_loop loop_holds (λ c. search rules) (λ c. search rules) (λ c. search rules) (λ c κs. (omega arith, omega arith))
+    (λ c. search rules) (λ c. search rules) loop_again (λ c. c.before.loop.invariant.3) returns)

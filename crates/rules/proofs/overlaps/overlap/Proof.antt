@@ -1,6 +1,6 @@
 -- `rules::overlaps::overlap` meets its contract. Places: at x both other axes are known, at t and t' rule 1 is done on each, at r the rings on one
 -- side; n, n' and n'' say what was removed by then.
-use Rattle.prelude.specs.Names.{needs, not-true, not-false}
+use Rattle.prelude.specs.Names.{rules, not-true, not-false}
 use Rattle.model.specs.Facts.{overlaps}
 use Rattle.model.proofs.Facts.{says_mono}
 use Rattle.model.proofs.Slots.{proper-sym}
@@ -65,7 +65,7 @@ returns_4 c =
     _ _ _ c.ring-side2.result c.ring-side2.ensures
 
 pub overlap_spec : {M : Type 1} → Rattle.rules.proofs.overlaps.overlap.Statement.statement M
-overlap_spec = tie.close (tie.spec (λ c κs. search needs) (λ c κs. rw c.next_axis.ensures (axes_next _ c.before.requires.1.0.axis).axis_b)
+overlap_spec = tie.close (tie.spec (λ c κs. search rules) (λ c κs. rw c.next_axis.ensures (axes_next _ c.before.requires.1.0.axis).axis_b)
     (λ c κs. let x = c.before.before.before in let (g, (s, h)) = x.before.before.requires in
     ((g, axes_of s.axis x.before.next_axis.ensures x.next-axis2.ensures), (s, h)))
     (λ c. rw (not-true c.before.third-axis.result c.if1.true) at c.before.third-axis.ensures) third_axis_requires_2 returns_2

@@ -1,5 +1,5 @@
 -- `rules::overlaps::third_axis` meets its contract.
-use Rattle.prelude.specs.Names.{sym, ◌∙◌, not-true, not-false, needs}
+use Rattle.prelude.specs.Names.{sym, ◌∙◌, not-true, not-false, rules}
 use Rattle.rules.proofs.OnAxes.{third_idle, third_askable, third_worked}
 use Rattle.rules.proofs.overlaps.third_axis.Tie as tie
 
@@ -13,9 +13,9 @@ returns_2 c =
     _ _ _ c.remove.result c.remove.ensures
 
 pub third_axis_spec : {M : Type 1} → Rattle.rules.proofs.overlaps.third_axis.Statement.statement M
-third_axis_spec = tie.close (tie.spec (λ c. search needs) (λ c. search needs) (λ c. search needs) (λ c. search needs)
-    (λ c κs. c.before.requires.0.0.laid.mirror.small _) (λ c κs. search needs)
+third_axis_spec = tie.close (tie.spec (λ c. search rules) (λ c. search rules) (λ c. search rules) (λ c. search rules)
+    (λ c κs. c.before.requires.0.0.laid.mirror.small _) (λ c κs. search rules)
     (λ c. let o = c.before.before in let ((g, x), (s, _)) = o.before.before.requires in
     third_idle x s g o.overlapping.ensures (sym c.before.has.ensures ∙ not-true c.before.has.result c.if1.true))
-    (λ c κs. search needs) (λ c κs. let o = c.before.before.before.before.before.before in let ((g, x), (s, _)) = o.before.before.requires in
+    (λ c κs. search rules) (λ c κs. let o = c.before.before.before.before.before.before in let ((g, x), (s, _)) = o.before.before.requires in
     (g, third_askable x s g o.overlapping.ensures c.bit.ensures.0 c.bit.ensures.1)) returns_2)

@@ -1,5 +1,5 @@
 -- `rules::paths::beyond` meets its contract.
-use Rattle.prelude.specs.Names.{◌&&◌, ⊎_elim, sym, ◌∙◌, ◌+◌, arith, or_zero_r, needs}
+use Rattle.prelude.specs.Names.{◌&&◌, ⊎_elim, sym, ◌∙◌, ◌+◌, arith, or_zero_r, rules}
 use Rattle.domains.specs.Bits.{bit_at}
 use Rattle.rules.proofs.Triangles.{Only, only_none, only_shift, reached_known, reached-none, reached-left}
 use Rattle.rules.proofs.paths.beyond.Tie as tie
@@ -27,15 +27,15 @@ returns_5 c =
     (only_none 2 (sym c.before.has5.ensures ∙ c.if5.false)))
 
 pub beyond_spec : {M : Type 1} → Rattle.rules.proofs.paths.beyond.Statement.statement M
-beyond_spec = tie.close (tie.spec (λ c κs. search needs) (λ c. search needs) (λ c κs. search needs) (λ c κs. search needs)
+beyond_spec = tie.close (tie.spec (λ c κs. search rules) (λ c. search rules) (λ c κs. search rules) (λ c κs. search rules)
     (λ c. let h = c.before.before.before.before in
     reached_known h.before.requires (sym h.has.ensures ∙ c.before.before.before.if1.true) 2 (omega arith)
-    (sym c.before.before.has2.ensures ∙ c.before.if2.true) c.following.ensures) (λ c. search needs) (λ c κs. search needs)
-    (λ c κs. search needs) (λ c. let h = c.before.before.before.before.before.before in
+    (sym c.before.before.has2.ensures ∙ c.before.if2.true) c.following.ensures) (λ c. search rules) (λ c κs. search rules)
+    (λ c κs. search rules) (λ c. let h = c.before.before.before.before.before.before in
     reached_known h.before.requires (sym h.has.ensures ∙ c.before.before.before.before.before.if1.true) 1 (omega arith)
     (sym c.before.before.has3.ensures ∙ c.before.if3.true) c.leading.ensures)
     (λ c. let h = c.before.before.before.before.before in
     reached-none h.before.requires (sym h.has.ensures ∙ c.before.before.before.before.if1.true)
     (sym c.before.has3.ensures ∙ c.if3.false) (sym c.before.before.before.has2.ensures ∙ c.before.before.if2.false))
-    (λ c. search needs) (λ c κs. search needs) (λ c κs. search needs) (λ c. search needs) (λ c κs. search needs) (λ c κs. search needs) returns_4
+    (λ c. search rules) (λ c κs. search rules) (λ c κs. search rules) (λ c. search rules) (λ c κs. search rules) (λ c κs. search rules) returns_4
     returns_5)

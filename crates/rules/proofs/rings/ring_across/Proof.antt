@@ -1,6 +1,6 @@
 -- `rules::rings::ring_across` meets its contract. Invariant: of the items known to overlap both q and s some are left, and what the rings
 -- of the others ask for is done. Measure: the items left, as a number.
-use Rattle.prelude.specs.Names.{true, false, arith, needs, not-true, not-false}
+use Rattle.prelude.specs.Names.{true, false, arith, rules, not-true, not-false}
 use Rattle.domains.specs.Rows.{Mirror}
 use Rattle.domains.proofs.BitLaws.{and_small}
 use Rattle.domains.proofs.Narrowed.{narrowed_none}
@@ -33,13 +33,13 @@ loop_again c =
     (m, f, x, rings_one x d n.lowest.ensures c.before.before.before.before.before.before.rest.ensures near _ _ _ true kept)
 
 pub ring_across_spec : {M : Type 1} → Rattle.rules.proofs.rings.ring_across.Statement.statement M
-ring_across_spec = tie.close (tie.spec invariant_loop decreases_loop (λ c. search needs) (λ c. search needs) (λ c. search needs) (λ c. search needs)
-    (λ c. search needs) (λ c. search needs) (λ c. search needs) (λ c. search needs)
+ring_across_spec = tie.close (tie.spec invariant_loop decreases_loop (λ c. search rules) (λ c. search rules) (λ c. search rules) (λ c. search rules)
+    (λ c. search rules) (λ c. search rules) (λ c. search rules) (λ c. search rules)
     (λ c κs. and_small 30 _ _ (c.before.before.requires.0.laid.mirror.small _))
     (λ c. let (g, p, across) = c.before.before.before.requires in let f = c.overlapping.ensures in
     (g.laid.mirror, f, diagonal_corners g p across f, narrowed_none g (through_none f.small)))
     (λ c κs. (omega (arith, c.before.loop.invariant.3.done.small), c.loop-test.true))
-    (λ c κs. (omega (arith, c.before.before.loop.invariant.3.done.small), c.before.loop-test.true)) (λ c κs. search needs)
+    (λ c κs. (omega (arith, c.before.before.loop.invariant.3.done.small), c.before.loop-test.true)) (λ c κs. search rules)
     (λ c κs. let n = c.before.before.before.before.before in let (m, f, x, d) = n.before.before.loop.invariant in
     keepable x d n.lowest.ensures (neighbours_then x d n.lowest.ensures m f c.bit.ensures.0)) returns
     (λ c. c.before.before.before.before.before.before.rest.ensures.less) loop_again

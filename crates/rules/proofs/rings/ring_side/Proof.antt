@@ -1,6 +1,6 @@
 -- `rules::rings::ring_side` meets its contract. Invariant: of the items that make a ring with q and r some are left, and what the rings of
 -- the others ask for is done. Measure: the items left, as a number.
-use Rattle.prelude.specs.Names.{true, false, arith, needs, not-true, not-false}
+use Rattle.prelude.specs.Names.{true, false, arith, rules, not-true, not-false}
 use Rattle.domains.proofs.BitLaws.{and_small}
 use Rattle.domains.proofs.Narrowed.{narrowed_none}
 use Rattle.domains.proofs.Through.{through_none}
@@ -33,14 +33,14 @@ loop_again c =
     (x, rings_one x d n.lowest.ensures b.before.before.before.before.rest.ensures near _ _ _ true kept)
 
 pub ring_side_spec : {M : Type 1} → Rattle.rules.proofs.rings.ring_side.Statement.statement M
-ring_side_spec = tie.close (tie.spec invariant_loop decreases_loop (λ c. search needs) (λ c. search needs) (λ c. search needs) (λ c. search needs)
-    (λ c κs. c.before.requires.0.laid.mirror.small _) (λ c. search needs) (λ c. search needs) (λ c. search needs) (λ c. search needs)
+ring_side_spec = tie.close (tie.spec invariant_loop decreases_loop (λ c. search rules) (λ c. search rules) (λ c. search rules) (λ c. search rules)
+    (λ c κs. c.before.requires.0.laid.mirror.small _) (λ c. search rules) (λ c. search rules) (λ c. search rules) (λ c. search rules)
     (λ c. let (g, p, qr) = c.before.before.before.requires in let x = side_corners g p qr c.before.overlapping.ensures in
     (x, narrowed_none g (through_none x.small))) (λ c κs. (omega (arith, c.before.loop.invariant.1.done.small), c.loop-test.true))
-    (λ c κs. (omega (arith, c.before.before.loop.invariant.1.done.small), c.before.loop-test.true)) (λ c. search needs) (λ c. search needs)
-    (λ c. search needs) (λ c. search needs) (λ c. search needs) (λ c. search needs) (λ c. search needs)
+    (λ c κs. (omega (arith, c.before.before.loop.invariant.1.done.small), c.before.loop-test.true)) (λ c. search rules) (λ c. search rules)
+    (λ c. search rules) (λ c. search rules) (λ c. search rules) (λ c. search rules) (λ c. search rules)
     (λ c. let n = c.before.before in let (x, d) = n.before.before.loop.invariant in omega (arith, corner_left x d n.lowest.ensures))
-    (λ c κs. and_small 30 _ _ (c.before.before.before.before.before.loop.invariant.1.grown.good.laid.mirror.small _)) (λ c κs. search needs)
+    (λ c κs. and_small 30 _ _ (c.before.before.before.before.before.loop.invariant.1.grown.good.laid.mirror.small _)) (λ c κs. search rules)
     (λ c κs. let b = c.before.before.before in let n = b.before.before.before.before.before in
     let (x, d) = n.before.before.loop.invariant in keepable x d n.lowest.ensures
     (neighbours_now x d n.lowest.ensures b.before.overlapping2.ensures b.bit.ensures.0)) returns

@@ -1,11 +1,11 @@
 -- `search::choices::goes_on` meets its contract.
-use Rattle.prelude.specs.Names.{◌≡◌, ℕ, arith, ap, sym, ◌∙◌, needs}
+use Rattle.prelude.specs.Names.{◌≡◌, ℕ, arith, ap, sym, ◌∙◌, rules}
 use Rattle.tree_search.specs.declared.outcome.Outcome.{Outcome}
 use Rattle.search.proofs.Series.{kind}
 use Rattle.search.proofs.choices.goes_on.Tie as tie
 
 pub goes_on_spec : {M : Type 1} → Rattle.search.proofs.choices.goes_on.Statement.statement M
-goes_on_spec = tie.close (tie.spec (λ c. search needs) (λ c. search needs) (λ c. search needs) (λ c. search needs) (λ c. search needs)
-    (λ c. λ o. absurd (omega (arith, ap kind o, ap kind c.enum_told.given.1))) (λ c. search needs)
+goes_on_spec = tie.close (tie.spec (λ c. search rules) (λ c. search rules) (λ c. search rules) (λ c. search rules) (λ c. search rules)
+    (λ c. λ o. absurd (omega (arith, ap kind o, ap kind c.enum_told.given.1))) (λ c. search rules)
     (λ c. λ o. absurd (omega (arith, ap kind o, ap kind c.enum-told3.given.1)))
     (λ c. λ o. absurd (omega (arith, ap kind o, ap kind c.enum-told4.given.1))))

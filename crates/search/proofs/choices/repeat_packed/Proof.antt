@@ -1,5 +1,5 @@
 -- `search::choices::repeat_packed` meets its contract.
-use Rattle.prelude.specs.Names.{◌≡◌, refl, ap, ◌∙◌, ℕ, ◌≤◌, arith, length, needs}
+use Rattle.prelude.specs.Names.{◌≡◌, refl, ap, ◌∙◌, ℕ, ◌≤◌, arith, length, rules}
 use Rattle.model.specs.Problem.{Problem}
 use Rattle.model.specs.Turning.{choice_problem}
 use Rattle.instance.proofs.Arrays.{length_mapped}
@@ -28,7 +28,7 @@ again_within c =
     steps-within (choice_problem (turnable_of a.instance) a.checkpoint.choice) 0 (S.packed_at (value_path a.checkpoint)) (again c 0)
 
 pub repeat_packed_spec : {M : Type 1} → Rattle.search.proofs.choices.repeat_packed.Statement.statement M
-repeat_packed_spec = tie.close (tie.spec (λ c κs. (valid-says _ c.before.requires.0).items-few) (λ c κs. search needs)
+repeat_packed_spec = tie.close (tie.spec (λ c κs. (valid-says _ c.before.requires.0).items-few) (λ c κs. search rules)
     (λ c κs. let s = c.before.before.before in
     ((choice-instance s.args.instance (long s) s.requires.0 s.args.checkpoint.choice c.before.marks_of.ensures c.turned.ensures).1, s.requires.1))
     (λ c κs. ((valid-says _ c.before.before.before.before.requires.0).items-few, omega (arith, again_within c)))

@@ -1,6 +1,6 @@
 -- `search::choices::run` meets its contract. Invariant: the whole call is the one that is left, from the choice and its path, after the steps so far.
 -- Measure: the choices left.
-use Rattle.prelude.specs.Names.{◌≡◌, refl, sym, ap, ◌∙◌, subst, List, ℕ, suc, ◌+◌, ◌-◌, ◌≤◌, ◌<◌, add-one, sub-zero, arith, needs, not-true, not-false}
+use Rattle.prelude.specs.Names.{◌≡◌, refl, sym, ap, ◌∙◌, subst, List, ℕ, suc, ◌+◌, ◌-◌, ◌≤◌, ◌<◌, add-one, sub-zero, arith, rules, not-true, not-false}
 use Rattle.model.specs.Series.{stage}
 use Rattle.model.specs.Turning.{Turnable, choice_problem, last_choice}
 use Rattle.instance.proofs.Sheets.{valid-says}
@@ -97,7 +97,7 @@ loop_again c =
 
 pub run_spec : {M : Type 1} → Rattle.search.proofs.choices.run.Statement.statement M
 run_spec = tie.close (tie.spec invariant_loop decreases_loop (λ c κs. (valid-says _ c.requires.0).items-few) loop_holds
-    (λ c κs. (c.before.before.before.requires.0, c.loop.invariant.bits)) (λ c κs. search needs) (λ c. c.before.before.before.loop.invariant.afford)
+    (λ c κs. (c.before.before.before.requires.0, c.loop.invariant.bits)) (λ c κs. search rules) (λ c. c.before.before.before.loop.invariant.afford)
     (λ c κs. let t = c.before.before in let l = t.before in
     ((valid-says _ l.before.before.before.requires.0).items-few, omega (arith, taken-within t, l.loop.invariant.afford))) returns
     (λ c. taken-within c.before.before.before) (λ c. omega (

@@ -1,5 +1,5 @@
 -- `search::choices::try_choice` meets its contract: the instance with the choice's items turned is the choice's problem.
-use Rattle.prelude.specs.Names.{◌≡◌, ap, ◌∙◌, ℕ, length, needs}
+use Rattle.prelude.specs.Names.{◌≡◌, ap, ◌∙◌, ℕ, length, rules}
 use Rattle.model.specs.Problem.{Problem}
 use Rattle.instance.proofs.Arrays.{length_mapped}
 use Rattle.instance.proofs.Sheets.{valid-says}
@@ -17,7 +17,7 @@ long : (c : tie.Start) → length c.args.instance.items ≡ 10
 long c = search length_mapped
 
 pub try_choice_spec : {M : Type 1} → Rattle.search.proofs.choices.try_choice.Statement.statement M
-try_choice_spec = tie.close (tie.spec (λ c κs. (valid-says _ c.requires.0).items-few) (λ c κs. search needs)
+try_choice_spec = tie.close (tie.spec (λ c κs. (valid-says _ c.requires.0).items-few) (λ c κs. search rules)
     (λ c κs. let s = c.before.before in
     ((choice-instance s.args.instance (long s) s.requires.0 s.args.choice c.before.marks_of.ensures c.turned.ensures).1, s.requires.1))
     (λ c. let t = c.before in let s = t.before.before in

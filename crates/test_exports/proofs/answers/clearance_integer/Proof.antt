@@ -1,5 +1,5 @@
 -- `test_exports::answers::clearance_integer` meets its contract: the number that the answer holds, or 0.
-use Rattle.prelude.specs.Names.{ap, sym, ◌∙◌, needs}
+use Rattle.prelude.specs.Names.{ap, sym, ◌∙◌, rules}
 use mir.Syntax.{w32}
 use mir.ValLaws.{to_z-of_z}
 use Rattle.packing.specs.Clearance.{clearance_values}
@@ -13,4 +13,4 @@ returns_2 : tie.Need-returns-2
 returns_2 c = ap (λ a. clearance_in (clearance_values a)) (sym c.enum_told.given.1)
 
 pub clearance_integer_spec : {M : Type 1} → Rattle.test_exports.proofs.answers.clearance_integer.Statement.statement M
-clearance_integer_spec = tie.close (tie.spec (λ c. search needs) (λ c. search needs) returns returns_2)
+clearance_integer_spec = tie.close (tie.spec (λ c. search rules) (λ c. search rules) returns returns_2)

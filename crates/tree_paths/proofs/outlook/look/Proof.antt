@@ -1,5 +1,5 @@
 -- `tree_paths::outlook::look` meets its contract.
-use Rattle.prelude.specs.Names.{List, needs, not-true, not-false}
+use Rattle.prelude.specs.Names.{List, rules, not-true, not-false}
 use Rattle.model.specs.Branching.{Branch}
 use Rattle.model.specs.Problem.{Problem}
 use Rattle.model.specs.Wide.{wide}
@@ -39,7 +39,7 @@ returns_3 c =
     (b.before.before.before.propagate.ensures.0, λ p path l. rw c.before.place.given.1 at (shown b p path l))
 
 pub look_spec : {M : Type 1} → Rattle.tree_paths.proofs.outlook.look.Statement.statement M
-look_spec = tie.close (tie.spec (λ c κs. search needs) returns
+look_spec = tie.close (tie.spec (λ c κs. search rules) returns
     (λ c κs. let (limited, known) = c.before.before.before.before.before.before.before.requires in let e = c.before.before.propagate in
     let h = rw (not-false e.result c.before.if1.false) at (e.ensures.1 known.0 known.1) in
-    (h.rested.laid.well_formed, limited)) (λ c. search needs) (λ c. search needs) returns_2 returns_3)
+    (h.rested.laid.well_formed, limited)) (λ c. search rules) (λ c. search rules) returns_2 returns_3)

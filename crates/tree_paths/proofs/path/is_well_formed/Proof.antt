@@ -1,5 +1,5 @@
 -- `tree_paths::path::is_well_formed` meets its contract.
-use Rattle.prelude.specs.Names.{needs, le-leb, lt-leb, not-true, not-false}
+use Rattle.prelude.specs.Names.{rules, le-leb, lt-leb, not-true, not-false}
 use Rattle.tree_paths.specs.Checkpoints.{well_formed}
 use Rattle.tree_paths.proofs.path.is_well_formed.Tie as tie
 
@@ -19,4 +19,4 @@ returns_3 c =
 
 pub is_well_formed_spec : {M : Type 1} → Rattle.tree_paths.proofs.path.is_well_formed.Statement.statement M
 unfolding well_formed
-is_well_formed_spec = tie.close (tie.spec (λ c. simp (lt-leb _ _ c.if1.true)) (λ c κs. search needs) returns_2 (λ c κs. search needs) returns_3)
+is_well_formed_spec = tie.close (tie.spec (λ c. simp (lt-leb _ _ c.if1.true)) (λ c κs. search rules) returns_2 (λ c κs. search rules) returns_3)

@@ -1,5 +1,5 @@
 -- `writer::counted::flag_of_lags` meets its contract.
-use Rattle.prelude.specs.Names.{needs, arith, ◌≡◌, cond, map, length, take}
+use Rattle.prelude.specs.Names.{rules, arith, ◌≡◌, cond, map, length, take}
 use Rattle.formats.specs.Fields.{flag}
 use Rattle.parts.specs.Precedences.{lag_of}
 use Rattle.parts.specs.Parts.{lag_list}
@@ -15,5 +15,5 @@ by_lags c =
     rw c.no-lags.ensures (lags-flag a.m a.precedences (omega (arith, c.before.requires)))
 
 pub flag_of_lags_spec : {M : Type 1} → Rattle.writer.proofs.counted.flag_of_lags.Statement.statement M
-flag_of_lags_spec = tie.close (tie.spec (λ c κs. search needs) (λ c. rw (by_lags c.before, c.if1.true) (omega arith))
+flag_of_lags_spec = tie.close (tie.spec (λ c κs. search rules) (λ c. rw (by_lags c.before, c.if1.true) (omega arith))
     (λ c. rw (by_lags c.before, c.if1.false) (omega arith)))

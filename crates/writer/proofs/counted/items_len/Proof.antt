@@ -1,6 +1,6 @@
 -- `writer::counted::items_len` meets its contract. Invariant: the sum is the length of the count and the first i items, of at
 -- most 7 bytes each. Measure: the items left.
-use Rattle.prelude.specs.Names.{arith, ◌+◌, ◌-◌, ◌*◌, ◌≤◌, ◌≡◌, length, take, length-append, needs}
+use Rattle.prelude.specs.Names.{arith, ◌+◌, ◌-◌, ◌*◌, ◌≤◌, ◌≡◌, length, take, length-append, rules}
 use Rattle.formats.specs.Formats.{row_bytes}
 use Rattle.formats.proofs.Stores.{row-none, row_next}
 use Rattle.parts.specs.Parts.{count_bytes, item}
@@ -14,9 +14,9 @@ abbrev decreases_loop : tie.decreases_loop
 decreases_loop n items sum₀ i₀ sum i = n - i
 
 pub items_len_spec : {M : Type 1} → Rattle.writer.proofs.counted.items_len.Statement.statement M
-items_len_spec = tie.close (tie.spec invariant_loop decreases_loop (λ c κs. search needs) (λ c. rw (row-none item.bytes) (omega arith)) (λ c. search needs)
-    (λ c. search needs) (λ c κs. search needs) (λ c. omega arith) (λ c. omega arith) (λ c. omega arith)
+items_len_spec = tie.close (tie.spec invariant_loop decreases_loop (λ c κs. search rules) (λ c. rw (row-none item.bytes) (omega arith)) (λ c. search rules)
+    (λ c. search rules) (λ c κs. search rules) (λ c. omega arith) (λ c. omega arith) (λ c. omega arith)
     (λ c. let l = c.before.before.before.loop in let a = c.before.before.before.before.before.args in
-    let h : length a.t1 ≡ 10 = search needs in rw (row_next item.bytes a.t1 l.i no_item (omega arith), length-append) (omega arith))
+    let h : length a.t1 ≡ 10 = search rules in rw (row_next item.bytes a.t1 l.i no_item (omega arith), length-append) (omega arith))
     (λ c. let e : c.before.loop.i ≡ c.before.before.before.args.n = omega arith in
     rw length-append (omega (arith, rw e at c.before.loop.invariant.1))))

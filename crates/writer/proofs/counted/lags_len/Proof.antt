@@ -1,5 +1,5 @@
 -- `writer::counted::lags_len` meets its contract.
-use Rattle.prelude.specs.Names.{needs, arith, ◌≡◌, ◌≤◌, cond, [], map, length, take}
+use Rattle.prelude.specs.Names.{rules, arith, ◌≡◌, ◌≤◌, cond, [], map, length, take}
 use Rattle.parts.specs.Precedences.{lag_of}
 use Rattle.instance.proofs.Arrays.{length_mapped}
 use Rattle.writer.specs.Lists.{lags_bytes}
@@ -15,5 +15,5 @@ by_lags c =
     (rw c.no-lags.ensures (lags_are a.m a.precedences l), lags-counted a.m a.precedences l)
 
 pub lags_len_spec : {M : Type 1} → Rattle.writer.proofs.counted.lags_len.Statement.statement M
-lags_len_spec = tie.close (tie.spec (λ c κs. search needs) (λ c. rw ((by_lags c.before).0, c.if1.true) (omega arith))
+lags_len_spec = tie.close (tie.spec (λ c κs. search rules) (λ c. rw ((by_lags c.before).0, c.if1.true) (omega arith))
     (λ c. let (e, n) = by_lags c.before in rw (e, c.if1.false) (omega (arith, n, c.before.before.requires))))

@@ -1,6 +1,6 @@
 -- `writer::counted::no_lags` meets its contract. Invariant: the lags of the first m precedences are all 0 exactly where those from i on are. Measure: the
 -- precedences left.
-use Rattle.prelude.specs.Names.{needs, arith, ◌&&◌, map, eqb, ◌+◌, ◌-◌, ◌≤◌, ◌≡◌, refl, ◌∙◌, length, get_or, take, drop, eq-eqb, ne_eqb}
+use Rattle.prelude.specs.Names.{rules, arith, ◌&&◌, map, eqb, ◌+◌, ◌-◌, ◌≤◌, ◌≡◌, refl, ◌∙◌, length, get_or, take, drop, eq-eqb, ne_eqb}
 use Rattle.formats.proofs.Entries.{part_next, part_done}
 use Rattle.parts.specs.Precedences.{lag_of}
 use Rattle.parts.specs.Parts.{lags_zero}
@@ -20,13 +20,13 @@ next-tested : (c : tie.In-loop invariant_loop decreases_loop) →
     ≡ (eqb (get_or a.t1 l.loop.i no_precedence).lag 0 && lags_zero (map lag_of (drop (l.loop.i + 1) (take a.m a.t1))))
 unfolding lags_zero
 next-tested c =
-    let l = c.before in let a = l.before.args in let h : length a.t1 ≡ 90 = search needs in
+    let l = c.before in let a = l.before.args in let h : length a.t1 ≡ 90 = search rules in
     l.loop.invariant.1 ∙ rw (part_next a.m l.loop.i a.t1 (omega arith) no_precedence (omega arith))
 
 pub no_lags_spec : {M : Type 1} → Rattle.writer.proofs.counted.no_lags.Statement.statement M
 unfolding lags_zero
-no_lags_spec = tie.close (tie.spec invariant_loop decreases_loop (λ c. (omega arith, refl)) (λ c. search needs) (λ c. search needs)
-    (λ c. rw (next-tested c.before.before.before, ne_eqb _ _ c.if1.true)) (λ c. search needs) (λ c. search needs)
+no_lags_spec = tie.close (tie.spec invariant_loop decreases_loop (λ c. (omega arith, refl)) (λ c. search rules) (λ c. search rules)
+    (λ c. rw (next-tested c.before.before.before, ne_eqb _ _ c.if1.true)) (λ c. search rules) (λ c. search rules)
     (λ c. (omega arith, rw (next-tested c.before.before.before, eq-eqb _ _ c.if1.false)))
-    (λ c. let d = c.before in let a = d.before.args in let h : length a.t1 ≡ 90 = search needs in
+    (λ c. let d = c.before in let a = d.before.args in let h : length a.t1 ≡ 90 = search rules in
     rw (d.loop.invariant.1, part_done a.m d.loop.i a.t1 (omega arith) (omega arith))))

@@ -1,5 +1,5 @@
 -- `writer::counted::write_items` meets its contract. Invariant: after the count the first i items are written. Measure: the items left.
-use Rattle.prelude.specs.Names.{arith, ◌≡◌, ◌∙◌, ◌-◌, length, length-append, needs}
+use Rattle.prelude.specs.Names.{arith, ◌≡◌, ◌∙◌, ◌-◌, length, length-append, rules}
 use Rattle.parts.specs.Parts.{item}
 use Rattle.parts.specs.Sizes.{no_item}
 use Rattle.writer.proofs.Rows.{Row, row-start, row_fits, row_more, row_written}
@@ -14,9 +14,9 @@ decreases_loop out₀ at n items k₀ i₀ out k i = n - i
 pub write_items_spec : {M : Type 1} → Rattle.writer.proofs.counted.write_items.Statement.statement M
 write_items_spec = tie.close (tie.spec invariant_loop decreases_loop
     (λ c κs. omega (arith, c.before.before.requires.0, rw length-append at c.before.before.requires.1))
-    (λ c. let s = c.before.before.before.before.before in let h : length s.args.t3 ≡ 10 = search needs in
-    row-start _ _ _ _ _ (omega (arith, s.requires.0)) (omega (arith, rw length-append at s.requires.1))) (λ c. search needs) (λ c. search needs)
-    (λ c κs. row_fits c.before.before.before.loop.invariant no_item (search)) (λ c. search needs) (λ c. search needs)
+    (λ c. let s = c.before.before.before.before.before in let h : length s.args.t3 ≡ 10 = search rules in
+    row-start _ _ _ _ _ (omega (arith, s.requires.0)) (omega (arith, rw length-append at s.requires.1))) (λ c. search rules) (λ c. search rules)
+    (λ c κs. row_fits c.before.before.before.loop.invariant no_item (search)) (λ c. search rules) (λ c. search rules)
     (λ c. let w = c.before.before.write-item in
     row_more c.before.before.before.before.before.before.loop.invariant no_item c.before.before.before.before.before.loop-test.true
     w.ensures.0 w.ensures.1 w.auto.0) (λ c. c.before.loop.invariant.same ∙ c.before.before.before.before.write_byte.auto.0)
