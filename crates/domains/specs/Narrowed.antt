@@ -1,6 +1,6 @@
 -- What every function that removes relations promises: only what was asked for is gone, and this is done. One record for all of them.
 use Rattle.prelude.specs.Names.{Bool, true, false, List, ◌⊎◌, ◌≢◌, ◌≡◌, ℕ, ◌+◌, ◌*◌, ◌^◌, ◌≤◌, ◌<◌, get_or}
-use Rattle.std.specs.Borrow.{Bor}
+use Rattle.std.specs.Borrow.{MutBor}
 use denote.Triple.Both.{Both}
 use Rattle.model.specs.Domains.{Domains}
 use Rattle.model.specs.Order.{Proper, ◌⊑◌}
@@ -46,7 +46,7 @@ RemovedIf D = NarrowedIf (FilledWith D) D
 
 -- For contracts: an array that a function is lent, at its entry and at its exit; then the above of its domains, rows and queue, from entry to exit
 abbrev pub LentArray : Type 0
-LentArray = Both (Bor (List ℕ)) (Bor (List ℕ))
+LentArray = Both (MutBor (List ℕ)) (MutBor (List ℕ))
 
 abbrev pub NarrowsIf : (Domains → Type 0) → (Domains → Type 0) → LentArray → LentArray → LentArray → Bool → Type 0
 NarrowsIf G D k rows queue = NarrowedIf G D k.entry.now queue.entry.now k.exit.now rows.exit.now queue.exit.now

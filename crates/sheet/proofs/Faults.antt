@@ -126,7 +126,7 @@ module _ (s : List ℕ) where
       → Spans s (fields_reading (rest (size_at s m)) (byte_at s m) 8) (m + 1 + measures_length (byte_at s m)) x stop W
       → Spans s (fields_reading (measures size rest) (byte_at s m) 1) (m + 1) x stop (λ e. MeasureFault m e ⊎ W e)
   unfolding measures fields_reading measures_length
-  spans_measures size rest m σ =
+  spans_measures size rest m {W = W} σ =
       let a = two_if (is_set (byte_at s m) 1) in
       let b = two_if (is_set (byte_at s m) 2) in
       spans_as s
@@ -141,7 +141,9 @@ module _ (s : List ℕ) where
           | inr (inr (inr w)) ↦ inr w
         ],
         elim [
-          | inl (p, i, w) ↦ (elim i as (λ p i. Misfit p e → _)
+          | inl (p, i, w) ↦ (elim i as (λ p i. Misfit p e → ((is_set (byte_at s m) 1 ≡ true) × Misfit (m + 1) e)
+                ⊎ (((is_set (byte_at s m) 2 ≡ true) × Misfit (m + 1 + a) e)
+                ⊎ (((is_set (byte_at s m) 4 ≡ true) × Misfit (m + 1 + a + b) e) ⊎ W e)))
               [ width t ↦ λ w. inl (t, w) | depth t ↦ λ w. inr (inl (t, w)) | shifts t ↦ λ w. inr (inr (inl (t, w))) ]) w
           | inr w ↦ inr (inr (inr w))
         ],

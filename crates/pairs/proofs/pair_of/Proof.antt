@@ -15,14 +15,14 @@ unfolding pair_number
 loop_holds c = omega arith
 
 add_v : tie.Need-overflow_add-v invariant_loop decreases_loop
-add_v c = omega (arith, first-least c.loop-v-v.v)
+add_v c = omega (arith, first-least c.loop-v.v)
 
 loop_again : tie.Need-loop-v-preserved invariant_loop decreases_loop
-loop_again c = let v = c.loop-v-v.v in (omega arith, rw (add-one v) (omega (arith, first_next v)))
+loop_again c = let v = c.loop-v.v in (omega arith, rw (add-one v) (omega (arith, first_next v)))
 
 returns : tie.Need-returns invariant_loop decreases_loop
 returns c =
-    let l = c.loop-v-v in
+    let l = c.loop-v in
     sym (pair-at-number l.u l.v (omega arith)) ∙ ap pair_of (omega (arith, number_split l.u l.v))
 
 pub pair_of_spec : {M : Type 1} → Rattle.pairs.proofs.pair_of.Statement.statement M

@@ -7,10 +7,10 @@ use Rattle.domains.proofs.access.index.Tie as tie
 returns : tie.Need-returns
 unfolding index
 returns c =
-    let e = ap (λ (n : ℕ). n * 3 + c.before.args.a) c.pair_number.ensures in
-    (e, omega (arith, index-small c.before.requires))
+    let e = ap (λ (n : ℕ). n * 3 + c.args.a) c.pair_number.ensures in
+    (e, omega (arith, index-small c.requires))
 
 pub index_spec : {M : Type 1} → Rattle.domains.proofs.access.index.Statement.statement M
 unfolding index
-index_spec = tie.close (tie.spec (λ c κs. search rules) (λ c. omega (arith, index-small c.before.requires))
-    (λ c. omega (arith, index-small c.before.requires)) returns)
+index_spec = tie.close (tie.spec (λ c κs. search rules) (λ c. omega (arith, index-small c.requires))
+    (λ c. omega (arith, index-small c.requires)) returns)

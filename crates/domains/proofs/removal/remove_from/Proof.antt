@@ -5,6 +5,6 @@ use Rattle.domains.proofs.removal.remove_from.Tie as tie
 
 pub remove_from_spec : {M : Type 1} → Rattle.domains.proofs.removal.remove_from.Statement.statement M
 remove_from_spec = tie.close (tie.spec (λ c κs. search rules)
-    (λ c. unfold without in rw c.before.before.if1.true c.remove_overlap.ensures) (λ c κs. search rules)
-    (λ c. unfold without in rw c.before.before.if2.true c.remove_before.ensures) (λ c κs. search rules)
-    (λ c. unfold without in let e : c.before.before.before.before.args.x ≡ 2 = omega arith in rw e c.remove-before2.ensures))
+    (λ c. unfold without in rw c.if-x-eq0.true c.remove_overlap.ensures) (λ c κs. search rules)
+    (λ c. unfold without in rw c.if-x-eq1.true c.remove_before.ensures) (λ c κs. search rules)
+    (λ c. unfold without in let e : c.args.x ≡ 2 = omega arith in rw e c.remove_before-2.ensures))
