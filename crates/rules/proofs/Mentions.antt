@@ -137,3 +137,8 @@ mentioning_handled k j {a} {u} {v} s paths across overlapping ps c (rule, m) h =
         overlap_converse j b t r
         (side k j b q t s r (three_converse y) (three_converse x) (proper-sym z) (ring_flipped k b q r s t h) (done-converse k j b t q (at n)))
     go (g1 b q r s t x y z) (inr (inr (inr (inr (inl n))))) h = diagonal k j b q r s t x y z h (at n)
+    go (c3 b d e s t x p) (inr (inr n)) h = elim n [ ]
+    go (d2 x b s t w o i) (inr (inr n)) h = elim n [ ]
+    go (d1_far x b s t w o i) (inr (inr n)) h = elim n [ ]
+    go (d1_near x b s t w o i) (inr (inr n)) h = elim n [ ]
+    go (g1 b q r s t x y z) (inr (inr (inr (inr (inr n))))) h = elim n [ ]

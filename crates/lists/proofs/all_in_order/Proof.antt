@@ -8,11 +8,11 @@ use Rattle.parts.specs.Precedences.{Arc, arc_of, unlagged, all_allowed, rises}
 use Rattle.parts.specs.declared.Precedence.{Precedence}
 use Rattle.lists.proofs.all_in_order.Tie as tie
 
-abbrev invariant_loop : tie.invariant_loop
+abbrev invariant_loop : tie.invariant-loop-i
 invariant_loop m n precedences last₀ i₀ last i =
     (i ≤ m) × (all_allowed n Nothing (map arc_of (take m precedences)) ≡ all_allowed n last (map arc_of (drop i (take m precedences))))
 
-abbrev decreases_loop : tie.decreases_loop
+abbrev decreases_loop : tie.decreases-loop-i
 decreases_loop m n precedences last₀ i₀ last i = m - i
 
 -- of the order before one its lag is not looked at
@@ -22,27 +22,27 @@ lag_unseen n o [] = refl
 lag_unseen n o (a ∷ l) = refl
 
 -- precedence i is tested, and then those after it
-next-tested : (c : tie.After-both-items invariant_loop decreases_loop) →
-    let l = c.before.before.before in let a = l.before.args in let o = get_or a.t1 l.loop.i no_precedence in
-    all_allowed a.n Nothing (map arc_of (take a.m a.t1))
-    ≡ ((c.both-items.result && rises l.loop.last (arc_of o)) && all_allowed a.n (Was o) (map arc_of (drop (l.loop.i + 1) (take a.m a.t1))))
+next-tested : (c : tie.After-both_items invariant_loop decreases_loop) →
+    let l = c.before.before.before in let a = l.args in let o = get_or a.precedences l.loop-i.i no_precedence in
+    all_allowed a.n Nothing (map arc_of (take a.m a.precedences))
+    ≡ ((c.both_items.result && rises l.loop-i.last (arc_of o)) && all_allowed a.n (Was o) (map arc_of (drop (l.loop-i.i + 1) (take a.m a.precedences))))
 unfolding all_allowed
 next-tested c =
-    let l = c.before.before.before in let a = l.before.args in let h : length a.t1 ≡ 90 = search rules in
-    let o = get_or a.t1 l.loop.i no_precedence in
-    l.loop.invariant.1 ∙ rw (part_next a.m l.loop.i a.t1 (omega arith) no_precedence (omega arith), ← c.both-items.ensures)
-    (ap (◌&&◌ (c.both-items.result && rises l.loop.last (arc_of o))) (lag_unseen a.n o (map arc_of (drop (l.loop.i + 1) (take a.m a.t1)))))
+    let l = c.before.before.before in let a = l.args in let h : length a.precedences ≡ 90 = search rules in
+    let o = get_or a.precedences l.loop-i.i no_precedence in
+    l.loop-i.invariant.1 ∙ rw (part_next a.m l.loop-i.i a.precedences (omega arith) no_precedence (omega arith), ← c.both_items.ensures)
+    (ap (◌&&◌ (c.both_items.result && rises l.loop-i.last (arc_of o))) (lag_unseen a.n o (map arc_of (drop (l.loop-i.i + 1) (take a.m a.precedences)))))
 
 pub all_in_order_spec : {M : Type 1} → Rattle.lists.proofs.all_in_order.Statement.statement M
 unfolding all_allowed
 all_in_order_spec = tie.close (tie.spec invariant_loop decreases_loop (λ c. (omega arith, refl)) (λ c. search rules) (λ c. search rules) (λ c κs. search rules)
-    (λ c. rw (next-tested c.before, not-true c.before.both-items.result c.if1.true)) (λ c κs. search rules)
-    (λ c. let r = c.before.is-rising in let b = c.before.before in
-    rw (next-tested b.before, not-false b.before.both-items.result b.if1.false, ← r.ensures, not-true r.result c.if2.true))
+    (λ c. rw (next-tested c.before, not-true c.both_items.result c.if-not-both_items.true-raw)) (λ c κs. search rules)
+    (λ c. let r = c.is_rising in let b = c.before.before in
+    rw (next-tested b.before, not-false b.both_items.result b.if-not-both_items.false-raw, ← r.ensures, not-true r.result c.if-not-is_rising.true-raw))
     (λ c. search rules) (λ c. search rules)
-    (λ c. let r = c.before.is-rising in let b = c.before.before in (
+    (λ c. let r = c.is_rising in let b = c.before.before in (
       omega arith,
-      rw (next-tested b.before, not-false b.before.both-items.result b.if1.false, ← r.ensures, not-false r.result c.if2.false),
+      rw (next-tested b.before, not-false b.both_items.result b.if-not-both_items.false-raw, ← r.ensures, not-false r.result c.if-not-is_rising.false-raw),
     ))
-    (λ c. let d = c.before in let a = d.before.args in let h : length a.t1 ≡ 90 = search rules in
-    rw (d.loop.invariant.1, part_done a.m d.loop.i a.t1 (omega arith) (omega arith))))
+    (λ c. let d = c.before in let a = d.args in let h : length a.precedences ≡ 90 = search rules in
+    rw (d.loop-i.invariant.1, part_done a.m d.loop-i.i a.precedences (omega arith) (omega arith))))

@@ -33,23 +33,23 @@ module _ (m : ℕ) (s lags : List ℕ) (e : lags ≡ padded 90 0 (take m s)) (th
       ≡ cond (lags_zero lags) (refused (NoLag at)) (got (take m lags) (at + m) (drop m s))
   tested at present p = lags-run m at present s ∙ simp (p, le-ltb _ _ there, first, ap lags_zero e ∙ padded-zero 90 (take m s))
 
-there : (c : tie.After-all-zero) →
-    let b = c.before in let a = b.before.before.before.before.args in let gs = b.first-bytes.result in
+there : (c : tie.After-all_zero) →
+    let b = c.before in let a = b.args in let gs = b.first_bytes-lags.result in
     (run (optional_reading (lag_list a.m) a.present) a.at a.rest.now
     ≡ cond c.all_zero.result (refused (NoLag a.at)) (got (take a.m gs) (a.at + a.m) (drop a.m a.rest.now)))
     × Padded {A = ℕ} 90 0 a.m gs
 there c =
-    let b = c.before in let a = b.before.before.before.before.args in let e = b.first-bytes.ensures in let t = b.before.if2.false in (
-      rw c.all_zero.ensures (tested a.m a.rest.now _ e t (omega arith) a.at a.present b.before.before.if1.false),
+    let b = c.before in let a = b.args in let e = b.first_bytes-lags.ensures in let t = b.if-rest-m.false in (
+      rw c.all_zero.ensures (tested a.m a.rest.now _ e t (omega arith) a.at a.present b.if-not-present.false-raw),
       filled a.m a.rest.now _ e t (omega arith),
     )
 
 pub read_lags_spec : {M : Type 1} → Rattle.lists.proofs.read_lags.Statement.statement M
 read_lags_spec = tie.close (tie.spec
-    (λ c. let a = c.before.before.args in let (n, p) = none a.m (omega arith) in
-    (lags-run a.m a.at a.present a.rest.now ∙ rw (c.if1.true, n, add-zero), p)) (λ c. search rules)
+    (λ c. let a = c.args in let (n, p) = none a.m (omega arith) in
+    (lags-run a.m a.at a.present a.rest.now ∙ rw (c.if-not-present.true-raw, n, add-zero), p)) (λ c. search rules)
     (λ c. let s = c.before.before.before in let a = s.args in let (n, p) = none a.m (omega arith) in
-    (lags-run a.m a.at a.present a.rest.now ∙ rw (c.before.if1.false, lt-ltb _ _ c.if2.true), p)) (λ c κs. search rules)
+    (lags-run a.m a.at a.present a.rest.now ∙ rw (c.if-not-present.false-raw, lt-ltb _ _ c.if-rest-m.true), p)) (λ c κs. search rules)
     (λ c κs. search rules)
-    (λ c. let (read, full) = there c.before in (read ∙ rw c.if3.true, full))
-    (λ c. let (read, full) = there c.before in (read ∙ rw c.if3.false, full)))
+    (λ c. let (read, full) = there c.before in (read ∙ rw c.if-all_zero.true, full))
+    (λ c. let (read, full) = there c.before in (read ∙ rw c.if-all_zero.false, full)))

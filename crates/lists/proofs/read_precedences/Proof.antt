@@ -8,13 +8,13 @@ use Rattle.lists.proofs.read_precedences.Tie as tie
 pub read_precedences_spec : {M : Type 1} → Rattle.lists.proofs.read_precedences.Statement.statement M
 unfolding precedence_list
 read_precedences_spec = tie.close (tie.spec (λ c κs. search rules) (λ c. search rules) (λ c κs. search rules)
-    (λ c κs. let b = c.before.before.before.before.before.before in
-    let e = rw c.before.before.m.given.1 at c.before.before.before.before.read_count.ensures in
+    (λ c κs. let b = c.before.before.before.before in
+    let e = rw c.in-Value.is at c.read_count.ensures in
     let m = count-within max_precedences b.args.present b.args.at b.args.rest.now e in
     (b.requires, run_took _ _ _ e, omega (arith, c.widened.ensures))) (λ c. search rules) (λ c κs. search rules)
-    (λ c. let e = rw c.before.before.before.m.given.1 at c.before.before.before.before.before.read_count.ensures in
-    (rw (list_run, e, ← c.before.widened.ensures) c.read-precedence-row.ensures.0, c.read-precedence-row.ensures.1))
+    (λ c. let e = rw c.in-Value.is at c.read_count.ensures in
+    (rw (list_run, e, ← c.widened.ensures) c.read_precedence_row.ensures.0, c.read_precedence_row.ensures.1))
     (λ c. (
-      rw (list_run, c.before.before.before.before.read_count.ensures, c.before.before.e.given.1),
-      record { few = omega arith; same = c.no-precedences.ensures },
+      rw (list_run, c.read_count.ensures, c.in-Refused.is),
+      record { few = omega arith; same = c.no_precedences-precedences.ensures },
     )))

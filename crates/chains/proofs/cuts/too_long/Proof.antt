@@ -4,5 +4,5 @@ use Rattle.chains.proofs.cuts.too_long.Tie as tie
 
 pub too_long_spec : {M : Type 1} → Rattle.chains.proofs.cuts.too_long.Statement.statement M
 too_long_spec = tie.close (tie.spec (λ c. search rules) (λ c. search rules) (λ c. search rules)
-    (λ c κs. (c.before.before.requires, c.if1.true)) (λ c. c.too_long-plain.ensures) (λ c κs. c.before.before.requires)
-    (λ c. c.too-long-with-gaps.ensures))
+    (λ c κs. (c.requires, c.if-t-a-eq0.true)) (λ c. c.too_long_plain.ensures) (λ c κs. c.requires)
+    (λ c. c.too_long_with_gaps.ensures))

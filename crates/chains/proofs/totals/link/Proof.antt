@@ -7,5 +7,5 @@ pub link_spec : {M : Type 1} → Rattle.chains.proofs.totals.link.Statement.stat
 link_spec = tie.close (tie.spec (λ c. search rules) (λ c. search rules) (λ c. search rules) (λ c. search rules) (λ c. search rules)
     (λ c. search rules) (λ c. search rules) (λ c. search rules) (λ c. search rules) (λ c. search rules) (λ c. search rules) (λ c. search totals-small)
     (λ c. search rules) (λ c. search rules) (λ c. search rules) (λ c. search link_bursts) (λ c. search rules) (λ c. search rules) (λ c. search rules)
-    (λ c. link-kept c.if2.true) (λ c. search rules) (λ c. search rules) (λ c. search rules) (λ c κs. search rules)
+    (λ c. link-kept c.if-total-t-2.true) (λ c. search rules) (λ c. search rules) (λ c. search rules) (λ c κs. search rules)
     (λ c. rw c.bit.ensures.0 (search link_longer)))
