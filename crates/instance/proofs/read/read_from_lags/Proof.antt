@@ -6,37 +6,37 @@ use Rattle.instance.proofs.Readers.{lags-run, precedences-count, lagged_padding,
 use Rattle.instance.proofs.read.read_from_lags.Tie as tie
 
 -- the bytes that the lags took are there
-took : (c : tie.After-known-told2) → c.before.stop2.given.0.0 ≤ length c.before.before.before.before.before.before.args.rest.now
-took c = run_took _ _ _ (rw c.before.stop2.given.1 at c.before.before.before.read-lags.ensures.0)
+took : (c : tie.In-After) → c.in-After.used ≤ length c.args.rest.now
+took c = run_took _ _ _ (rw c.in-After.is at c.read_lags-list.ensures.0)
 
 pub read_from_lags_spec : {M : Type 1} → Rattle.instance.proofs.read.read_from_lags.Statement.statement M
 read_from_lags_spec = tie.close (tie.spec (λ c κs. search rules) (λ c κs. search rules) (λ c. search rules) (λ c κs. search rules)
     (λ c. search rules) (λ c κs. search rules) (λ c. omega (arith, took c.before.before.before))
     (λ c. omega (arith, took c.before.before.before)) (λ c. search rules) (λ c. omega (arith, took c.before.before.before.before))
-    (λ c κs. let k = c.before.before.before.before in let r = k.before.before.before in let s = r.before.before.before in
+    (λ c κs. let k = c.before.before.before.before in let r = k.before in let s = r.before.before.before in
     let w = took k in (
       simp (rest_of, length-drop) (omega arith),
       record {
         items = s.requires.1.items;
-        precedences = rw c.before.with_lags.ensures (lagged_padding s.args.draft s.requires.1 _ r.read-lags.ensures.1);
+        precedences = rw c.with_lags-precedences.ensures (lagged_padding s.args.draft s.requires.1 _ r.read_lags-list.ensures.1);
       },
     ))
-    (λ c. let b = c.before.before in let r = b.before.before in let s = r.before.before.before in
+    (λ c. let b = c.before in let r = b in let s = r.before in
     c.refuse.ensures ∙ simp (
       lags-run,
       precedences-count s.args.draft s.requires.1,
-      ← r.before.bit-is-set.ensures,
-      rw b.stop.given.1 at r.read-lags.ensures.0,
+      ← r.bit_is_set.ensures,
+      rw b.in-Refused.is at r.read_lags-list.ensures.0,
     ))
-    (λ c. let l = c.before.before in let b = l.before.before.before.before in let r = b.before.before in
-    let s = r.before.before.before in let φ = r.read-lags.ensures.1 in
-    rw rest_of at c.read-from-walkway.ensures
+    (λ c. let l = c.before.before in let b = l.before.before.before in let r = b in
+    let s = r.before in let φ = r.read_lags-list.ensures.1 in
+    rw rest_of at c.read_from_walkway.ensures
     ∙ simp (
-      l.with_lags.ensures,
+      l.with_lags-precedences.ensures,
       lagged_orders s.args.draft s.requires.1 _ φ,
       lagged-lags_are s.args.draft s.requires.1 _ φ,
       lags-run,
       precedences-count s.args.draft s.requires.1,
-      ← r.before.bit-is-set.ensures,
-      rw b.stop2.given.1 at r.read-lags.ensures.0,
+      ← r.bit_is_set.ensures,
+      rw b.in-After.is at r.read_lags-list.ensures.0,
     )))

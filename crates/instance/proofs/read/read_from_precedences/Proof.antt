@@ -13,36 +13,36 @@ use Rattle.instance.proofs.Readers.{precedences-run, items-count}
 use Rattle.instance.proofs.read.read_from_precedences.Tie as tie
 
 -- what was read, as orders
-read_arcs : (c : tie.After-read-precedences) →
-    let a = c.before.before.before.args in
-    run (optional_reading (precedence_list a.draft.item_count) c.before.bit-is-set.result) a.at a.rest.now
-    ≡ read_as (map arc_of) (precedences_read a.at a.rest.now c.read-precedences.result)
-read_arcs c = arcs_read _ c.read-precedences.ensures.0
+read_arcs : (c : tie.After-read_precedences-list) →
+    let a = c.args in
+    run (optional_reading (precedence_list a.draft.item_count) c.bit_is_set.result) a.at a.rest.now
+    ≡ read_as (map arc_of) (precedences_read a.at a.rest.now c.read_precedences-list.result)
+read_arcs c = arcs_read _ c.read_precedences-list.ensures.0
 
 -- the bytes that the list took are there
-took : (c : tie.After-known-told2) → c.before.stop2.given.0.0 ≤ length c.before.before.before.before.before.before.args.rest.now
-took c = run_took _ _ _ (rw c.before.stop2.given.1 at (read_arcs c.before.before.before))
+took : (c : tie.In-After) → c.in-After.used ≤ length c.args.rest.now
+took c = run_took _ _ _ (rw c.in-After.is at (read_arcs c.before))
 
 pub read_from_precedences_spec : {M : Type 1} → Rattle.instance.proofs.read.read_from_precedences.Statement.statement M
 read_from_precedences_spec = tie.close (tie.spec (λ c κs. search rules) (λ c κs. search rules) (λ c. search rules) (λ c κs. search rules)
     (λ c. search rules) (λ c. omega (arith, took c.before)) (λ c. omega (arith, took c.before)) (λ c. search rules)
-    (λ c. omega (arith, took c.before.before)) (λ c κs. let b = c.before.before.before.before.before in let w = took c.before.before in (
+    (λ c. omega (arith, took c.before.before)) (λ c κs. let b = c.before.before.before in let w = took c.before.before in (
       simp (rest_of, length-drop) (omega arith),
-      record { items = b.before.before.before.requires.1.items; precedences = b.read-precedences.ensures.1 },
+      record { items = b.requires.1.items; precedences = b.read_precedences-list.ensures.1 },
     ))
-    (λ c. let b = c.before.before in let r = b.before.before in let s = r.before.before.before in
+    (λ c. let b = c.before in let r = b in let s = r.before in
     c.refuse.ensures ∙ simp (
       precedences-run s.args.map (sheet_of s.args.draft) s.args.at s.args.rest.now [],
       items-count s.args.draft s.requires.1,
-      ← r.before.bit-is-set.ensures,
-      rw b.stop.given.1 at (read_arcs r),
+      ← r.bit_is_set.ensures,
+      rw b.in-Refused.is at (read_arcs r),
     ))
-    (λ c. let b = c.before.before.before.before in let r = b.before.before in let s = r.before.before.before in
-    rw rest_of at c.read-from-yard-number.ensures
+    (λ c. let b = c.before.before.before in let r = b in let s = r.before in
+    rw rest_of at c.read_from_yard_number.ensures
     ∙ simp (
       precedences-run s.args.map (sheet_of s.args.draft) s.args.at s.args.rest.now
-          (map lag_of (take r.read-precedences.result.count r.read-precedences.result.precedences)),
+          (map lag_of (take r.read_precedences-list.result.count r.read_precedences-list.result.precedences)),
       items-count s.args.draft s.requires.1,
-      ← r.before.bit-is-set.ensures,
-      rw b.stop2.given.1 at (read_arcs r),
+      ← r.bit_is_set.ensures,
+      rw b.in-After.is at (read_arcs r),
     )))
