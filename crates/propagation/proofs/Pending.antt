@@ -54,6 +54,7 @@ module _ {k : Domains} {q : List ℕ} {j : Domains} {rows r : List ℕ} (g : Gro
   module _ (head : ℕ) (first : 1 ≤ head) (within : head < queue_end q) (a u v : ℕ) (s : Proper 10 a u v) (read : get_or q head 0 ≡ pair_code a u v) where
     -- a premise on the queue is of the pair, or stands further on
     further : (ps : List Fact) → AllProper ps → SomeQueued q head (queue_end q) ps → Mentions a u v ps ⊎ SomeQueued r (head + 1) (queue_end r) ps
+    further [] z h = elim h [ ]
     further (c ∷ cs) (z, zs) (inl h) =
         ⊎_map inl (λ h. inl (queued_on g (head + 1) c.axis c.u c.v (omega arith) h))
         (head_or_on q head a u v s read c.axis c.u c.v z h)
@@ -70,5 +71,6 @@ pub pending_done : (k : Domains) (q : List ℕ) (head : ℕ) → queue_end q ≤
 pending_done k q head done p ps c o h = ⊎_elim (λ h. h) (λ x. absurd (none ps x)) (p ps c o h)
   where
     none : (ps : List Fact) → SomeQueued q head (queue_end q) ps → ⊥
+    none [] h = elim h [ ]
     none (c ∷ cs) (inl (i, low, high, e)) = omega arith
     none (c ∷ cs) (inr h) = none cs h

@@ -6,6 +6,6 @@ use Rattle.item_record.proofs.item_record_refusal.Tie as tie
 pub item_record_refusal_spec : {M : Type 1} → Rattle.item_record.proofs.item_record_refusal.Statement.statement M
 unfolding item_record_code
 item_record_refusal_spec = tie.close (tie.spec (λ c κs. search rules) (λ c. search rules) (λ c κs. search rules) (λ c κs. search rules)
-    (λ c. search rules) (λ c. let b = c.before.before.before in
-    rw (← b.before.before.look_up.ensures, b.e.given.1, c.before.number.ensures, c.place.ensures))
-    (λ c. rw (← c.before.before.look_up.ensures, c.enum_told.given.1)))
+    (λ c. search rules) (λ c. let b = c.before.before in
+    rw (← b.look_up.ensures, b.in-Refused.is, c.number.ensures, c.place.ensures))
+    (λ c. rw (← c.look_up.ensures, c.in-There.is)))

@@ -6,18 +6,18 @@ use Rattle.turning.specs.Turned.{marks_in, turned_item, turned_items}
 use Rattle.turning.proofs.Ten.{FilledTo, fill_none, fill_next, fill_all}
 use Rattle.turning.proofs.turned_items.Tie as tie
 
-abbrev invariant_loop : tie.invariant_loop
+abbrev invariant_loop : tie.invariant-loop-u
 invariant_loop items marks next₀ u₀ next u = FilledTo no_item (λ u. turned_item (marks_in marks u) (get_or items u no_item)) items next u
 
-abbrev decreases_loop : tie.decreases_loop
+abbrev decreases_loop : tie.decreases-loop-u
 decreases_loop items marks next₀ u₀ next u = 10 - u
 
-again : tie.Need-loop-preserved invariant_loop decreases_loop
-again c = fill_next c.before.before.before.loop.invariant (omega arith) c.turned_item.ensures
+again : tie.Need-loop-u-preserved invariant_loop decreases_loop
+again c = fill_next c.loop-u.invariant (omega arith) c.turned_item.ensures
 
 returns : tie.Need-returns invariant_loop decreases_loop
 unfolding turned_items
-returns c = fill_all c.before.loop.invariant (λ k h l. absurd (omega (arith, c.loop-test.false)))
+returns c = fill_all c.loop-u.invariant (λ k h l. absurd (omega (arith, c.loop-u-test.false)))
 
 pub turned_items_spec : {M : Type 1} → Rattle.turning.proofs.turned_items.Statement.statement M
 turned_items_spec = tie.close (tie.spec invariant_loop decreases_loop (λ c. fill_none (search length_mapped)) (λ c. search rules) (λ c. search rules)

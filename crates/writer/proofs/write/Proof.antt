@@ -8,17 +8,17 @@ use Rattle.instance.proofs.Arrays.{length_mapped}
 use Rattle.writer.proofs.write.Tie as tie
 
 -- the value is an instance
-is-instance : (c : tie.Else1) → valid c.before.before.before.args.instance ≡ true
-is-instance c = sym c.before.is-valid.ensures ∙ not-false c.before.is-valid.result c.if1.false
+is-instance : (c : tie.Else-not-is_valid) → valid c.args.instance ≡ true
+is-instance c = sym c.is_valid.ensures ∙ not-false c.is_valid.result c.if-not-is_valid.false-raw
 
 pub write_spec : {M : Type 1} → Rattle.writer.proofs.write.Statement.statement M
 unfolding write_answer written_room
 write_spec = tie.close (tie.spec (λ c κs. search rules)
-    (λ c. let h = sym c.before.is-valid.ensures ∙ not-true c.before.is-valid.result c.if1.true in (rw h, (rw h, search length_mapped)))
-    (λ c κs. is-instance c) (λ c. let a = c.before.before.before.before.before.args in let h = is-instance c.before.before in
+    (λ c. let h = sym c.is_valid.ensures ∙ not-true c.is_valid.result c.if-not-is_valid.true-raw in (rw h, (rw h, search length_mapped)))
+    (λ c κs. is-instance c) (λ c. let a = c.args in let h = is-instance c.before.before in
     let l : length a.out.now < length (encode a.instance) = omega arith in
     (rw (h, lt-ltb _ _ l), (rw (h, lt-leb _ _ l), search length_mapped))) (λ c κs. (is-instance c.before.before.before, omega arith))
-    (λ c. search rules) (λ c. let a = c.before.before.before.before.before.before.before.before.before.args in
+    (λ c. search rules) (λ c. let a = c.args in
     let h = is-instance c.before.before.before.before.before.before in
-    let l : length (encode a.instance) ≤ length a.out.now = omega arith in let w = c.before.before.write-sheet.ensures in
+    let l : length (encode a.instance) ≤ length a.out.now = omega arith in let w = c.write_sheet.ensures in
     (rw (h, le-ltb _ _ l, w.0), (rw (h, le-leb _ _ l) (w.1 ∙ sets-front (encode a.instance) a.out.now l), search length_mapped))))

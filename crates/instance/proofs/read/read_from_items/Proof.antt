@@ -16,8 +16,8 @@ read_from_items_spec = tie.close (tie.spec (λ c κs. search rules) (λ c κs. s
       simp (rest_of, length-drop) (omega arith),
       record { items = b.read_items-list.ensures.1; precedences = b.requires.1.precedences },
     ))
-    (λ c. let b = c.before in let r = b in
+    (λ c. let b = c.before in let r = b.before in
     c.refuse.ensures ∙ simp (items-run, ← r.bit_is_set.ensures, rw b.in-Refused.is at r.read_items-list.ensures.0))
-    (λ c. let b = c.before.before.before in let r = b in
+    (λ c. let b = c.before.before.before in let r = b.before in
     rw rest_of at c.read_from_precedences.ensures
     ∙ simp (items-run, ← r.bit_is_set.ensures, rw b.in-After.is at r.read_items-list.ensures.0)))

@@ -21,15 +21,15 @@ read_from_lags_spec = tie.close (tie.spec (λ c κs. search rules) (λ c κs. se
         precedences = rw c.with_lags-precedences.ensures (lagged_padding s.args.draft s.requires.1 _ r.read_lags-list.ensures.1);
       },
     ))
-    (λ c. let b = c.before in let r = b in let s = r.before in
+    (λ c. let b = c.before in let r = b.before in let s = r.before.before.before in
     c.refuse.ensures ∙ simp (
       lags-run,
       precedences-count s.args.draft s.requires.1,
       ← r.bit_is_set.ensures,
       rw b.in-Refused.is at r.read_lags-list.ensures.0,
     ))
-    (λ c. let l = c.before.before in let b = l.before.before.before in let r = b in
-    let s = r.before in let φ = r.read_lags-list.ensures.1 in
+    (λ c. let l = c.before.before in let b = l.before.before.before in let r = b.before in
+    let s = r.before.before.before in let φ = r.read_lags-list.ensures.1 in
     rw rest_of at c.read_from_walkway.ensures
     ∙ simp (
       l.with_lags-precedences.ensures,

@@ -30,14 +30,14 @@ read_from_precedences_spec = tie.close (tie.spec (λ c κs. search rules) (λ c 
       simp (rest_of, length-drop) (omega arith),
       record { items = b.requires.1.items; precedences = b.read_precedences-list.ensures.1 },
     ))
-    (λ c. let b = c.before in let r = b in let s = r.before in
+    (λ c. let b = c.before in let r = b.before in let s = r.before.before.before in
     c.refuse.ensures ∙ simp (
       precedences-run s.args.map (sheet_of s.args.draft) s.args.at s.args.rest.now [],
       items-count s.args.draft s.requires.1,
       ← r.bit_is_set.ensures,
       rw b.in-Refused.is at (read_arcs r),
     ))
-    (λ c. let b = c.before.before.before in let r = b in let s = r.before in
+    (λ c. let b = c.before.before.before in let r = b.before in let s = r.before.before.before in
     rw rest_of at c.read_from_yard_number.ensures
     ∙ simp (
       precedences-run s.args.map (sheet_of s.args.draft) s.args.at s.args.rest.now

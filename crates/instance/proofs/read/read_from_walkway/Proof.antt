@@ -9,12 +9,12 @@ pub read_from_walkway_spec : {M : Type 1} → Rattle.instance.proofs.read.read_f
 unfolding walkway
 read_from_walkway_spec = tie.close (tie.spec (λ c κs. search rules) (λ c κs. search rules) (λ c. search rules) (λ c κs. search rules)
     (λ c. search rules) (λ c. search rules) (λ c κs. search rules)
-    (λ c. let b = c.before.before in let r = b in let s = r.before in
+    (λ c. let b = c.before.before in let r = b.before in let s = r.before.before.before in
     let m : 0 < length (drop b.in-Value.used s.args.rest.now) = rw length-drop (omega arith) in
     c.refuse-then-used-rest.ensures ∙ simp (walkway-run, ← r.bit_is_set.ensures, rw b.in-Value.is at r.read_byte.ensures, bytes_left))
-    (λ c. let b = c.before in let r = b in
+    (λ c. let b = c.before in let r = b.before in
     c.refuse.ensures ∙ simp (walkway-run, ← r.bit_is_set.ensures, rw b.in-Refused.is at r.read_byte.ensures))
-    (λ c. let b = c.before in let r = b in let s = r.before in
+    (λ c. let b = c.before in let r = b.before in let s = r.before.before.before in
     let e = rw b.in-Value.is at r.read_byte.ensures in let w = run_took _ _ _ e in
     let m : length (drop b.in-Value.used s.args.rest.now) ≡ 0 = rw length-drop (omega arith) in
     simp (walkway-run, ← r.bit_is_set.ensures, e, no-bytes-left, draft_is s.args.draft s.requires.1)))

@@ -15,12 +15,12 @@ unfolding yard_number
 read_from_yard_number_spec = tie.close (tie.spec (λ c κs. search rules) (λ c κs. search rules) (λ c. search rules) (λ c κs. search rules)
     (λ c. search rules) (λ c. omega (arith, took c)) (λ c. omega (arith, took c)) (λ c. search rules)
     (λ c. omega (arith, took c.before))
-    (λ c κs. let b = c.before in let s = b.before.before.before in let w = took b in (
+    (λ c κs. let b = c.before in let s = b.before.before.before.before in let w = took b in (
       simp (rest_of, length-drop) (omega arith),
       record { items = s.requires.1.items; precedences = s.requires.1.precedences },
     ))
-    (λ c. let b = c.before in let r = b in
+    (λ c. let b = c.before in let r = b.before in
     c.refuse.ensures ∙ simp (yard_number-run, ← r.bit_is_set.ensures, rw b.in-Refused.is at r.read_field.ensures))
-    (λ c. let b = c.before.before in let r = b in
+    (λ c. let b = c.before.before in let r = b.before in
     rw rest_of at c.read_from_lags.ensures
     ∙ simp (yard_number-run, ← r.bit_is_set.ensures, rw b.in-Value.is at r.read_field.ensures)))
