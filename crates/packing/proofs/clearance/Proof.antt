@@ -15,48 +15,48 @@ use Rattle.packing.proofs.Gaps.{i32_value}
 use Rattle.packing.proofs.clearance.Tie as tie
 
 -- the value is an instance
-is-instance : (c : tie.Else1) → valid c.before.before.args.instance ≡ true
-is-instance c = test_passed c.before.is-valid.ensures c.if1.false
+is-instance : (c : tie.Else-not-is_valid) → valid c.args.instance ≡ true
+is-instance c = test_passed c.is_valid.ensures c.if-not-is_valid.false-raw
 
 -- the array of items has ten entries
 room : (c : tie.Start) → length c.args.instance.items ≡ 10
 room c = search length_mapped
 
 -- the instance with its marked items turned
-module _ (c : tie.After-turned) where
+module _ (c : tie.After-turned-turned) where
   abbrev start : tie.Start
   start = c.before.before.before.before.before.before.before.before.before
 
-  turned-problem : problem_of c.turned.result ≡ turned_by start.args.instance start.args.packing
-  turned-problem = ap problem_of c.turned.ensures ∙ problem-turned _ (room start) _
+  turned-problem : problem_of c.turned-turned.result ≡ turned_by start.args.instance start.args.packing
+  turned-problem = ap problem_of c.turned-turned.ensures ∙ problem-turned _ (room start) _
 
   between : let a = start.args in
-      clearance_between (problem_of c.turned.result) (positions_of a.packing) a.axis a.u a.v
+      clearance_between (problem_of c.turned-turned.result) (positions_of a.packing) a.axis a.u a.v
       ≡ clearance_between (turned_by a.instance a.packing) (positions_of a.packing) a.axis a.u a.v
   between = ap (λ (p : Problem). clearance_between p (positions_of start.args.packing) start.args.axis start.args.u start.args.v) turned-problem
 
 pub clearance_spec : {M : Type 1} → Rattle.packing.proofs.clearance.Statement.statement M
 unfolding clearance_answer
-clearance_spec = tie.close (tie.spec (λ c κs. search rules) (λ c. answered _ _ _ _ _ _ (rw (test_failed c.before.is-valid.ensures c.if1.true)))
-    (λ c. answered _ _ _ _ _ _ (rw (is-instance c.before, le-ltb _ _ c.if2.true)))
-    (λ c. answered _ _ _ _ _ _ (rw (is-instance c.before.before, lt-ltb _ _ c.before.if2.false, le-ltb _ _ c.if3.true)))
+clearance_spec = tie.close (tie.spec (λ c κs. search rules) (λ c. answered _ _ _ _ _ _ (rw (test_failed c.is_valid.ensures c.if-not-is_valid.true-raw)))
+    (λ c. answered _ _ _ _ _ _ (rw (is-instance c.before, le-ltb _ _ c.if-n-u.true)))
+    (λ c. answered _ _ _ _ _ _ (rw (is-instance c.before.before, lt-ltb _ _ c.if-n-u.false, le-ltb _ _ c.if-n-v.true)))
     (λ c. let d = c.before.before in
-    answered _ _ _ _ _ _ (rw (is-instance d.before, lt-ltb _ _ d.if2.false, lt-ltb _ _ c.before.if3.false, le-ltb _ 3 c.if4.true)))
+    answered _ _ _ _ _ _ (rw (is-instance d.before, lt-ltb _ _ d.if-n-u.false, lt-ltb _ _ c.if-n-v.false, le-ltb _ 3 c.if-axis-gt2.true)))
     (λ c κs. (valid-says _ (is-instance c.before.before.before.before)).items-few)
     (λ c. let e = c.before.before.before in let d = e.before.before in
     answered _ _ _ _ _ _ (rw (
       is-instance d.before,
-      lt-ltb _ _ d.if2.false,
-      lt-ltb _ _ e.before.if3.false,
-      lt-ltb d.before.before.before.args.axis 3 (omega arith),
-      test_failed c.before.marks_allowed.ensures c.if5.true,
+      lt-ltb _ _ d.if-n-u.false,
+      lt-ltb _ _ e.if-n-v.false,
+      lt-ltb d.args.axis 3 (omega arith),
+      test_failed c.marks_allowed.ensures c.if-not-marks_allowed.true-raw,
     ))) (λ c κs. search rules)
     (λ c κs. let l = (valid-says _ (is-instance c.before.before.before.before.before.before.before)).items-few in omega arith)
     (λ c. let m = c.before.before in let e = m.before.before.before in let d = e.before.before in
     answered _ _ _ _ _ _ (rw (
       is-instance d.before,
-      lt-ltb _ _ d.if2.false,
-      lt-ltb _ _ e.before.if3.false,
-      lt-ltb d.before.before.before.args.axis 3 (omega arith),
-      test_passed m.before.marks_allowed.ensures m.if5.false,
-    ) (ap Clearance (i32_value c.clearance-on.type-inv (c.clearance-on.ensures ∙ between c.before))))))
+      lt-ltb _ _ d.if-n-u.false,
+      lt-ltb _ _ e.if-n-v.false,
+      lt-ltb d.args.axis 3 (omega arith),
+      test_passed m.marks_allowed.ensures m.if-not-marks_allowed.false-raw,
+    ) (ap Clearance (i32_value c.clearance_on.type_inv (c.clearance_on.ensures ∙ between c.before))))))

@@ -9,8 +9,8 @@ returns : tie.Need-returns
 returns c =
     let first = c.before.before.before.before.before.before in
     let start = first.before.before.before.before in
-    let w = first.put-answer.ensures in
-    let x = c.before.before.put-items.ensures in
+    let w = first.put_answer-a.ensures in
+    let x = c.put_items.ensures in
     let a = start.args in
     let line = answer_line placed_word a.steps in
     let lines = item_lines a.packing a.n in
@@ -21,6 +21,6 @@ returns c =
     )
 
 pub packed_spec : {M : Type 1} → Rattle.report.proofs.packed.Statement.statement M
-packed_spec = tie.close (tie.spec (λ c. search rules) (λ c κs. (omega arith, omega arith))
-    (λ c κs. (omega arith, omega (arith, c.before.before.before.put-answer.auto.0)))
-    (λ c. let x = c.before.before in omega (arith, x.before.before.before.before.put-answer.auto.0, x.put-items.auto.0)) returns)
+packed_spec = tie.close (tie.spec (λ c κs. (omega arith, omega arith))
+    (λ c κs. (omega arith, omega (arith, c.put_answer-a.auto.out)))
+    (λ c. let x = c.before.before in omega (arith, x.put_answer-a.auto.out, x.put_items.auto.out)) returns)

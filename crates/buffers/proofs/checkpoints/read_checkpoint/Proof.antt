@@ -7,7 +7,7 @@ returns : tie.Need-returns
 unfolding checkpoint_in
 returns c =
     let b = c.before in
-    rw (c.word-at2.ensures, b.word_at.ensures, b.before.read-branches.ensures, b.before.before.status_of.ensures)
+    rw (c.word_at-choice.ensures, b.word_at-length.ensures, b.read_branches-branches.ensures, b.status_of-status.ensures)
 
 pub read_checkpoint_spec : {M : Type 1} → Rattle.buffers.proofs.checkpoints.read_checkpoint.Statement.statement M
 read_checkpoint_spec = tie.close (tie.spec (λ c. search rules) (λ c κs. search rules) (λ c κs. search rules) (λ c κs. search rules)

@@ -5,4 +5,4 @@ use Rattle.buffers.proofs.checkpoints.status_of.Tie as tie
 
 pub status_of_spec : {M : Type 1} → Rattle.buffers.proofs.checkpoints.status_of.Statement.statement M
 status_of_spec = tie.close (tie.spec (λ c. search rules) (λ c. search rules)
-    (λ c. status-other c.before.before.args.b c.before.if1.false c.if2.false))
+    (λ c. status-other c.args.b c.if-b-eq0.false c.if-b-eq1.false))

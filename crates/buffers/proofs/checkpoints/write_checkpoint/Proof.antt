@@ -3,19 +3,19 @@ use Rattle.prelude.specs.Names.{◌≡◌, arith, length, length-set, rules}
 use Rattle.buffers.proofs.CheckpointBytes.{checkpoint_fills}
 use Rattle.buffers.proofs.checkpoints.write_checkpoint.Tie as tie
 
-write_branches_requires : tie.Need-write-branches-requires
-write_branches_requires c κs = omega (arith, simp length-set at c.before.before.before.write_word.auto.0)
+write_branches_requires : tie.Need-write_branches-requires
+write_branches_requires c κs = omega (arith, simp length-set at c.write_word.auto.out)
 
-choice_requires : tie.Need-write-word-requires-2
+choice_requires : tie.Need-write_word-requires-2
 choice_requires c κs =
     let b = c.before.before.before in
-    omega (arith, b.write-branches.auto.0, simp length-set at b.before.before.before.before.write_word.auto.0)
+    omega (arith, b.write_branches.auto.out, simp length-set at b.write_word.auto.out)
 
-same_length : tie.Need-same-length
+same_length : tie.Need-shape_of-out
 same_length c =
     let w = c.before.before in
     let b = w.before.before.before.before in
-    omega (arith, w.write-word2.auto.0, b.write-branches.auto.0, simp length-set at b.before.before.before.before.write_word.auto.0)
+    omega (arith, w.write_word-2.auto.out, b.write_branches.auto.out, simp length-set at b.write_word.auto.out)
 
 branches_fill : (c : tie.Start) → length c.args.checkpoint.branches ≡ 270
 branches_fill c = search rules
@@ -28,7 +28,7 @@ returns c =
     let s = v.before.before.before in
     let start = s.before.before.before in
     let a = start.args in
-    rw (w.write-word2.ensures, b.write-branches.ensures, v.write_word.ensures, s.status_byte.ensures)
+    rw (w.write_word-2.ensures, b.write_branches.ensures, v.write_word.ensures, s.status_byte.ensures)
     (checkpoint_fills a.checkpoint (branches_fill start) a.out.now (omega arith))
 
 pub write_checkpoint_spec : {M : Type 1} → Rattle.buffers.proofs.checkpoints.write_checkpoint.Statement.statement M

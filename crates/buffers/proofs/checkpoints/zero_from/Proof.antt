@@ -5,24 +5,24 @@ use Rattle.buffers.specs.Checkpoints.{all_zero}
 use Rattle.buffers.proofs.CheckpointBytes.{zero-pass, zero_fail, zero-done}
 use Rattle.buffers.proofs.checkpoints.zero_from.Tie as tie
 
-abbrev invariant_loop : tie.invariant_loop
+abbrev invariant_loop : tie.invariant-loop-i
 invariant_loop s from i₀ i = all_zero (drop i s) ≡ all_zero (drop from s)
 
-abbrev decreases_loop : tie.decreases_loop
+abbrev decreases_loop : tie.decreases-loop-i
 decreases_loop s from i₀ i = length s - i
 
-returns : tie.Need-returns invariant_loop decreases_loop
+returns : tie.Need-returns-then-s-i-ne0 invariant_loop decreases_loop
 returns c =
     let b = c.before.before.before in
-    sym (sym b.loop.invariant ∙ zero_fail b.before.args.s.now b.loop.i (omega arith) c.if1.true)
+    sym (sym b.loop-i.invariant ∙ zero_fail b.args.s.now b.loop-i.i (omega arith) c.if-s-i-ne0.true)
 
-loop_again : tie.Need-loop-preserved invariant_loop decreases_loop
+loop_again : tie.Need-loop-i-preserved invariant_loop decreases_loop
 loop_again c =
     let b = c.before.before.before in
-    sym (zero-pass b.before.args.s.now b.loop.i (omega arith) c.if1.false) ∙ b.loop.invariant
+    sym (zero-pass b.args.s.now b.loop-i.i (omega arith) c.if-s-i-ne0.false) ∙ b.loop-i.invariant
 
-returns_2 : tie.Need-returns-2 invariant_loop decreases_loop
-returns_2 c = sym (sym c.before.loop.invariant ∙ zero-done c.before.before.args.s.now c.before.loop.i (omega arith))
+returns_2 : tie.Need-returns invariant_loop decreases_loop
+returns_2 c = sym (sym c.loop-i.invariant ∙ zero-done c.args.s.now c.loop-i.i (omega arith))
 
 pub zero_from_spec : {M : Type 1} → Rattle.buffers.proofs.checkpoints.zero_from.Statement.statement M
 zero_from_spec = tie.close (tie.spec invariant_loop decreases_loop (λ c. refl) (λ c. omega arith) returns (λ c. omega arith) (λ c. omega arith) loop_again returns_2)

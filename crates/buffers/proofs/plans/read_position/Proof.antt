@@ -4,4 +4,4 @@ use Rattle.buffers.proofs.plans.read_position.Tie as tie
 
 pub read_position_spec : {M : Type 1} → Rattle.buffers.proofs.plans.read_position.Statement.statement M
 read_position_spec = tie.close (tie.spec (λ c. search rules) (λ c κs. search rules) (λ c. search rules) (λ c κs. search rules) (λ c. search rules)
-    (λ c κs. search rules) (λ c. rw (c.word-at3.ensures, c.before.word-at2.ensures, c.before.before.word_at.ensures)))
+    (λ c κs. search rules) (λ c. rw (c.word_at-t.ensures, c.word_at-y.ensures, c.word_at-x.ensures)))

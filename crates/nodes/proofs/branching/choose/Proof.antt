@@ -9,63 +9,63 @@ use Rattle.nodes.proofs.Loops.{below_more}
 use Rattle.nodes.proofs.Choosing.{packed-of, Unseparated, chosen_axis, chosen_none}
 use Rattle.nodes.proofs.branching.choose.Tie as tie
 
-abbrev invariant_loop : tie.invariant_loop
+abbrev invariant_loop : tie.invariant-loop-a
 invariant_loop k n from count number pair a₀ a = (a ≤ 3) × ((b : ℕ) → b < a → several (get_or k (3 * number + b) 0) ≡ false)
 
-abbrev decreases_loop : tie.decreases_loop
+abbrev decreases_loop : tie.decreases-loop-a
 decreases_loop k n from count number pair a₀ a = 3 - a
 
-abbrev invariant_found : tie.invariant_found
+abbrev invariant_found : tie.invariant-found
 invariant_found k n from count answer₀ number₀ answer number =
     (count ≤ 45) × (answer ≡ Packed) × ((j : ℕ) → j < number → from ≤ j → separated_at k j ≡ true)
 
-abbrev decreases_found : tie.decreases_found
+abbrev decreases_found : tie.decreases-found
 decreases_found k n from count answer₀ number₀ answer number = count - number
 
 -- the pair whose axes are looked at
-pair : (c : tie.At-loop invariant_loop decreases_loop invariant_found decreases_found) → let f = c.before.before.before.before.before in
-    let a = f.before.before.args in
-    Passed a.k.now a.from → Unseparated a.k.now a.n a.from f.found.number c.before.pair_of.result
+pair : (c : tie.At-loop-a invariant_loop decreases_loop invariant_found decreases_found) → let f = c.before.before.before.before.before in
+    let a = f.args in
+    Passed a.k.now a.from → Unseparated a.k.now a.n a.from f.found.number c.pair_of-pair.result
 pair c passed =
     let t = c.before.before.before in
     record {
-      limited = t.before.before.before.before.requires.1;
+      limited = t.requires.1;
       passed = passed;
-      below = rw t.before.before.before.pair-count.ensures at t.before.found-test.true;
-      is = c.before.pair_of.ensures;
-      unseparated = sym t.separated.ensures ∙ not-true t.separated.result c.before.before.if1.true;
-      earlier = t.before.before.found.invariant.2;
+      below = rw t.pair_count-count.ensures at t.found-test.true;
+      is = c.pair_of-pair.ensures;
+      unseparated = sym t.separated.ensures ∙ not-true t.separated.result c.if-not-separated.true-raw;
+      earlier = t.found.invariant.2;
     }
 
-loop_again : tie.Need-loop-preserved invariant_loop decreases_loop invariant_found decreases_found
+loop_again : tie.Need-loop-a-preserved invariant_loop decreases_loop invariant_found decreases_found
 loop_again c =
-    let l = c.before.before.before.before.loop in
-    (omega arith, below_more _ l.a l.invariant.1 (sym c.before.is-undecided.ensures ∙ c.if2.false))
+    let l = c.loop-a in
+    (omega arith, below_more _ l.a l.invariant.1 (sym c.is_undecided.ensures ∙ c.if-is_undecided.false))
 
 found_again : tie.Need-found-preserved invariant_loop decreases_loop invariant_found decreases_found
 found_again c =
-    let l = c.before.before.before.found in
-    let s = c.before.separated in
-    (l.invariant.0, l.invariant.1, below_more _ l.number l.invariant.2 (λ low. sym s.ensures ∙ not-false s.result c.if1.false))
+    let l = c.found in
+    let s = c.separated in
+    (l.invariant.0, l.invariant.1, below_more _ l.number l.invariant.2 (λ low. sym s.ensures ∙ not-false s.result c.if-not-separated.false-raw))
 
-returns : tie.Need-returns invariant_loop decreases_loop invariant_found decreases_found
+returns : tie.Need-returns-after-found invariant_loop decreases_loop invariant_found decreases_found
 returns c =
-    let l = c.before.found in
+    let l = c.found in
     let n = c.before.before in
-    rw l.invariant.1 (λ passed. packed-of _ _ n.before.requires.1 _ passed (λ j h. l.invariant.2 j (omega (arith, c.found-test.false, n.pair-count.ensures))))
+    rw l.invariant.1 (λ passed. packed-of _ _ n.requires.1 _ passed (λ j h. l.invariant.2 j (omega (arith, c.found-test.false, n.pair_count-count.ensures))))
 
-returns_2 : tie.Need-returns-2 invariant_loop decreases_loop invariant_found decreases_found
+returns_2 : tie.Need-returns-then-is_undecided invariant_loop decreases_loop invariant_found decreases_found
 returns_2 c passed =
-    let l = c.before.before.before.before in
-    chosen_axis (pair l passed) l.loop.a c.before.before.before.loop-test.true (sym c.before.is-undecided.ensures ∙ c.if2.true)
-    l.loop.invariant.1
+    let l = c.before.before.before.before.before in
+    chosen_axis (pair l passed) l.loop-a.a c.loop-a-test.true (sym c.is_undecided.ensures ∙ c.if-is_undecided.true)
+    l.loop-a.invariant.1
 
-returns_3 : tie.Need-returns-3 invariant_loop decreases_loop invariant_found decreases_found
-returns_3 c passed = chosen_none (pair c.before passed) (λ b h. c.before.loop.invariant.1 b (omega (arith, c.loop-test.false)))
+returns_3 : tie.Need-returns-after-loop-a invariant_loop decreases_loop invariant_found decreases_found
+returns_3 c passed = chosen_none (pair c.before passed) (λ b h. c.loop-a.invariant.1 b (omega (arith, c.loop-a-test.false)))
 
 pub choose_spec : {M : Type 1} → Rattle.nodes.proofs.branching.choose.Statement.statement M
 choose_spec = tie.close (tie.spec invariant_loop decreases_loop invariant_found decreases_found (λ c κs. c.requires.1)
-    (λ c. (rw c.pair-count.ensures (pair-count-small _ c.before.requires.1), refl, λ j h low. absurd (omega arith)))
-    (λ c κs. (c.before.before.before.requires.0, omega arith)) (λ c κs. omega arith) (λ c. (omega arith, λ b h. absurd (omega arith))) (λ c. omega arith)
-    (λ c. omega arith) (λ c. omega arith) (λ c κs. c.before.before.before.before.before.before.before.before.before.requires.0.small _)
+    (λ c. (rw c.pair_count-count.ensures (pair-count-small _ c.requires.1), refl, λ j h low. absurd (omega arith)))
+    (λ c κs. (c.requires.0, omega arith)) (λ c κs. omega arith) (λ c. (omega arith, λ b h. absurd (omega arith))) (λ c. omega arith)
+    (λ c. omega arith) (λ c. omega arith) (λ c κs. c.requires.0.small _)
     (λ c. omega arith) (λ c. omega arith) loop_again (λ c. omega arith) (λ c. omega arith) found_again returns returns_2 returns_3)

@@ -3,13 +3,13 @@ use Rattle.prelude.specs.Names.{arith, ◌*◌, ◌-◌}
 use Rattle.nodes.proofs.Snapshots.{Copying, copying_none, copying_next, stored}
 use Rattle.nodes.proofs.levels.save_rows.Tie as tie
 
-abbrev invariant_loop : tie.invariant_loop
+abbrev invariant_loop : tie.invariant-loop-i
 invariant_loop kept₀ level rows i₀ kept i = Copying 30 rows 0 kept₀ (level * 30) i kept
 
-abbrev decreases_loop : tie.decreases_loop
+abbrev decreases_loop : tie.decreases-loop-i
 decreases_loop kept₀ level rows i₀ kept i = 30 - i
 
 pub save_rows_spec : {M : Type 1} → Rattle.nodes.proofs.levels.save_rows.Statement.statement M
 save_rows_spec = tie.close (tie.spec invariant_loop decreases_loop (λ c. copying_none) (λ c. omega arith) (λ c. omega arith) (λ c. omega arith) (λ c. omega arith)
-    (λ c. omega arith) (λ c. omega arith) (λ c. omega arith) (λ c. omega arith) (λ c. copying_next c.before.before.loop.invariant (omega arith))
-    (λ c. stored c.before.before.requires c.before.loop.invariant c.loop-test.false))
+    (λ c. omega arith) (λ c. omega arith) (λ c. omega arith) (λ c. omega arith) (λ c. copying_next c.loop-i.invariant (omega arith))
+    (λ c. stored c.requires c.loop-i.invariant c.loop-i-test.false))

@@ -3,4 +3,4 @@ use Rattle.prelude.specs.Names.{refl, eq-eqb, ne_eqb}
 use Rattle.packing.proofs.axes.spacing_on.Tie as tie
 
 pub spacing_on_spec : {M : Type 1} → Rattle.packing.proofs.axes.spacing_on.Statement.statement M
-spacing_on_spec = tie.close (tie.spec (λ c. rw (eq-eqb _ _ c.if1.true) refl) (λ c. rw (ne_eqb _ _ c.if1.false) refl))
+spacing_on_spec = tie.close (tie.spec (λ c. rw (eq-eqb _ _ c.if-axis-eq2.true) refl) (λ c. rw (ne_eqb _ _ c.if-axis-eq2.false) refl))

@@ -5,10 +5,10 @@ use Rattle.packing.specs.Parts.{apart_from_lower}
 use Rattle.packing.proofs.Loops.{Passed, all_more, all_fails, all_done, apart_by}
 use Rattle.packing.proofs.feasible.apart.Tie as tie
 
-abbrev invariant_loop : tie.invariant_loop
+abbrev invariant_loop : tie.invariant-loop-u
 invariant_loop instance packing n u₀ u = Passed (apart_from_lower (problem_of instance) (positions_of packing)) n u
 
-abbrev decreases_loop : tie.decreases_loop
+abbrev decreases_loop : tie.decreases-loop-u
 decreases_loop instance packing n u₀ u = n - u
 
 pub apart_spec : {M : Type 1} → Rattle.packing.proofs.feasible.apart.Statement.statement M

@@ -7,10 +7,10 @@ use Rattle.packing.specs.Parts.{apart_from_lower}
 use Rattle.packing.proofs.Loops.{Passed, all_more, all_fails, all_done}
 use Rattle.packing.proofs.feasible.apart_from_lower_items.Tie as tie
 
-abbrev invariant_loop : tie.invariant_loop
+abbrev invariant_loop : tie.invariant-loop-v
 invariant_loop instance packing u v₀ v = Passed (apart_on_some_axis (problem_of instance) (positions_of packing) u) u v
 
-abbrev decreases_loop : tie.decreases_loop
+abbrev decreases_loop : tie.decreases-loop-v
 decreases_loop instance packing u v₀ v = u - v
 
 pub apart_from_lower_items_spec : {M : Type 1} → Rattle.packing.proofs.feasible.apart_from_lower_items.Statement.statement M

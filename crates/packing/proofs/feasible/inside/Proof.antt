@@ -5,10 +5,10 @@ use Rattle.packing.specs.Parts.{inside_on}
 use Rattle.packing.proofs.Loops.{Passed, all_more, all_fails, all_done, inside_loop}
 use Rattle.packing.proofs.feasible.inside.Tie as tie
 
-abbrev invariant_loop : tie.invariant_loop
+abbrev invariant_loop : tie.invariant-loop-axis
 invariant_loop instance packing axis₀ axis = Passed (inside_on (problem_of instance) (positions_of packing)) 3 axis
 
-abbrev decreases_loop : tie.decreases_loop
+abbrev decreases_loop : tie.decreases-loop-axis
 decreases_loop instance packing axis₀ axis = 3 - axis
 
 pub inside_spec : {M : Type 1} → Rattle.packing.proofs.feasible.inside.Statement.statement M

@@ -10,7 +10,7 @@ pub clearance_on_spec : {M : Type 1} → Rattle.packing.proofs.signed.clearance_
 unfolding clearance_between from_end_to_start end_of problem_of positions_of
 clearance_on_spec = tie.close (tie.spec (λ c κs. search rules) (λ c κs. search rules) (λ c κs. search rules) (λ c κs. search rules)
     (λ c κs. search rules)
-    (λ c. let b = c.before.before in let d = b.before.before.placed-item.ensures in let e = b.before.placed-item2.ensures in
-    i32_value c.greater.type-inv (c.greater.ensures
-    ∙ ap₂ greater_of (i32_value b.from-end.type-inv (b.from-end.ensures ∙ rw (d, e)))
-    (i32_value c.before.from-end2.type-inv (c.before.from-end2.ensures ∙ rw (d, e))))))
+    (λ c. let b = c.before.before in let d = b.placed_item-first.ensures in let e = b.placed_item-second.ensures in
+    i32_value c.greater.type_inv (c.greater.ensures
+    ∙ ap₂ greater_of (i32_value b.from_end.type_inv (b.from_end.ensures ∙ rw (d, e)))
+    (i32_value c.from_end-2.type_inv (c.from_end-2.ensures ∙ rw (d, e))))))

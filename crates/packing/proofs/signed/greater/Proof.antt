@@ -7,6 +7,6 @@ use Rattle.packing.proofs.signed.greater.Tie as tie
 pub greater_spec : {M : Type 1} → Rattle.packing.proofs.signed.greater.Statement.statement M
 unfolding greater_of
 greater_spec = tie.close (tie.spec (λ c. let s = c.before in let b = to_z-of_z w32 s.args.b s.ranges.b in
-    rw (rw (to_z-of_z w32 s.args.a s.ranges.a, b) at c.if1.true) b)
+    rw (rw (to_z-of_z w32 s.args.a s.ranges.a, b) at c.if-a-b.true) b)
     (λ c. let s = c.before in let a = to_z-of_z w32 s.args.a s.ranges.a in
-    rw (rw (a, to_z-of_z w32 s.args.b s.ranges.b) at c.if1.false) a))
+    rw (rw (a, to_z-of_z w32 s.args.b s.ranges.b) at c.if-a-b.false) a))

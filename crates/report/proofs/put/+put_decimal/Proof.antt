@@ -27,20 +27,20 @@ length_one n l = rw (decimal_one n l)
 length_more : (n : ℕ) → 10 ≤ n → length (decimal n) ≡ length (decimal (n / 10)) + 1
 length_more n l = rw (decimal-more n l, length-append)
 
-last_digit : (t : ℕ) → lts.Need-returns-2 (below t, put-decimal.Post) (of_size t) put-decimal.Post
+last_digit : (t : ℕ) → lts.Need-returns (below t, put-decimal.Post) (of_size t) put-decimal.Post
 last_digit t c =
     let a = c.before.before.before.before.before.before.args in
-    let e = decimal-more a.n c.before.before.before.before.if1.false in
-    let w = c.before.before.put-decimal.ensures in
+    let e = decimal-more a.n c.before.before.before.before.if-n-lt10.false in
+    let w = c.before.before.put_decimal-k.ensures in
     (rw (e, length-append) (omega (arith, w.0)), rw (e, w.1, w.0) (sets_append (decimal (a.n / 10)) ((48 + a.n % 10) ∷ []) a.out.now a.at))
 
 pub +put_decimal_spec : {M : Type 1} → statement M
 +put_decimal_spec = close μ_put-decimal λ t. lts.spec (below t, put-decimal.Post) (of_size t) put-decimal.Post (λ c. search rules) (λ c. search rules)
-    (λ c. omega (arith, length_one _ c.if1.true)) (λ c. omega (arith, length_one _ c.if1.true))
-    (λ c. simp length-set) (λ c. let e = decimal_one c.before.before.args.n c.if1.true in (rw e, rw e))
+    (λ c. omega (arith, length_one _ c.if-n-lt10.true)) (λ c. omega (arith, length_one _ c.if-n-lt10.true))
+    (λ c. simp length-set) (λ c. let e = decimal_one c.before.before.args.n c.if-n-lt10.true in (rw e, rw e))
     (λ c κs. let a = c.before.before.before.args in
-    (omega (arith, div-lt_self {n = a.n} {k = 10} (omega arith) (omega arith)), omega (arith, length_more a.n c.before.if1.false)))
+    (omega (arith, div-lt_self {n = a.n} {k = 10} (omega arith) (omega arith)), omega (arith, length_more a.n c.before.if-n-lt10.false)))
     (λ c. search rules) (λ c. search rules)
-    (λ c. omega (arith, c.before.before.put-decimal.auto.0, length_more _ c.before.before.before.before.if1.false))
-    (λ c. omega (arith, length_more _ c.before.before.before.before.if1.false))
-    (λ c. simp length-set c.before.before.put-decimal.auto.0) (last_digit t)
+    (λ c. omega (arith, c.before.before.put_decimal-k.auto.out, length_more _ c.before.before.before.before.if-n-lt10.false))
+    (λ c. omega (arith, length_more _ c.before.before.before.before.if-n-lt10.false))
+    (λ c. simp length-set c.before.before.put_decimal-k.auto.out) (last_digit t)

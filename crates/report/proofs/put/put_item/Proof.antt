@@ -6,15 +6,15 @@ use Rattle.report.specs.Text.{item_line}
 use Rattle.report.proofs.Decimals.{decimal_short}
 use Rattle.report.proofs.put.put_item.Tie as tie
 
-put-fields_requires : tie.Need-put-fields-requires
+put-fields_requires : tie.Need-put_fields-requires
 put-fields_requires c κs =
     let number = c.before.before.before.before.before.before in
     let start = number.before.before.before in
     let p = start.args.p in
-    let w = number.put-decimal in
+    let w = number.put_decimal-a in
     let s = item_short p.x p.y p.t start.args.mark
     (omega (arith, c.before.before)) (omega (arith, c.before)) (omega arith) (omega (arith, start.ranges.mark)) in
-    (omega arith, omega (arith, w.auto.0, w.ensures.0, decimal_short 0 start.args.u (omega (arith, start.requires))))
+    (omega arith, omega (arith, w.auto.out, w.ensures.0, decimal_short 0 start.args.u (omega (arith, start.requires))))
 
 returns : tie.Need-returns
 unfolding item_line
@@ -24,8 +24,8 @@ returns c =
     let start = number.before.before.before in
     let a = start.args in
     let p = a.p in
-    let w = number.put-decimal.ensures in
-    let f = c.before.before.put-fields.ensures in
+    let w = number.put_decimal-a.ensures in
+    let f = c.put_fields.ensures in
     let s = item_short p.x p.y p.t a.mark
     (omega (arith, last.before.before)) (omega (arith, last.before)) (omega arith) (omega (arith, start.ranges.mark)) in
     let d = decimal_short 0 a.u (omega (arith, start.requires)) in
@@ -33,7 +33,7 @@ returns c =
     ((l.0, omega (arith, w.0, f.0)), l.1)
 
 pub put_item_spec : {M : Type 1} → Rattle.report.proofs.put.put_item.Statement.statement M
-put_item_spec = tie.close (tie.spec (λ c κs. omega (arith, decimal_short 0 c.before.before.args.u (omega arith))) (λ c. search rules)
+put_item_spec = tie.close (tie.spec (λ c κs. omega (arith, decimal_short 0 c.args.u (omega arith))) (λ c. search rules)
     (λ c. search rules) (λ c. search rules) put-fields_requires
     (λ c. let f = c.before.before in
-    omega (arith, f.put-fields.auto.0, f.before.before.before.before.before.before.before.put-decimal.auto.0)) returns)
+    omega (arith, f.put_fields.auto.out, f.put_decimal-a.auto.out)) returns)

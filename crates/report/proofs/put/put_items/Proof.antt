@@ -5,7 +5,7 @@ use Rattle.report.specs.Text.{item_lines}
 use Rattle.report.proofs.Puts.{items-none, items-next}
 use Rattle.report.proofs.put.put_items.Tie as tie
 
-abbrev invariant_loop : tie.invariant_loop
+abbrev invariant_loop : tie.invariant-loop-u
 invariant_loop out₀ at n positions marks k₀ u₀ out k u =
     let lines = item_lines (record { positions = positions; marks = marks }) u in
     (u ≤ n)
@@ -14,31 +14,31 @@ invariant_loop out₀ at n positions marks k₀ u₀ out k u =
     × (length out ≡ length out₀)
     × (k ≤ at + 24 * u)
 
-abbrev decreases_loop : tie.decreases_loop
+abbrev decreases_loop : tie.decreases-loop-u
 decreases_loop out₀ at n positions marks k₀ u₀ out k u = n - u
 
-loop_holds : tie.Need-loop-init invariant_loop decreases_loop
+loop_holds : tie.Need-loop-u-init invariant_loop decreases_loop
 loop_holds c = (omega arith, rw items-none (sym (add-zero _)), rw items-none refl, refl, omega arith)
 
-loop_again : tie.Need-loop-preserved invariant_loop decreases_loop
+loop_again : tie.Need-loop-u-preserved invariant_loop decreases_loop
 loop_again c =
     let round = c.before.before.before.before.before.before in
-    let l = round.loop in
-    let w = c.before.before.put_item in
-    let next = items-next round.before.before.before.before.args.packing l.u in (
+    let l = round.loop-u in
+    let w = c.put_item-k in
+    let next = items-next round.args.packing l.u in (
       search rules,
       rw (next, length-append) (omega (arith, w.ensures.0.0)),
       rw (next, w.ensures.1, l.invariant.1, l.invariant.2, sets_append),
-      omega (arith, w.auto.0),
+      omega (arith, w.auto.out),
       omega (arith, w.ensures.0.1),
     )
 
 returns : tie.Need-returns invariant_loop decreases_loop
 returns c =
-    let l = c.before.loop in
-    let e : l.u ≡ c.before.before.before.before.before.args.n = omega arith in
+    let l = c.loop-u in
+    let e : l.u ≡ c.args.n = omega arith in
     ((rw (← e) l.invariant.1, omega arith), rw (← e) l.invariant.2)
 
 pub put_items_spec : {M : Type 1} → Rattle.report.proofs.put.put_items.Statement.statement M
 put_items_spec = tie.close (tie.spec invariant_loop decreases_loop loop_holds (λ c. search rules) (λ c. search rules) (λ c. search rules) (λ c κs. (omega arith, omega arith))
-    (λ c. search rules) (λ c. search rules) loop_again (λ c. c.before.loop.invariant.3) returns)
+    (λ c. search rules) (λ c. search rules) loop_again (λ c. c.loop-u.invariant.3) returns)
