@@ -49,7 +49,7 @@ names_proper n o h =
     let r = and_both _ _ q.1 in
     record { axis = omega arith; item_u = ltb-true _ _ q.0; item_v = ltb-true _ _ r.0; distinct = eqb-false _ _ (not-true _ r.1) }
 
-pub allowed-proper : (n : ℕ) (last : Previous) {l : List Precedence} → all_allowed n last (map arc_of l) ≡ true → {o : Precedence} → Mem o l
+pub allowed-proper : (n : ℕ) {o : Precedence} (last : Previous) {l : List Precedence} → all_allowed n last (map arc_of l) ≡ true → Mem o l
     → Proper n M.time o.predecessor o.successor
 unfolding all_allowed
 allowed-proper n last h (mem-head {x = x} e) = rw e (names_proper n (arc_of x) (and_both _ _ (and_both _ _ h).0).0)

@@ -12,50 +12,48 @@ use Rattle.opening.proofs.Sound.{container-measures, item-measures}
 use Rattle.opening.proofs.Layouts.{first-items, laid_none, measures-none, laid_next, measures-next, walkway-most, laid-all}
 use Rattle.opening.proofs.layout.put_items.Tie as tie
 
-abbrev invariant_loop : tie.invariant_loop
+abbrev invariant_loop : tie.invariant-loop-u
 invariant_loop t₀ n items walkway u₀ t u = (u ≤ n) × LaidOut (first-items items walkway t₀ u) t × Measures t
 
-abbrev decreases_loop : tie.decreases_loop
+abbrev decreases_loop : tie.decreases-loop-u
 decreases_loop t₀ n items walkway u₀ t u = n - u
 
 -- Within the loop: the next item is one of ten, and its measures are a valid instance's
-module _ (c : tie.In-loop invariant_loop decreases_loop) where
+module _ (c : tie.In-loop-u invariant_loop decreases_loop) where
   abbrev i : Instance
-  i = c.before.before.before.before.before.args.instance
+  i = c.args.instance
 
   abbrev u : ℕ
-  u = c.before.loop.u
+  u = c.loop-u.u
 
   abbrev size : Size
   size = (get_or i.items u no_item).size
 
   room : u < 10
-  room = let s = c.before.before.before.before.before in omega (arith, (valid-says s.args.instance s.requires.1).items-few, c.loop-test.true)
+  room = omega (arith, (valid-says c.args.instance c.requires.1).items-few, c.loop-u-test.true)
 
   most : (a : ℕ) → a < 3 → measure_on a size ≤ max_measure
-  most a ha = let s = c.before.before.before.before.before in
-      (item-measures i s.requires.1 (search length_mapped) a u ha c.loop-test.true).1
+  most a ha = (item-measures i c.requires.1 (search length_mapped) a u ha c.loop-u-test.true).1
 
-loop_holds : tie.Need-loop-init invariant_loop decreases_loop
+loop_holds : tie.Need-loop-u-init invariant_loop decreases_loop
 loop_holds c =
-    let s = c.before.before.before in
-    let i = s.args.instance in
-    let (is, less) = c.with_walkway.ensures in
-    rw s.requires.0 (
+    let i = c.args.instance in
+    let (is, less) = c.with_walkway-capacity.ensures in
+    rw c.requires.0 (
       omega arith,
-      laid_none c.with_walkway.result i.items i.walkway,
-      measures-none c.with_walkway.result
-          (rw is (λ a ha. walkway-most i a ha i.container less (container-measures i s.requires.1 a ha))),
+      laid_none c.with_walkway-capacity.result i.items i.walkway,
+      measures-none c.with_walkway-capacity.result
+          (rw is (λ a ha. walkway-most i a ha i.container less (container-measures i c.requires.1 a ha))),
     )
 
-loop_again : tie.Need-loop-preserved invariant_loop decreases_loop
+loop_again : tie.Need-loop-u-preserved invariant_loop decreases_loop
 loop_again c =
     let more = c.before.before.before.before.before in
-    let l = more.before.loop in
-    let r = more.before.before.with_walkway.result in
-    let held = set (set (set more.before.before.before.before.before.args.t.now 90 r.width) 91 r.depth) 92 r.shifts in
+    let l = more.loop-u in
+    let r = more.with_walkway-capacity.result in
+    let held = set (set (set more.args.t.now 90 r.width) 91 r.depth) 92 r.shifts in
     let i = i more in
-    let (is, less) = c.before.with-walkway2.ensures in (
+    let (is, less) = c.with_walkway.ensures in (
       omega arith,
       rw (c.put_item.ensures, is) (laid_next i.items i.walkway held l.t l.u (room more) l.invariant.1),
       rw (c.put_item.ensures, is) (measures-next i.items i.walkway held l.t l.u (room more) l.invariant.1
@@ -64,10 +62,10 @@ loop_again c =
 
 returns : tie.Need-returns invariant_loop decreases_loop
 returns c =
-    let l = c.before.loop in
+    let l = c.loop-u in
     let w = c.before.before in
     let s = w.before.before.before in
-    (laid-all s.args.instance l.u (omega (arith, l.invariant.0)) (rw (s.requires.0, w.with_walkway.ensures.0) at l.invariant.1), l.invariant.2)
+    (laid-all s.args.instance l.u (omega (arith, l.invariant.0)) (rw (s.requires.0, w.with_walkway-capacity.ensures.0) at l.invariant.1), l.invariant.2)
 
 pub put_items_spec : {M : Type 1} → Rattle.opening.proofs.layout.put_items.Statement.statement M
 put_items_spec = tie.close (tie.spec invariant_loop decreases_loop
@@ -75,5 +73,5 @@ put_items_spec = tie.close (tie.spec invariant_loop decreases_loop
     (λ c. search rules) (λ c. search rules) (λ c. search rules) (λ c. search rules) (λ c. search rules) (λ c. search rules) (λ c. search rules)
     loop_holds (λ c. omega (arith, room c)) (λ c. omega (arith, room c))
     (λ c κs. let most = most c.before.before.before in (most 0 (omega arith), most 1 (omega arith)))
-    (λ c κs. let more = c.before.before.before.before in (more.before.loop.invariant.1.long, room more)) (λ c. search rules) (λ c. search rules)
+    (λ c κs. let more = c.before.before.before.before in (more.loop-u.invariant.1.long, room more)) (λ c. search rules) (λ c. search rules)
     loop_again returns)

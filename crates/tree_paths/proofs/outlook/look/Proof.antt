@@ -7,13 +7,13 @@ use Rattle.tree_paths.specs.Looks.{Looked, Lookable}
 use Rattle.tree_paths.proofs.Seeing.{looked_conflict, seen, outlook-of, looked_chosen, seen_passed}
 use Rattle.tree_paths.proofs.outlook.look.Tie as tie
 
-returns : tie.Need-returns
+returns : tie.Need-returns-then-not-propagate
 returns c =
-    let (h, f) = c.before.propagate.ensures in (
+    let (h, f) = c.propagate.ensures in (
       h,
       λ p path l.
           looked_conflict p l.sound path l.at
-          (rw (not-true c.before.propagate.result c.if1.true) at (f (wide p) l.at.ready)),
+          (rw (not-true c.propagate.result c.if-not-propagate.true-raw) at (f (wide p) l.at.ready)),
     )
 
 -- where the domains are consistent: what is seen of every path that they are of
@@ -28,18 +28,18 @@ shown c p path l =
     let s = seen p l.sound path l.at φ in
     looked_chosen p path s l.count c.choose.result (c.choose.ensures (seen_passed p path s l.count l.passed))
 
-returns_2 : tie.Need-returns-2
+returns_2 : tie.Need-returns-in-Packed
 returns_2 c =
-    let b = c.before.before in
-    (b.before.before.before.propagate.ensures.0, λ p path l. rw c.enum_told.given.1 at (shown b p path l))
+    let b = c.before in
+    (b.propagate.ensures.0, λ p path l. rw c.in-Packed.is at (shown b p path l))
 
-returns_3 : tie.Need-returns-3
+returns_3 : tie.Need-returns-in-At
 returns_3 c =
-    let b = c.before.before.before in
-    (b.before.before.before.propagate.ensures.0, λ p path l. rw c.before.place.given.1 at (shown b p path l))
+    let b = c.before in
+    (b.propagate.ensures.0, λ p path l. rw c.in-At.is at (shown b p path l))
 
 pub look_spec : {M : Type 1} → Rattle.tree_paths.proofs.outlook.look.Statement.statement M
 look_spec = tie.close (tie.spec (λ c κs. search rules) returns
-    (λ c κs. let (limited, known) = c.before.before.before.before.before.before.before.requires in let e = c.before.before.propagate in
-    let h = rw (not-false e.result c.before.if1.false) at (e.ensures.1 known.0 known.1) in
+    (λ c κs. let (limited, known) = c.before.before.before.before.before.before.before.requires in let e = c.propagate in
+    let h = rw (not-false e.result c.if-not-propagate.false-raw) at (e.ensures.1 known.0 known.1) in
     (h.rested.laid.well_formed, limited)) (λ c. search rules) (λ c. search rules) returns_2 returns_3)

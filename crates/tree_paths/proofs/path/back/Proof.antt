@@ -8,33 +8,33 @@ use lib.ListN as L
 use Rattle.model.specs.Search as S
 use Rattle.tree_paths.proofs.path.back.Tie as tie
 
-abbrev invariant_loop : tie.invariant_loop
+abbrev invariant_loop : tie.invariant-loop-left
 invariant_loop branches₀ length left₀ branches left =
     (left ≤ length)
     × (L.length branches ≡ 270)
     × ((start : List Branch) → PathIn start branches₀ length
     → (path : List Branch) × PathIn path branches left × (S.backtrack start ≡ S.backtrack path))
 
-abbrev decreases_loop : tie.decreases_loop
+abbrev decreases_loop : tie.decreases-loop-left
 decreases_loop branches₀ length left₀ branches left = left
 
-returns : tie.Need-returns invariant_loop decreases_loop
+returns : tie.Need-returns-then-branches-left-eq0 invariant_loop decreases_loop
 returns c = λ start h.
-    let (path, g, e) = c.before.before.before.loop.invariant.2 start h in
-    rw e (back-at-first path g (omega arith) (omega (arith, c.before.before.before.before.requires.1)) c.if1.true)
+    let (path, g, e) = c.loop-left.invariant.2 start h in
+    rw e (back-at-first path g (omega arith) (omega (arith, c.requires.1)) c.if-branches-left-eq0.true)
 
-loop_again : tie.Need-loop-preserved invariant_loop decreases_loop
+loop_again : tie.Need-loop-left-preserved invariant_loop decreases_loop
 loop_again c = (
   omega arith,
-  simp length-set c.before.before.before.loop.invariant.1,
+  simp length-set c.loop-left.invariant.1,
   λ start h.
-      let (path, g, e) = c.before.before.before.loop.invariant.2 start h in
-      let (rest, f, d) = back-at_second path g (omega arith) (omega (arith, c.before.before.before.before.requires.1)) c.if1.false in
+      let (path, g, e) = c.loop-left.invariant.2 start h in
+      let (rest, f, d) = back-at_second path g (omega arith) (omega (arith, c.requires.1)) c.if-branches-left-eq0.false in
       (rest, f, e ∙ d),
 )
 
-returns_2 : tie.Need-returns-2 invariant_loop decreases_loop
-returns_2 c = λ start h. let (path, g, e) = c.before.loop.invariant.2 start h in rw e (back-at_root path g (omega arith))
+returns_2 : tie.Need-returns invariant_loop decreases_loop
+returns_2 c = λ start h. let (path, g, e) = c.loop-left.invariant.2 start h in rw e (back-at_root path g (omega arith))
 
 pub back_spec : {M : Type 1} → Rattle.tree_paths.proofs.path.back.Statement.statement M
 back_spec = tie.close (tie.spec invariant_loop decreases_loop (λ c. (omega arith, c.requires.0, λ start h. (start, h, refl))) (λ c. omega arith) (λ c. omega arith)

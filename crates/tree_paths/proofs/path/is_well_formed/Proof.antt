@@ -3,20 +3,20 @@ use Rattle.prelude.specs.Names.{rules, le-leb, lt-leb, not-true, not-false}
 use Rattle.tree_paths.specs.Checkpoints.{well_formed}
 use Rattle.tree_paths.proofs.path.is_well_formed.Tie as tie
 
-returns_2 : tie.Need-returns-2
+returns_2 : tie.Need-returns-then-not-length_allowed
 unfolding well_formed
 returns_2 c =
     let b = c.before in
-    simp (le-leb _ _ b.before.if1.false, ← b.length_allowed.ensures, not-true b.length_allowed.result c.if2.true)
+    simp (le-leb _ _ b.if-length-gt-MAX_BRANCHES.false, ← b.length_allowed.ensures, not-true b.length_allowed.result c.if-not-length_allowed.true-raw)
 
-returns_3 : tie.Need-returns-3
+returns_3 : tie.Need-returns
 unfolding well_formed
 returns_3 c =
     let e = c.before.before in
     let b = e.before in
-    simp (le-leb _ _ b.before.if1.false, ← b.length_allowed.ensures, not-false b.length_allowed.result e.if2.false)
+    simp (le-leb _ _ b.if-length-gt-MAX_BRANCHES.false, ← b.length_allowed.ensures, not-false b.length_allowed.result e.if-not-length_allowed.false-raw)
     c.all_branches.ensures
 
 pub is_well_formed_spec : {M : Type 1} → Rattle.tree_paths.proofs.path.is_well_formed.Statement.statement M
 unfolding well_formed
-is_well_formed_spec = tie.close (tie.spec (λ c. simp (lt-leb _ _ c.if1.true)) (λ c κs. search rules) returns_2 (λ c κs. search rules) returns_3)
+is_well_formed_spec = tie.close (tie.spec (λ c. simp (lt-leb _ _ c.if-length-gt-MAX_BRANCHES.true)) (λ c κs. search rules) returns_2 (λ c κs. search rules) returns_3)
