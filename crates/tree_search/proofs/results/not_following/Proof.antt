@@ -6,4 +6,4 @@ use Rattle.tree_search.proofs.results.not_following.Tie as tie
 
 pub not_following_spec : {M : Type 1} → Rattle.tree_search.proofs.results.not_following.Statement.statement M
 unfolding not_following branches_of
-not_following_spec = tie.close (tie.spec (λ c κs. search rules) (λ c. rw c.origins.ensures))
+not_following_spec = tie.close (tie.spec (λ c κs. search rules) (λ c. rw c.origins-positions.ensures))

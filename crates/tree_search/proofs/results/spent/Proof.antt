@@ -5,4 +5,4 @@ use Rattle.tree_search.proofs.results.spent.Tie as tie
 
 pub spent_spec : {M : Type 1} → Rattle.tree_search.proofs.results.spent.Statement.statement M
 unfolding spent_after
-spent_spec = tie.close (tie.spec (λ c κs. search rules) (λ c. rw c.origins.ensures))
+spent_spec = tie.close (tie.spec (λ c κs. search rules) (λ c. rw c.origins-positions.ensures))
