@@ -84,11 +84,11 @@ abbrev head : tie.After-look invariant_loop decreases_loop → tie.At-loop-looks
 head c = c.before.before.before.before.before.before
 
 abbrev Sees : tie.After-look invariant_loop decreases_loop → Outlook → Type 0
-Sees c o = Looked (problem (head c)) (head c).loop-looks.invariant.path c.look.new.0 c.look.new.1.0 c.look.new.1.1.1.0 o
+Sees c o = Looked (problem (head c)) (head c).loop-looks.invariant.path c.look.new.k c.look.new.rows c.look.new.t o
 
 seen : (c : tie.After-look invariant_loop decreases_loop) {o : Outlook} → c.look.result ≡ o → Sees c o
 seen c e =
-    let h = (head c).loop.invariant in
+    let h = (head c).loop-looks.invariant in
     subst (Sees c) e (c.look.ensures.1 (problem (head c)) h.path
     (record { sound = sound (head c); count = count (start (head c)).args.instance; at = h.state.at; passed = h.state.passed }))
 
@@ -100,19 +100,19 @@ conflict : (c : tie.In-Conflict invariant_loop decreases_loop) → Sees c.before
 conflict c = seen c.before c.in-Conflict.is
 
 backed : (c : tie.After-back-depth invariant_loop decreases_loop) → let h = head c.before.before.before.before in
-    Backed (S.backtrack h.loop-looks.inv.path) c.back-depth.new.0 c.back-depth.result
+    Backed (S.backtrack h.loop-looks.invariant.path) c.back-depth.new.branches c.back-depth.result
 backed c =
-    let h = (head c.before.before.before.before).loop.inv in
+    let h = (head c.before.before.before.before).loop-looks.invariant in
     c.back-depth.ensures h.path (record { many = h.state.deep; entries = (h.progress.late (omega (arith, c.if-looks-length.false))).held })
 
 abbrev last_look : tie.Else-depth-eq0 invariant_loop decreases_loop → tie.After-look invariant_loop decreases_loop
-last_look c = c.before.before.before.before.before.before
+last_look c = c.before.before.before.before.before
 
-back : (c : tie.Else-depth-eq0 invariant_loop decreases_loop) → BackTo (problem (head (last_look c))) (head (last_look c)).loop.inv.path
-back c = let h = head (last_look c) in back_exists (problem h) h.loop.inv.path h.loop.inv.state.forks (backed c.before) c.if-depth-eq0.false
+back : (c : tie.Else-depth-eq0 invariant_loop decreases_loop) → BackTo (problem (head (last_look c))) (head (last_look c)).loop-looks.invariant.path
+back c = let h = head (last_look c) in back_exists (problem h) h.loop-looks.invariant.path h.loop-looks.invariant.state.forks (backed c.before) c.if-depth-eq0.false
 
-last_level_small : (c : tie.Else-depth-eq0 invariant_loop decreases_loop) → (head (last_look c)).loop.kept - 1 < 90
-last_level_small c = let h = head (last_look c) in back_below (sound h) h.loop.inv.state (back c)
+last_level_small : (c : tie.Else-depth-eq0 invariant_loop decreases_loop) → (head (last_look c)).loop-looks.kept - 1 < 90
+last_level_small c = let h = head (last_look c) in back_below (sound h) h.loop-looks.invariant.state (back c)
 
 -- where a branch is known to be left, before its snapshot is loaded
 abbrev before_loads : tie.After-load_totals invariant_loop decreases_loop → tie.Else-depth-eq0 invariant_loop decreases_loop
@@ -121,12 +121,12 @@ before_loads c = c.before.before.before.before.before.before.before.before.befor
 -- the branching point that is gone back to, loaded
 loaded : (c : tie.After-load_totals invariant_loop decreases_loop) → let e = before_loads c in let h = head (last_look e) in
     let r = c.before.before.before in let d = r.before.before.before in
-    Restored (sound h) h.loop.inv.state (back e) d.load_domains.new.1.1.0 r.load_rows.new.1.1.0 c.load_totals.new.1.1.0
+    Restored (sound h) h.loop-looks.invariant.state (back e) d.load_domains.new.k r.load_rows.new.rows c.load_totals.new.t
 loaded c =
     let e = before_loads c in
     let h = head (last_look e) in
     let r = c.before.before.before in
-    restored (sound h) h.loop.inv.state (back e) (last_look e).look.ensures.0 r.load_domains.ensures
+    restored (sound h) h.loop-looks.invariant.state (back e) (last_look e).look.ensures.0 r.load_domains.ensures
     r.load_rows.ensures c.load_totals.ensures
 
 -- a complete path
@@ -135,22 +135,22 @@ complete c = seen c.before c.in-Complete.is
 
 -- a branching point
 abbrev place : tie.In-Fork invariant_loop decreases_loop → Place
-place c = c.place.given.0.0
+place c = c.in-Fork.place
 
 abbrev fork_head : tie.In-Fork invariant_loop decreases_loop → tie.At-loop-looks invariant_loop decreases_loop
-fork_head c = head c.before.before
+fork_head c = head c.before
 
 forked : (c : tie.In-Fork invariant_loop decreases_loop) → Sees c.before (Fork (place c))
 forked c = seen c.before c.in-Fork.is
 
-level_small : (c : tie.In-Fork invariant_loop decreases_loop) → (fork_head c).loop.auto < 90
-level_small c = let h = fork_head c in fork_level (sound h) h.loop.inv.state (forked c).0
+level_small : (c : tie.In-Fork invariant_loop decreases_loop) → (fork_head c).loop-looks.kept < 90
+level_small c = let h = fork_head c in fork_level (sound h) h.loop-looks.invariant.state (forked c).0
 
-depth_small : (c : tie.In-Fork invariant_loop decreases_loop) → (fork_head c).loop.depth < 270
-depth_small c = let h = fork_head c in fork_depth (sound h) h.loop.inv.state (forked c).0
+depth_small : (c : tie.In-Fork invariant_loop decreases_loop) → (fork_head c).loop-looks.depth < 270
+depth_small c = let h = fork_head c in fork_depth (sound h) h.loop-looks.invariant.state (forked c).0
 
 abbrev at_fork : tie.After-code invariant_loop decreases_loop → tie.In-Fork invariant_loop decreases_loop
-at_fork c = c.before.before.before.before.before.before.before.before.before.before.before
+at_fork c = c.before.before.before.before.before.before.before.before.before.before
 
 returns : tie.Need-returns-then-not-root invariant_loop decreases_loop
 returns c =
@@ -177,7 +177,7 @@ returns_2 : tie.Need-returns-then-looks-length invariant_loop decreases_loop
 returns_2 c =
     let h = head c.before.before.before in
     c.not_following.ensures
-    ∙ comes_of h (result_not_following h.loop-looks.inv.progress (omega (arith, c.if-looks-length.true)) (rw (conflict c.before.before)))
+    ∙ comes_of h (result_not_following h.loop-looks.invariant.progress (omega (arith, c.if-looks-length.true)) (rw (conflict c.before.before)))
 
 returns_3 : tie.Need-returns-then-depth-eq0 invariant_loop decreases_loop
 returns_3 c =
@@ -185,9 +185,9 @@ returns_3 c =
     let l = b.before.before.before.before in
     let h = head l in
     c.infeasible.ensures
-    ∙ comes_of h (result_infeasible h.loop-looks.inv.progress (omega (arith, b.if-looks-length.false)) (looks_left l)
+    ∙ comes_of h (result_infeasible h.loop-looks.invariant.progress (omega (arith, b.if-looks-length.false)) (looks_left l)
     (conflict b.before.before.before)
-    (back-infeasible (problem h) h.loop.inv.path h.loop.inv.state.forks (backed b) c.if-depth-eq0.true))
+    (back-infeasible (problem h) h.loop-looks.invariant.path h.loop-looks.invariant.state.forks (backed b) c.if-depth-eq0.true))
 
 loop_again : tie.Need-loop-looks-preserved-in-Conflict invariant_loop decreases_loop
 loop_again c =
@@ -195,13 +195,13 @@ loop_again c =
     let e = before_loads o.before in
     let l = last_look e in
     let h = head l in
-    let δ = back_branches (problem h) h.loop.inv.path h.loop.inv.state.forks (backed e.before) (back e) in
+    let δ = back_branches (problem h) h.loop-looks.invariant.path h.loop-looks.invariant.state.forks (backed e.before) (back e) in
     record {
       within = omega (arith, looks_left l);
       path = _;
-      state = state-back (sound h) h.loop.inv.state (back e) (loaded o.before) o.place_of-place.result o.place_of-place.ensures
+      state = state-back (sound h) h.loop-looks.invariant.state (back e) (loaded o.before) o.place_of-place.result o.place_of-place.ensures
           l.look.ensures.0.0.queue c.apply_branch.ensures c.pair_number-from.ensures δ.many;
-      progress = progress_back h.loop.inv.progress (omega (arith, e.before.before.before.if2.left)) (looks_left l)
+      progress = progress_back h.loop-looks.invariant.progress (omega (arith, e.if-looks-length.false)) (looks_left l)
           (conflict e.before.before.before.before) (back e) δ;
     }
 
@@ -209,12 +209,12 @@ returns_4 : tie.Need-returns-then-looks-length-2 invariant_loop decreases_loop
 returns_4 c =
     let h = head c.before.before.before in
     c.not_following-then-looks-length-2.ensures
-    ∙ comes_of h (result_not_following h.loop-looks.inv.progress (omega (arith, c.if-looks-length-2.true)) (rw (complete c.before.before).0))
+    ∙ comes_of h (result_not_following h.loop-looks.invariant.progress (omega (arith, c.if-looks-length-2.true)) (rw (complete c.before.before).0))
 
 returns_5 : tie.Need-returns-in-Complete invariant_loop decreases_loop
 returns_5 c =
     let h = head c.before.before.before.before.before in
-    let i = h.loop-looks.inv in
+    let i = h.loop-looks.invariant in
     let (l, s) = complete c.before.before.before.before in
     let q : L.length c.starts_of-positions.result ≡ 10 = search length_mapped in
     c.packed.ensures
@@ -229,16 +229,16 @@ loop_again_2 c =
     let w = at_fork d in
     let (f, s, e) = forked w in
     let h = fork_head w in
-    let (long, same) = w.before.before.look.ensures.0 in
+    let (long, same) = w.look.ensures.0 in
     record {
-      within = omega (arith, looks_left w.before.before);
+      within = omega (arith, looks_left w.before);
       path = _;
-      state = state-next (sound h) h.loop.inv.state f (same_behind same) (place w) _
+      state = state-next (sound h) h.loop-looks.invariant.state f (same_behind same) (place w) _
           d.save_domains.ensures d.save_rows.ensures
           d.save_totals.ensures s e d.code.ensures _ (branch_small h) long.queue c.apply_branch-in-Fork.ensures
           c.pair_number-from-in-Fork.ensures;
-      progress = progress_fork h.loop.inv.progress f h.loop.inv.state.forks (start h).pre.1.within (looks_left w.before.before)
-          h.loop.inv.state.deep;
+      progress = progress_fork h.loop-looks.invariant.progress f h.loop-looks.invariant.state.forks (start h).requires.1.within (looks_left w.before)
+          h.loop-looks.invariant.state.deep;
     }
 
 returns_6 : tie.Need-returns invariant_loop decreases_loop
@@ -252,44 +252,44 @@ pub run_spec : {M : Type 1} → Rattle.tree_search.proofs.run.Statement.statemen
 run_spec = tie.close (tie.spec invariant_loop decreases_loop (λ c κs. search rules) (λ c κs. search rules) returns
     (λ c. omega (arith, c.requires.1.within))
     (λ c κs. c.requires.1) loop_holds
-    (λ c. omega (arith, (start c.before).pre.1.within)) (λ c κs. let h = c.before.before.before.before.before in
+    (λ c. omega (arith, (start c.before).requires.1.within)) (λ c κs. let h = c.before.before.before.before.before in
     (rw (count (start h).args.instance) at (sound h).limited, (wide (problem h), h.loop-looks.invariant.state.at.ready))) (λ c. search rules)
-    (λ c κs. search rules) returns_2 (λ c κs. let h = head c.before.before.before in let i = h.loop.inv in (
+    (λ c κs. search rules) returns_2 (λ c κs. let h = head c.before.before.before in let i = h.loop-looks.invariant in (
       ap L.length (i.progress.late (omega (arith, c.if-looks-length.false))).held ∙ branches_length i.path,
       omega (arith, i.state.deep, path_270 (problem h) (sound h) i.path i.state.forks),
     )) (λ c. omega arith) (λ c. omega (arith, looks_left c.before.before.before.before.before)) (λ c κs. search rules) returns_3
-    (λ c. let h = head (last_look c) in omega (arith, back_level (sound h) h.loop.inv.state (back c)))
+    (λ c. let h = head (last_look c) in omega (arith, back_level (sound h) h.loop-looks.invariant.state (back c)))
     (λ c κs. let e = c.before.before in let l = last_look e in
-    record { room = (head l).loop.inv.state.room.domains; level_below = last_level_small e; enough = omega (arith, l.look.ensures.0.0.domains) })
+    record { room = (head l).loop-looks.invariant.state.room.domains; level_below = last_level_small e; enough = omega (arith, l.look.ensures.0.0.domains) })
     (λ c κs. let e = c.before.before.before.before.before in let l = last_look e in
-    record { room = (head l).loop.inv.state.room.rows; level_below = last_level_small e; enough = omega (arith, l.look.ensures.0.0.rows_long) })
-    (λ c κs. let e = c.before.before.before.before.before.before.before.before in let l = last_look e in let σ = (head l).loop.inv.state in
+    record { room = (head l).loop-looks.invariant.state.room.rows; level_below = last_level_small e; enough = omega (arith, l.look.ensures.0.0.rows_long) })
+    (λ c κs. let e = c.before.before.before.before.before.before.before.before in let l = last_look e in let σ = (head l).loop-looks.invariant.state in
     record { room = σ.room.totals; level_below = last_level_small e; enough = omega (arith, l.look.ensures.0.1.long, σ.at.ready.tabled.long) })
     (λ c. omega (arith, last_level_small (before_loads c))) (λ c. last_level_small (before_loads c)) (λ c κs. search rules)
     (λ c κs. let e = before_loads c.before in let h = head (last_look e) in
-    back-pair (sound h) h.loop.inv.state (back e) c.place_of-place.result c.place_of-place.ensures)
+    back-pair (sound h) h.loop-looks.invariant.state (back e) c.place_of-place.result c.place_of-place.ensures)
     (λ c κs. let o = c.before.before.before.before in let e = before_loads o.before in let l = last_look e in
-    back_branchable (sound (head l)) (head l).loop.inv.state (back e) (loaded o.before) o.place_of-place.result o.place_of-place.ensures
+    back_branchable (sound (head l)) (head l).loop-looks.invariant.state (back e) (loaded o.before) o.place_of-place.result o.place_of-place.ensures
     l.look.ensures.0.0.queue)
     (λ c. omega (arith, looks_left (last_look (before_loads c.before.before.before.before.before.before)))) loop_again (λ c. search rules)
     (λ c κs. search rules) returns_4 (λ c κs. let h = head c.before.before.before in
-    rw (count (start h).args.instance) at (startable (problem h) (sound h).limited h.loop.inv.path (complete c.before.before).1))
+    rw (count (start h).args.instance) at (startable (problem h) (sound h).limited h.loop-looks.invariant.path (complete c.before.before).1))
     (λ c. omega arith) (λ c. omega (arith, looks_left c.before.before.before.before)) (λ c κs. search rules) returns_5 (λ c. search rules)
-    (λ c κs. let w = c.before.before in let σ = (fork_head w).loop.invariant.state in
+    (λ c κs. let w = c.before.before in let σ = (fork_head w).loop-looks.invariant.state in
     record { room = σ.room.domains; level_below = level_small w; enough = omega (arith, (forked w).1.rested.laid.well_formed.long) })
-    (λ c κs. let w = c.before.before.before.before.before in let σ = (fork_head w).loop.invariant.state in
+    (λ c κs. let w = c.before.before.before.before.before in let σ = (fork_head w).loop-looks.invariant.state in
     record { room = σ.room.rows; level_below = level_small w; enough = omega (arith, (forked w).1.rested.laid.mirror.long) })
     (λ c κs. let w = c.before.before.before.before.before.before.before.before in
-    let σ = (fork_head w).loop.invariant.state in
+    let σ = (fork_head w).loop-looks.invariant.state in
     record { room = σ.room.totals; level_below = level_small w; enough = omega (arith, (forked w).1.rested.tabled.long) })
     (λ c κs. let w = c.before.before.before.before.before.before.before.before.before in let h = fork_head w in
     proper-wide (omega (arith, (sound h).limited))
-    (proper-up (fork_rising (problem h) (sound h) h.loop.inv.path (forked w).0 (place w) (forked w).2))) (λ c. omega (arith, level_small (at_fork c)))
+    (proper-up (fork_rising (problem h) (sound h) h.loop-looks.invariant.path (forked w).0 (place w) (forked w).2))) (λ c. omega (arith, level_small (at_fork c)))
     (λ c. level_small (at_fork c)) (λ c. depth_small (at_fork c)) (λ c. omega (arith, level_small (at_fork c)))
     (λ c. omega (arith, branch_small (fork_head (at_fork c)))) (λ c. omega (arith, branch_small (fork_head (at_fork c))))
     (λ c. omega (arith, depth_small (at_fork c))) (λ c κs. let w = at_fork c in let h = fork_head w in
-    fork_pair (problem h) (sound h) h.loop.inv.path (forked w).0 (place w) (forked w).2)
-    (λ c κs. let w = at_fork c.before.before.before.before in let (f, s, e) = forked w in let l = w.before.before in
-    let i = (head l).loop.inv in
+    fork_pair (problem h) (sound h) h.loop-looks.invariant.path (forked w).0 (place w) (forked w).2)
+    (λ c κs. let w = at_fork c.before.before.before.before in let (f, s, e) = forked w in let l = w.before in
+    let i = (head l).loop-looks.invariant in
     branchable (problem (head l)) (sound (head l)) i.path i.state.forks f s (place w) e _ l.look.ensures.0.0.queue)
-    (λ c. omega (arith, looks_left (at_fork c.before.before.before.before.before).before.before)) loop_again_2 (λ c κs. search rules) returns_6)
+    (λ c. omega (arith, looks_left (at_fork c.before.before.before.before.before).before)) loop_again_2 (λ c κs. search rules) returns_6)
