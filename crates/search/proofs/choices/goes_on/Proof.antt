@@ -6,6 +6,6 @@ use Rattle.search.proofs.choices.goes_on.Tie as tie
 
 pub goes_on_spec : {M : Type 1} → Rattle.search.proofs.choices.goes_on.Statement.statement M
 goes_on_spec = tie.close (tie.spec (λ c. search rules) (λ c. search rules) (λ c. search rules) (λ c. search rules) (λ c. search rules)
-    (λ c. λ o. absurd (omega (arith, ap kind o, ap kind c.enum_told.given.1))) (λ c. search rules)
-    (λ c. λ o. absurd (omega (arith, ap kind o, ap kind c.enum-told3.given.1)))
-    (λ c. λ o. absurd (omega (arith, ap kind o, ap kind c.enum-told4.given.1))))
+    (λ c. λ o. absurd (omega (arith, ap kind o, ap kind c.in-Packed.is))) (λ c. search rules)
+    (λ c. λ o. absurd (omega (arith, ap kind o, ap kind c.in-Spent.is)))
+    (λ c. λ o. absurd (omega (arith, ap kind o, ap kind c.in-NotFollowing.is))))

@@ -21,10 +21,10 @@ record Going (i : Instance) (c : Checkpoint) (budget : ℕ) (branches : List ℕ
   same : result_from (turnable_of i) c (budget - left) left (stage choice (S.open_at (path_of length branches)))
       ≡ followed (turnable_of i) budget c (stage c.choice (S.open_at (value_path c)))
 
-abbrev invariant_loop : tie.invariant_loop
+abbrev invariant_loop : tie.invariant-loop-branches
 invariant_loop i c budget last branches length₀ choice₀ left₀ length choice left = Going i c budget branches length choice left
 
-abbrev decreases_loop : tie.decreases_loop
+abbrev decreases_loop : tie.decreases-loop-branches
 decreases_loop i c budget last branches length₀ choice₀ left₀ length choice left = last - choice
 
 -- no branches are branches
@@ -33,31 +33,31 @@ unfolding all_branches
 no_bits β = record { within = omega arith; bits = refl }
 
 -- a choice takes no more steps than are left
-taken-within : (c : tie.After-try-choice invariant_loop decreases_loop) → c.try-choice.result.steps ≤ c.before.loop.left
+taken-within : (c : tie.After-try_choice-tried invariant_loop decreases_loop) → c.try_choice-tried.result.steps ≤ c.loop-branches.left
 taken-within c =
-    let l = c.before in let a = l.before.before.before.args in
-    steps-within (choice_problem (turnable_of a.instance) l.loop.choice) l.loop.left (S.open_at (path_of l.loop.length
+    let l = c.before in let a = l.args in
+    steps-within (choice_problem (turnable_of a.instance) l.loop-branches.choice) l.loop-branches.left (S.open_at (path_of l.loop-branches.length
     a.checkpoint.branches))
-    c.try-choice.ensures
+    c.try_choice-tried.ensures
 
 -- where it does not go on, an infeasible choice is the last; where it does, it is infeasible and another is left
-stops : (c : tie.Then1 invariant_loop decreases_loop) → let t = c.before.before in let l = t.before in
-    t.try-choice.result.outcome ≡ Infeasible → l.before.before.last_choice.result ≤ l.loop.choice
+stops : (c : tie.Then-not-goes_on invariant_loop decreases_loop) → let t = c.before.before in let l = t.before in
+    t.try_choice-tried.result.outcome ≡ Infeasible → l.last_choice-last.result ≤ l.loop-branches.choice
 stops c =
     let t = c.before.before in let l = t.before in
-    subst (GoesOnIf t.try-choice.result.outcome l.loop.choice l.before.before.last_choice.result) (not-true c.before.goes_on.result
-    c.if1.true)
-    c.before.goes_on.ensures
+    subst (GoesOnIf t.try_choice-tried.result.outcome l.loop-branches.choice l.last_choice-last.result) (not-true c.goes_on.result
+    c.if-not-goes_on.true-raw)
+    c.goes_on.ensures
 
-continues : (c : tie.Else1 invariant_loop decreases_loop) → let t = c.before.before in let l = t.before in
-    (t.try-choice.result.outcome ≡ Infeasible) × (l.loop.choice < l.before.before.last_choice.result)
+continues : (c : tie.Else-not-goes_on invariant_loop decreases_loop) → let t = c.before.before in let l = t.before in
+    (t.try_choice-tried.result.outcome ≡ Infeasible) × (l.loop-branches.choice < l.last_choice-last.result)
 continues c =
     let t = c.before.before in let l = t.before in
-    subst (GoesOnIf t.try-choice.result.outcome l.loop.choice l.before.before.last_choice.result) (not-false c.before.goes_on.result
-    c.if1.false)
-    c.before.goes_on.ensures
+    subst (GoesOnIf t.try_choice-tried.result.outcome l.loop-branches.choice l.last_choice-last.result) (not-false c.goes_on.result
+    c.if-not-goes_on.false-raw)
+    c.goes_on.ensures
 
-loop_holds : tie.Need-loop-init invariant_loop decreases_loop
+loop_holds : tie.Need-loop-branches-init invariant_loop decreases_loop
 loop_holds c =
     let s = c.before.before in
     let all : s.args.budget - s.args.budget ≡ 0 = omega arith in
@@ -70,40 +70,40 @@ loop_holds c =
           (value_path s.args.checkpoint))));
     }
 
-returns : tie.Need-returns invariant_loop decreases_loop
+returns : tie.Need-returns-then-not-goes_on invariant_loop decreases_loop
 returns c =
     let g = c.before.before in let t = g.before in let l = t.before in let s = l.before.before.before in
     let i = s.args.instance in
     c.answer_in.ensures
-    ∙ (ends_in (turnable_of i) s.args.checkpoint l.loop.choice (s.args.budget - l.loop.left) l.loop.left
-    (S.open_at (path_of l.loop.length _)) t.try-choice.ensures l.loop.invariant.within refl
-    (λ o. omega (arith, stops c.before o, l.before.before.last_choice.ensures.0)) (choice-listed i l.loop.choice) ∙ l.loop.invariant.same)
+    ∙ (ends_in (turnable_of i) s.args.checkpoint l.loop-branches.choice (s.args.budget - l.loop-branches.left) l.loop-branches.left
+    (S.open_at (path_of l.loop-branches.length _)) t.try_choice-tried.ensures l.loop-branches.invariant.within refl
+    (λ o. omega (arith, stops c.before o, l.last_choice-last.ensures.0)) (choice-listed i l.loop-branches.choice) ∙ l.loop-branches.invariant.same)
 
-loop_again : tie.Need-loop-preserved invariant_loop decreases_loop
+loop_again : tie.Need-loop-branches-preserved invariant_loop decreases_loop
 loop_again c =
     let g = c.before.before in let t = g.before in let l = t.before in let s = l.before.before.before in
     let i = s.args.instance in
-    let (w, e) = goes_on (turnable_of i) s.args.checkpoint l.loop.choice (s.args.budget - l.loop.left) l.loop.left
-    (path_of l.loop.length _) t.try-choice.ensures (continues c.before).0
-    (omega (arith, (continues c.before).1, l.before.before.last_choice.ensures.0)) in
-    let k : s.args.budget - (l.loop.left - t.try-choice.result.steps) ≡ s.args.budget - l.loop.left + t.try-choice.result.steps =
-    omega (arith, l.loop.invariant.afford) in
+    let (w, e) = goes_on (turnable_of i) s.args.checkpoint l.loop-branches.choice (s.args.budget - l.loop-branches.left) l.loop-branches.left
+    (path_of l.loop-branches.length _) t.try_choice-tried.ensures (continues c.before).0
+    (omega (arith, (continues c.before).1, l.last_choice-last.ensures.0)) in
+    let k : s.args.budget - (l.loop-branches.left - t.try_choice-tried.result.steps) ≡ s.args.budget - l.loop-branches.left + t.try_choice-tried.result.steps =
+    omega (arith, l.loop-branches.invariant.afford) in
     record {
-      within = omega (arith, (continues c.before).1, l.before.before.last_choice.ensures.0);
-      bits = no_bits l.loop.invariant.bits;
-      afford = omega (arith, l.loop.invariant.afford);
-      same = rw (k, add-one) (sym e ∙ l.loop.invariant.same);
+      within = omega (arith, (continues c.before).1, l.last_choice-last.ensures.0);
+      bits = no_bits l.loop-branches.invariant.bits;
+      afford = omega (arith, l.loop-branches.invariant.afford);
+      same = rw (k, add-one) (sym e ∙ l.loop-branches.invariant.same);
     }
 
 pub run_spec : {M : Type 1} → Rattle.search.proofs.choices.run.Statement.statement M
 run_spec = tie.close (tie.spec invariant_loop decreases_loop (λ c κs. (valid-says _ c.requires.0).items-few) loop_holds
-    (λ c κs. (c.before.before.before.requires.0, c.loop.invariant.bits)) (λ c κs. search rules) (λ c. c.before.before.before.loop.invariant.afford)
+    (λ c κs. (c.requires.0, c.loop-branches.invariant.bits)) (λ c κs. search rules) (λ c. c.loop-branches.invariant.afford)
     (λ c κs. let t = c.before.before in let l = t.before in
-    ((valid-says _ l.before.before.before.requires.0).items-few, omega (arith, taken-within t, l.loop.invariant.afford))) returns
+    ((valid-says _ l.requires.0).items-few, omega (arith, taken-within t, l.loop-branches.invariant.afford))) returns
     (λ c. taken-within c.before.before.before) (λ c. omega (
       arith,
       (continues
           c.before).1,
-      c.before.before.before.before.before.before.last_choice.ensures.1,
+      c.last_choice-last.ensures.1,
     ))
     (λ c. omega (arith, (continues c.before).1)) loop_again)

@@ -19,7 +19,7 @@ long c = search length_mapped
 pub try_choice_spec : {M : Type 1} → Rattle.search.proofs.choices.try_choice.Statement.statement M
 try_choice_spec = tie.close (tie.spec (λ c κs. (valid-says _ c.requires.0).items-few) (λ c κs. search rules)
     (λ c κs. let s = c.before.before in
-    ((choice-instance s.args.instance (long s) s.requires.0 s.args.choice c.before.marks_of.ensures c.turned.ensures).1, s.requires.1))
+    ((choice-instance s.args.instance (long s) s.requires.0 s.args.choice c.marks_of-marks.ensures c.turned.ensures).1, s.requires.1))
     (λ c. let t = c.before in let s = t.before.before in
     c.run.ensures ∙ over s.args.budget (S.open_at (path_of s.args.length _))
-    (choice-instance s.args.instance (long s) s.requires.0 s.args.choice t.before.marks_of.ensures t.turned.ensures).0))
+    (choice-instance s.args.instance (long s) s.requires.0 s.args.choice t.marks_of-marks.ensures t.turned.ensures).0))

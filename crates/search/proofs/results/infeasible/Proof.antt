@@ -6,4 +6,4 @@ use Rattle.search.proofs.results.infeasible.Tie as tie
 
 pub infeasible_spec : {M : Type 1} → Rattle.search.proofs.results.infeasible.Statement.statement M
 unfolding infeasible_after branches_of
-infeasible_spec = tie.close (tie.spec (λ c κs. search rules) (λ c. rw c.origin.ensures))
+infeasible_spec = tie.close (tie.spec (λ c κs. search rules) (λ c. rw c.origin-packing.ensures))

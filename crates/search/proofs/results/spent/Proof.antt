@@ -5,4 +5,4 @@ use Rattle.search.proofs.results.spent.Tie as tie
 
 pub spent_spec : {M : Type 1} → Rattle.search.proofs.results.spent.Statement.statement M
 unfolding spent_after
-spent_spec = tie.close (tie.spec (λ c κs. search rules) (λ c. rw c.origin.ensures))
+spent_spec = tie.close (tie.spec (λ c κs. search rules) (λ c. rw c.origin-packing.ensures))
