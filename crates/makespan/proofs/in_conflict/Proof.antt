@@ -8,14 +8,14 @@ use Rattle.makespan.specs.Results.{choices_of, ConflictIf}
 use Rattle.makespan.proofs.Lengths.{says_none, first-steps}
 use Rattle.makespan.proofs.in_conflict.Tie as tie
 
-answered : (c : tie.After-search) {a : Answer} → c.search.result.answer ≡ a → ConflictIf (turnable_of c.before.before.args.instance) (says_none a)
+answered : (c : tie.After-search-first) {a : Answer} → c.search-first.result.answer ≡ a → ConflictIf (turnable_of c.args.instance) (says_none a)
 answered c e =
-    let i = c.before.before.args.instance in
-    let is : c.search.result ≡ search_result i opening_checkpoint (choices_of (turnable_of i)) =
-    rw (← c.before.opening.ensures, ← c.before.before.requires.1) c.search.ensures.0 in
-    subst (λ a. ConflictIf (turnable_of i) (says_none a)) (rw is at e) (first-steps i c.before.before.requires.0 c.search.ensures.1)
+    let i = c.args.instance in
+    let is : c.search-first.result ≡ search_result i opening_checkpoint (choices_of (turnable_of i)) =
+    rw (← c.opening.ensures, ← c.requires.1) c.search-first.ensures.0 in
+    subst (λ a. ConflictIf (turnable_of i) (says_none a)) (rw is at e) (first-steps i c.requires.0 c.search-first.ensures.1)
 
 pub in_conflict_spec : {M : Type 1} → Rattle.makespan.proofs.in_conflict.Statement.statement M
 in_conflict_spec = tie.close (tie.spec (λ c κs. search rules) (λ c κs. search rules) (λ c. search rules) (λ c. search rules) (λ c. search rules)
-    (λ c. search rules) (λ c. answered c.before.before c.enum_told.given.1) (λ c. answered c.before.before c.enum-told2.given.1)
-    (λ c. answered c.before.before c.enum-told3.given.1) (λ c. answered c.before.before c.enum-told4.given.1))
+    (λ c. search rules) (λ c. answered c.before c.in-Infeasible.is) (λ c. answered c.before c.in-Packed.is)
+    (λ c. answered c.before c.in-BudgetSpent.is) (λ c. answered c.before c.in-Refused.is))

@@ -21,13 +21,13 @@ use Rattle.makespan.proofs.Openings.{before_twice}
 use Rattle.makespan.proofs.Lengths.{with_shifts, steps-most, next-none, next-packed, next-spent, next-refused, steps-added, before-added, past_known}
 use Rattle.makespan.proofs.try_lengths.Tie as tie
 
-abbrev invariant_loop : tie.invariant_loop
+abbrev invariant_loop : tie.invariant-loop-length
 invariant_loop known before budget shortened₀ most length₀ left₀ shortened length left =
     (shortened ≡ with_shifts shortened₀ shortened.container.shifts) × (length ≤ most) × (left ≤ budget)
     × (earliest_finish (turnable_of shortened₀) budget
     ≡ steps_before (budget - left) (finish_from (turnable_of shortened₀) (most - length) length left))
 
-abbrev decreases_loop : tie.decreases_loop
+abbrev decreases_loop : tie.decreases-loop-length
 decreases_loop known before budget shortened₀ most length₀ left₀ shortened length left = most - length
 
 started : (c : tie.Start invariant_loop decreases_loop) → let a = c.args in let left = a.budget - a.before in
@@ -43,8 +43,8 @@ started c =
     )
 
 -- One length searched, by the answer
-module _ (c : tie.After-search invariant_loop decreases_loop) where
-  abbrev looped : tie.At-loop invariant_loop decreases_loop
+module _ (c : tie.After-search-tried invariant_loop decreases_loop) where
+  abbrev looped : tie.At-loop-length invariant_loop decreases_loop
   looped = c.before.before.before.before
 
   abbrev i : Instance
@@ -54,10 +54,10 @@ module _ (c : tie.After-search invariant_loop decreases_loop) where
   t = turnable_of i
 
   abbrev n : ℕ
-  n = looped.loop.length
+  n = looped.loop-length.length
 
   abbrev left : ℕ
-  left = looped.loop.left
+  left = looped.loop-length.left
 
   abbrev more : ℕ
   more = i.container.shifts - suc n
@@ -69,58 +69,58 @@ module _ (c : tie.After-search invariant_loop decreases_loop) where
   asked = finish_of t (earliest_finish t looped.before.args.budget)
 
   within : n < i.container.shifts
-  within = c.before.before.before.loop-test.true
+  within = c.before.before.before.loop-length-test.true
 
   -- the instance searched
-  at_length : with_shifts looped.loop.shortened (n + 1) ≡ with_shifts i (suc n)
-  at_length = ap (λ j. with_shifts j (n + 1)) looped.loop.inv.0 ∙ ap (with_shifts i) (omega arith)
+  at_length : with_shifts looped.loop-length.shortened (n + 1) ≡ with_shifts i (suc n)
+  at_length = ap (λ j. with_shifts j (n + 1)) looped.loop-length.invariant.0 ∙ ap (with_shifts i) (omega arith)
 
   full : Full i
-  full = let f = subst Full at_length c.search.ensures.1 in record { items_room = f.items_room; precedences_room = f.precedences_room }
+  full = let f = subst Full at_length c.search-tried.ensures.1 in record { items_room = f.items_room; precedences_room = f.precedences_room }
 
-  result_is : c.search.result ≡ search_result (with_shifts i (suc n)) opening_checkpoint left
-  result_is = rw (← c.before.opening.ensures, ← at_length) c.search.ensures.0
+  result_is : c.search-tried.result ≡ search_result (with_shifts i (suc n)) opening_checkpoint left
+  result_is = rw (← c.before.opening.ensures, ← at_length) c.search-tried.ensures.0
 
-  answer-is : {a : Answer} → c.search.result.answer ≡ a → (search_result (with_shifts i (suc n)) opening_checkpoint left).answer ≡ a
+  answer-is : {a : Answer} → c.search-tried.result.answer ≡ a → (search_result (with_shifts i (suc n)) opening_checkpoint left).answer ≡ a
   answer-is e = ap (λ (r : SearchResult). r.answer) (sym result_is) ∙ e
 
-  steps_fit : c.search.result.steps ≤ left
-  steps_fit = subst (λ (r : SearchResult). r.steps ≤ left) (sym result_is) (steps-most i looped.before.pre.0 full n within left)
+  steps_fit : c.search-tried.result.steps ≤ left
+  steps_fit = subst (λ (r : SearchResult). r.steps ≤ left) (sym result_is) (steps-most i looped.before.requires.0 full n within left)
 
   rest-is : finish_from t (i.container.shifts - n) n left ≡ finish_from t (suc more) n left
-  rest-is = let next : i.container.shifts - n ≡ suc more = omega (arith, c.before.before.before.loop-test.true) in rw next refl
+  rest-is = let next : i.container.shifts - n ≡ suc more = omega (arith, c.before.before.before.loop-length-test.true) in rw next refl
 
   comes : {f : Finish} → finish_of t (finish_from t (suc more) n left) ≡ f → asked ≡ steps-added taken f
   comes e =
-      ap (finish_of t) (looped.loop.inv.3 ∙ ap (steps_before taken) rest-is)
+      ap (finish_of t) (looped.loop-length.invariant.3 ∙ ap (steps_before taken) rest-is)
       ∙ (before-added t taken (finish_from t (suc more) n left) ∙ ap (steps-added taken) e)
 
-  packed_here : c.search.result.answer ≡ Packed → let r = c.search.result in packed_finish (n + 1) (taken + r.steps) r.packing ≡ asked
+  packed_here : c.search-tried.result.answer ≡ Packed → let r = c.search-tried.result in packed_finish (n + 1) (taken + r.steps) r.packing ≡ asked
   unfolding packed_finish
   packed_here e =
       let next : suc n ≡ n + 1 = omega arith in
-      sym (comes (next-packed i looped.before.pre.0 full n within left more (answer-is e))
+      sym (comes (next-packed i looped.before.requires.0 full n within left more (answer-is e))
       ∙ (ap (λ (r : SearchResult). packed_finish (suc n) (taken + r.steps) r.packing) (sym result_is)
-      ∙ ap (λ k. let r = c.search.result in packed_finish k (taken + r.steps) r.packing) next))
+      ∙ ap (λ k. let r = c.search-tried.result in packed_finish k (taken + r.steps) r.packing) next))
 
-  spent_here : c.search.result.answer ≡ BudgetSpent → spent_finish n looped.before.args.budget ≡ asked
+  spent_here : c.search-tried.result.answer ≡ BudgetSpent → spent_finish n looped.before.args.budget ≡ asked
   unfolding spent_finish
   spent_here e =
-      let all : taken + left ≡ looped.before.args.budget = omega (arith, looped.loop.inv.2) in
-      sym (comes (next-spent i looped.before.pre.0 full n within left more (answer-is e)) ∙ ap (spent_finish n) all)
+      let all : taken + left ≡ looped.before.args.budget = omega (arith, looped.loop-length.invariant.2) in
+      sym (comes (next-spent i looped.before.requires.0 full n within left more (answer-is e)) ∙ ap (spent_finish n) all)
 
-  none_here : c.search.result.answer ≡ Infeasible → let m = c.search.result.steps in let budget = looped.before.args.budget in
+  none_here : c.search-tried.result.answer ≡ Infeasible → let m = c.search-tried.result.steps in let budget = looped.before.args.budget in
       earliest_finish t budget ≡ steps_before (budget - (left - m)) (finish_from t (i.container.shifts - (n + 1)) (n + 1) (left - m))
   none_here e =
-      let m = c.search.result.steps in
+      let m = c.search-tried.result.steps in
       let next : suc n ≡ n + 1 = omega arith in
-      let sum : taken + m ≡ looped.before.args.budget - (left - m) = omega (arith, looped.loop.inv.2, steps_fit) in
+      let sum : taken + m ≡ looped.before.args.budget - (left - m) = omega (arith, looped.loop-length.invariant.2, steps_fit) in
       let later = subst (λ (r : SearchResult). finish_from t (suc more) n left ≡ steps_before r.steps (finish_from t more (suc n) (left - r.steps)))
-      (sym result_is) (next-none i looped.before.pre.0 full n within left more (answer-is e)) in
-      rw (← next, ← sum) (looped.loop.inv.3 ∙ (ap (steps_before taken) (rest-is ∙ later) ∙ before_twice taken m (finish_from t more (suc n) (left - m))))
+      (sym result_is) (next-none i looped.before.requires.0 full n within left more (answer-is e)) in
+      rw (← next, ← sum) (looped.loop-length.invariant.3 ∙ (ap (steps_before taken) (rest-is ∙ later) ∙ before_twice taken m (finish_from t more (suc n) (left - m))))
 
-  refused-not : (e : Refusal) → c.search.result.answer ≡ Refused e → ⊥
-  refused-not r e = next-refused i looped.before.pre.0 full n within left r (answer-is e)
+  refused-not : (e : Refusal) → c.search-tried.result.answer ≡ Refused e → ⊥
+  refused-not r e = next-refused i looped.before.requires.0 full n within left r (answer-is e)
 
 -- no length left
 none_left : (t : Turnable) (most length budget left : ℕ) → most ≤ length
@@ -132,23 +132,23 @@ pub try_lengths_spec : {M : Type 1} → Rattle.makespan.proofs.try_lengths.State
 try_lengths_spec = tie.close (tie.spec invariant_loop decreases_loop
     (λ c. c.requires.2) started
     (λ c. omega arith) (λ c κs. search rules) (λ c κs. search rules)
-    (λ c. search rules) (λ c. omega (arith, c.before.before.before.before.before.before.before.loop.invariant.2))
-    (λ c. omega (arith, steps_fit c.before.before.before.before, c.before.before.before.before.before.before.before.before.loop.invariant.2))
+    (λ c. search rules) (λ c. omega (arith, c.loop-length.invariant.2))
+    (λ c. omega (arith, steps_fit c.before.before.before, c.loop-length.invariant.2))
     (λ c κs. search rules)
-    (λ c. c.packed.ensures ∙ packed_here c.before.before.before.before.before c.before.before.enum_told.given.1)
-    (λ c. search rules) (λ c. steps_fit c.before.before.before.before) (λ c. omega arith)
-    (λ c. let s = c.before.before.before.before in (
-      ap (λ j. with_shifts j (n s + 1)) (looped s).loop.invariant.0,
-      omega (arith, s.before.before.before.loop-test.true),
-      omega (arith, (looped s).loop.invariant.2),
-      none_here s c.before.enum-told2.given.1,
+    (λ c. c.packed.ensures ∙ packed_here c.before.before.before.before c.in-Packed.is)
+    (λ c. search rules) (λ c. steps_fit c.before.before.before) (λ c. omega arith)
+    (λ c. let s = c.before.before.before in (
+      ap (λ j. with_shifts j (n s + 1)) (looped s).loop-length.invariant.0,
+      omega (arith, s.loop-length-test.true),
+      omega (arith, (looped s).loop-length.invariant.2),
+      none_here s c.in-Infeasible.is,
     ))
     (λ c. search rules) (λ c κs. search rules)
-    (λ c. c.spent.ensures ∙ spent_here c.before.before.before.before c.before.enum-told3.given.1)
+    (λ c. c.spent.ensures ∙ spent_here c.before.before.before c.in-BudgetSpent.is)
     (λ c. search rules) (λ c κs. search rules)
-    (λ c. absurd (refused-not c.before.before.before.before.before _ c.before.before.answer.given.1))
-    (λ c. omega (arith, c.before.loop.invariant.2)) (λ c κs. search rules)
+    (λ c. absurd (refused-not c.before.before.before _ c.in-Refused.is))
+    (λ c. omega (arith, c.loop-length.invariant.2)) (λ c κs. search rules)
     (λ c. let l = c.before.before in
-    c.infeasible.ensures ∙ (none_left (turnable_of l.before.args.instance) l.before.args.instance.container.shifts l.loop.length
-    l.before.args.budget l.loop.left (omega (arith, c.before.loop-test.false))
-    ∙ ap (finish_of (turnable_of l.before.args.instance)) (sym l.loop.invariant.3))))
+    c.infeasible.ensures ∙ (none_left (turnable_of l.args.instance) l.args.instance.container.shifts l.loop-length.length
+    l.args.budget l.loop-length.left (omega (arith, c.loop-length-test.false))
+    ∙ ap (finish_of (turnable_of l.args.instance)) (sym l.loop-length.invariant.3))))

@@ -7,7 +7,7 @@ pub result_text_spec : {M : Type 1} → Rattle.planner.proofs.result_text.Statem
 unfolding result_text
 result_text_spec = tie.close (tie.spec (λ c. search rules) (λ c κs. search rules) (λ c. search rules) (λ c κs. search rules) (λ c. search rules)
     (λ c κs. search rules) (λ c. search rules) (λ c κs. search rules)
-    (λ c. search rules) (λ c. rw c.before.before.before.before.enum_told.given.1 c.before.before.packed.ensures)
-    (λ c. search rules) (λ c. rw c.before.before.before.before.enum-told2.given.1 c.before.before.infeasible.ensures)
-    (λ c. search rules) (λ c. rw c.before.before.before.before.enum-told3.given.1 c.before.before.spent.ensures)
-    (λ c. search rules) (λ c. rw c.before.before.before.before.before.answer.given.1 c.before.before.refused.ensures))
+    (λ c. search rules) (λ c. rw c.in-Packed.is c.packed.ensures)
+    (λ c. search rules) (λ c. rw c.in-Infeasible.is c.infeasible.ensures)
+    (λ c. search rules) (λ c. rw c.in-BudgetSpent.is c.spent.ensures)
+    (λ c. search rules) (λ c. rw c.in-Refused.is c.refused.ensures))

@@ -3,28 +3,28 @@ use Rattle.prelude.specs.Names.{arith, rules}
 use Rattle.planner.proofs.Programs.{text_read, text_refused, few-items}
 use Rattle.planner.proofs.sheet_text.Tie as tie
 
-result_text_requires : tie.Need-result-text-requires
+result_text_requires : tie.Need-result_text-requires
 result_text_requires c κs =
     let answered = c.before.before.before.before in
-    let reading = answered.before.before in
+    let reading = answered.before in
     let bytes = reading.before in
-    let s = bytes.before.before.args.sheet.now in
-    (few-items s reading.read.ensures (λ j. (bytes.shared-slice-known.given j).fits) answered.enum_told.given.1, omega arith)
+    let s = bytes.args.sheet.now in
+    (few-items s reading.read-reading.ensures (λ j. (bytes.shared_slice_known-1.given j).fits) answered.in-Read.is, omega arith)
 
-returns : tie.Need-returns
+returns : tie.Need-returns-in-Read
 returns c =
     let searched = c.before.before.before.before in
     let answered = searched.before.before.before in
-    let reading = answered.before.before in
-    let e = text_read reading.before.before.before.args.sheet.now reading.read.ensures answered.enum_told.given.1 in
-    rw (e, ← searched.before.opening.ensures, ← searched.search.ensures.0) c.before.before.result_text.ensures
+    let reading = answered.before in
+    let e = text_read reading.args.sheet.now reading.read-reading.ensures answered.in-Read.is in
+    rw (e, ← searched.opening.ensures, ← searched.search-result.ensures.0) c.result_text.ensures
 
-returns_2 : tie.Need-returns-2
+returns_2 : tie.Need-returns-in-Refused
 returns_2 c =
-    let answered = c.before.before.before.before.before in
-    let reading = answered.before.before in
-    let e = text_refused reading.before.before.before.args.sheet.now reading.read.ensures answered.answer.given.1 in
-    rw e c.before.before.refused.ensures
+    let answered = c.before.before.before.before in
+    let reading = answered.before in
+    let e = text_refused reading.args.sheet.now reading.read-reading.ensures answered.in-Refused.is in
+    rw e c.refused.ensures
 
 pub sheet_text_spec : {M : Type 1} → Rattle.planner.proofs.sheet_text.Statement.statement M
 sheet_text_spec = tie.close (tie.spec (λ c κs. search rules) (λ c. search rules) (λ c κs. search rules) (λ c κs. search rules) result_text_requires

@@ -11,13 +11,13 @@ returns c =
     let items = ps.before.before in
     let n = items.before in
     rw (
-      c.byte_at.ensures,
-      yard.word_at.ensures,
-      ps.precedences-in.ensures,
-      ps.before.number-at2.ensures,
-      items.items_in.ensures,
-      n.number_at.ensures,
-      n.before.size_at.ensures,
+      c.byte_at-walkway.ensures,
+      yard.word_at-yard_number.ensures,
+      ps.precedences_in-precedences.ensures,
+      ps.number_at-precedence_count.ensures,
+      items.items_in-items.ensures,
+      n.number_at-item_count.ensures,
+      n.size_at-container.ensures,
     )
 
 pub instance_in_spec : {M : Type 1} → Rattle.test_values.proofs.instance_in.Statement.statement M

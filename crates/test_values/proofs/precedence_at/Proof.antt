@@ -3,7 +3,7 @@ use Rattle.prelude.specs.Names.{rules}
 use Rattle.test_values.proofs.precedence_at.Tie as tie
 
 returns : tie.Need-returns
-returns c = rw (c.byte-at3.ensures, c.before.byte-at2.ensures, c.before.before.byte_at.ensures)
+returns c = rw (c.byte_at-lag.ensures, c.byte_at-successor.ensures, c.byte_at-predecessor.ensures)
 
 pub precedence_at_spec : {M : Type 1} → Rattle.test_values.proofs.precedence_at.Statement.statement M
 precedence_at_spec = tie.close (tie.spec (λ c κs. search rules) (λ c. search rules) (λ c κs. search rules) (λ c. search rules) (λ c κs. search rules) returns)

@@ -5,4 +5,4 @@ use Rattle.makespan.proofs.results.refused.Tie as tie
 
 pub refused_spec : {M : Type 1} → Rattle.makespan.proofs.results.refused.Statement.statement M
 unfolding finish_refused
-refused_spec = tie.close (tie.spec (λ c κs. search rules) (λ c. rw c.origin.ensures))
+refused_spec = tie.close (tie.spec (λ c κs. search rules) (λ c. rw c.origin-packing.ensures))
