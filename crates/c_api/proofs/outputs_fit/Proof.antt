@@ -4,6 +4,6 @@ use Rattle.instance.proofs.Sheets.{valid-says}
 use Rattle.c_api.proofs.outputs_fit.Tie as tie
 
 pub outputs_fit_spec : {M : Type 1} → Rattle.c_api.proofs.outputs_fit.Statement.statement M
-outputs_fit_spec = tie.close (tie.spec (λ c. rw (ne_eqb _ _ c.if1.true))
-    (λ c. omega (arith, (valid-says c.before.before.args.instance c.before.before.requires).items-few))
-    (λ c. rw (eq-eqb _ _ c.before.if1.false)))
+outputs_fit_spec = tie.close (tie.spec (λ c. rw (ne_eqb _ _ c.if-steps-ne-STEP_BYTES.true))
+    (λ c. omega (arith, (valid-says c.args.instance c.requires).items-few))
+    (λ c. rw (eq-eqb _ _ c.if-steps-ne-STEP_BYTES.false)))

@@ -6,35 +6,35 @@ use Rattle.c_api.proofs.Outcomes.{plan-placed, plan-kept}
 use Rattle.c_api.proofs.put_answer.Tie as tie
 
 -- past the steps: where they are written, and where the function starts
-abbrev stepped : tie.After-code → tie.After-write-steps
+abbrev stepped : tie.After-code-code → tie.After-write_steps
 stepped c = c.before.before.before.before
 
-abbrev start : tie.After-code → tie.Start
+abbrev start : tie.After-code-code → tie.Start
 start c = (stepped c).before.before.before.before
 
-number_is : (c : tie.After-code) → c.code.result ≡ answer_number (start c).args.answer
-number_is c = c.code.ensures.0 ∙ c.before.number.ensures
+number_is : (c : tie.After-code-code) → c.code-code.result ≡ answer_number (start c).args.answer
+number_is c = c.code-code.ensures.0 ∙ c.number.ensures
 
-returns : tie.Need-returns
+returns : tie.Need-returns-then-code-eq1
 returns c =
     let coded = c.before.before.before.before.before in
     let a = (start coded).args in
-    let placed = sym (number_is coded) ∙ c.before.before.before.before.if1.true in (
+    let placed = sym (number_is coded) ∙ c.if-code-eq1.true in (
       number_is coded,
       (
         (stepped coded).write-steps.ensures,
-        c.before.before.write-packing.ensures ∙ plan-placed a.answer a.plan.now (packing_bytes a.n a.packing) placed,
+        c.write_packing.ensures ∙ plan-placed a.answer a.plan.now (packing_bytes a.n a.packing) placed,
       ),
     )
 
-returns_2 : tie.Need-returns-2
+returns_2 : tie.Need-returns-else-code-eq1
 returns_2 c =
     let coded = c.before in
     let a = (start coded).args in (
       number_is coded,
       (
         (stepped coded).write-steps.ensures,
-        plan-kept a.answer a.plan.now (packing_bytes a.n a.packing) (λ e. c.if1.false (number_is coded ∙ e)),
+        plan-kept a.answer a.plan.now (packing_bytes a.n a.packing) (λ e. c.if-code-eq1.false (number_is coded ∙ e)),
       ),
     )
 

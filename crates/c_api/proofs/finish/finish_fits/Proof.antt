@@ -3,5 +3,5 @@ use Rattle.prelude.specs.Names.{eq-eqb, ne_eqb, rules}
 use Rattle.c_api.proofs.finish.finish_fits.Tie as tie
 
 pub finish_fits_spec : {M : Type 1} → Rattle.c_api.proofs.finish.finish_fits.Statement.statement M
-finish_fits_spec = tie.close (tie.spec (λ c. rw (ne_eqb _ _ c.if1.true)) (λ c κs. search rules)
-    (λ c. rw (eq-eqb _ _ c.before.if1.false) c.outputs_fit.ensures))
+finish_fits_spec = tie.close (tie.spec (λ c. rw (ne_eqb _ _ c.if-shifts-ne-FINISH_BYTES.true)) (λ c κs. search rules)
+    (λ c. rw (eq-eqb _ _ c.if-shifts-ne-FINISH_BYTES.false) c.outputs_fit.ensures))
