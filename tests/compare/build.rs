@@ -1,4 +1,4 @@
-//! Links the functions to be compared. HALLPLAN_LIBRARY names the folder with the static libraries that `rt staticlib` writes
+//! Links the functions to be compared. HALLPLAN_LIBRARY names the folder with the static libraries that tests/archive writes
 //! (by default target/staticlib of this repository); `shared:FOLDER` names one with libsubject.so instead.
 
 use std::env;
@@ -14,7 +14,7 @@ fn main() {
         println!("cargo:rustc-link-lib=dylib=subject");
     } else {
         println!("cargo:rustc-link-search=native={library}");
-        for name in ["c_api", "test_exports"] {
+        for name in ["c_api_c", "test_exports"] {
             println!("cargo:rerun-if-changed={library}/lib{name}.a");
             println!("cargo:rustc-link-lib=static={name}");
         }

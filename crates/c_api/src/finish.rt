@@ -11,8 +11,7 @@ use instance::{Instance, ReadAnswer};
 use refusal::Refusal;
 
 // The shortest time, in shifts, in which the sheet has a plan: 0 spent, 1 placed, 2 none, 100 plus the number of a refusal.
-#[unsafe(no_mangle)]
-pub extern "C" fn hallplan_finish(
+pub fn hallplan_finish(
     sheet: &[u8],
     allowance: u32,
     shifts: &mut [u8],

@@ -10,7 +10,7 @@ ghost use Rattle.formats.specs.Reading.{Bytes};
 ghost use Rattle.instance.specs.Valid.{valid};
 ghost use Rattle.packing.specs.Check.{check_number};
 ghost use Rattle.search.specs.Results.{answer_number};
-ghost use Rattle.c_api.specs.Calls.{check_code, pieces_code, search_code, note_after, steps_after, plan-after};
+ghost use Rattle.c_api.specs.Calls.{check_code, pieces_code, search_code, note_after, steps_after, plan_after};
 ghost use Rattle.c_api.specs.Calls.{instance_checked, outputs_fit, lengths_fit, instance_code, instance_note, instance_steps, instance_plan};
 ghost use Rattle.c_api.specs.Calls.{PathFits, when_packed, note_left, steps_left, plan_left};
 
@@ -23,8 +23,7 @@ use search::answer::{Answer, SearchResult};
 pub mod finish;
 
 // Whether the plan fits the sheet: 0 no, 1 yes, 100 plus the number of a refusal.
-#[unsafe(no_mangle)]
-pub extern "C" fn hallplan_check(sheet: &[u8], plan: &[u8]) -> u32
+pub fn hallplan_check(sheet: &[u8], plan: &[u8]) -> u32
     ensures value { result ≡ check_code sheet.now plan.now }
     ensures bytes { Bytes sheet.now }
 {
@@ -38,8 +37,7 @@ pub extern "C" fn hallplan_check(sheet: &[u8], plan: &[u8]) -> u32
 }
 
 // How many pieces the sheet has; 100 plus the number of a refusal.
-#[unsafe(no_mangle)]
-pub extern "C" fn hallplan_pieces(sheet: &[u8]) -> u32
+pub fn hallplan_pieces(sheet: &[u8]) -> u32
     ensures value { result ≡ pieces_code sheet.now }
     ensures bytes { Bytes sheet.now }
 {
@@ -53,8 +51,7 @@ pub extern "C" fn hallplan_pieces(sheet: &[u8]) -> u32
 }
 
 // One call of the search: 0 spent, 1 placed, 2 none, 100 plus the number of a refusal.
-#[unsafe(no_mangle)]
-pub extern "C" fn hallplan_search(
+pub fn hallplan_search(
     sheet: &[u8],
     note: &mut [u8],
     allowance: u32,
@@ -64,7 +61,7 @@ pub extern "C" fn hallplan_search(
     ensures value { result ≡ search_code sheet.now note.old allowance steps.old plan.old }
     ensures note_after { note.new ≡ note_after sheet.now note.old allowance steps.old plan.old }
     ensures steps_after { steps.new ≡ steps_after sheet.now note.old allowance steps.old plan.old }
-    ensures plan_after { plan.new ≡ plan-after sheet.now note.old allowance steps.old plan.old }
+    ensures plan_after { plan.new ≡ plan_after sheet.now note.old allowance steps.old plan.old }
     ensures bytes { Bytes sheet.now × Bytes note.old }
 {
     let read = Instance::read(sheet);

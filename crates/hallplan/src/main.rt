@@ -2,14 +2,16 @@
 #![tactic(auto)]
 
 use instance::Instance;
+use std::io;
+use std::io::Write;
 
 // "the program reads 353" bytes: one more than the longest sheet has.
 const SHEET_ROOM: usize = Instance::MAX_BYTES + 1;
 
-fn main() {
+fn main(rt: HostRuntime) -> io::Result<()> {
     let mut sheet = [0u8; SHEET_ROOM];
-    let n = io::read_full(0, &mut sheet);
+    let n = planner::read_full(&mut rt.stdin(), &mut sheet)?;
     let mut text = [0u8; report::MAX_TEXT];
     let m = planner::sheet_text(&mut text, &sheet[..n]);
-    io::write_all(1, &text[..m]);
+    rt.stdout().write_all(&text[..m])
 }

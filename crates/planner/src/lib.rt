@@ -3,11 +3,13 @@
 
 ghost use Rattle.sheet.specs.Sheet.{max_items};
 ghost use Rattle.report.specs.Text.{max_text, with_front};
-ghost use Rattle.std.specs.Prelude.{◌≡◌, ◌≤◌, length};
+ghost use Rattle.std.specs.Prelude.{◌≡◌, ◌≤◌, length, IfOk};
 ghost use Rattle.planner.specs.Program.{result_text, program_text};
 
 use instance::{Instance, ReadAnswer};
 use search::answer::{Answer, SearchResult};
+use std::io;
+use std::io::Read;
 
 // The steps of the program's one call.
 pub const BUDGET: u32 = 1_000_000;
@@ -45,4 +47,19 @@ pub fn sheet_text(out: &mut [u8], sheet: &[u8]) -> usize
         }
         ReadAnswer::Refused(e) => report::refused(out, e),
     }
+}
+
+// Fills the buffer from the input, up to the input's end; returns how many bytes came.
+pub fn read_full<R: Read>(input: &mut R, buffer: &mut [u8]) -> io::Result<usize>
+    ensures { IfOk result (λ n. n ≤ length buffer.new) }
+{
+    let mut n: usize = 0;
+    while n < buffer.len() {
+        let more = input.read(&mut buffer[n..])?;
+        if more == 0 {
+            break;
+        }
+        n += more;
+    }
+    Ok(n)
 }

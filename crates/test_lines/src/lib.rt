@@ -1,5 +1,5 @@
-// Printing: words, numbers and bytes, each after a space. What is printed goes to the C library, of which no contract speaks:
-// a function that only prints has none, and the gate compares its output.
+// Printing: words, numbers and bytes, each after a space. A function that only prints has no contract, and the gate compares its
+// output.
 #![tactic(auto)]
 
 ghost use Rattle.std.specs.Prelude.{◌≡◌, drop};
@@ -9,29 +9,24 @@ ghost use Rattle.test_lines.specs.Rest.{size_zero, item_zero, precedence_zero, r
 use instance::{Instance, Packing};
 use parts::{Item, Precedence, Size};
 use refusal::Refusal;
+use std::io;
+use std::io::Write;
 
-pub fn word(text: &[u8]) {
-    io::write_all(1, text);
+pub fn word<W: Write>(out: &mut W, text: &[u8]) -> io::Result<()> {
+    out.write_all(text)
 }
 
-pub fn line_end() {
-    io::write_all(1, b"\n");
+pub fn line_end<W: Write>(out: &mut W) -> io::Result<()> {
+    out.write_all(b"\n")
 }
 
-pub fn number(n: usize) {
-    io::write_all(1, b" ");
-    io::print_decimal(1, n as u64);
+pub fn number<W: Write>(out: &mut W, n: usize) -> io::Result<()> {
+    write!(out, " {n}")
 }
 
 // A signed number.
-pub fn signed(n: i32) {
-    if n < 0 {
-        io::write_all(1, b" -");
-        io::print_decimal(1, (0 - (n as i64)) as u64);
-        return;
-    }
-    io::write_all(1, b" ");
-    io::print_decimal(1, n as u64);
+pub fn signed<W: Write>(out: &mut W, n: i32) -> io::Result<()> {
+    write!(out, " {n}")
 }
 
 fn wide(x: u8) -> u64
@@ -41,84 +36,82 @@ fn wide(x: u8) -> u64
 }
 
 // The first n bytes, as two hexadecimal digits each.
-pub fn bytes(s: &[u8], n: usize) {
-    io::write_all(1, b" ");
-    let mut i: usize = 0;
-    while i < n {
-        if s.len() <= i {
-            return;
-        }
-        io::print_hex(1, wide(s[i]), 2);
-        i += 1;
+pub fn bytes<W: Write>(out: &mut W, s: &[u8], n: usize) -> io::Result<()> {
+    out.write_all(b" ")?;
+    for &x in s.iter().take(n) {
+        let byte = wide(x);
+        write!(out, "{byte:02x}")?;
     }
+    Ok(())
 }
 
 // The ten positions, each with its mark.
-pub fn packing(packing: Packing) {
+pub fn packing<W: Write>(out: &mut W, packing: Packing) -> io::Result<()> {
     let positions = packing.positions;
     let marks = packing.marks;
-    let mut u: usize = 0;
-    while u < Instance::MAX_ITEMS {
+    for u in 0..Instance::MAX_ITEMS {
         let position = positions[u];
-        number(position.x as usize);
-        number(position.y as usize);
-        number(position.t as usize);
-        number(marks[u] as usize);
-        u += 1;
+        number(out, position.x as usize)?;
+        number(out, position.y as usize)?;
+        number(out, position.t as usize)?;
+        number(out, marks[u] as usize)?;
     }
+    Ok(())
 }
 
 // A refusal without a line end.
-pub fn refused(refusal: Refusal) {
-    word(b"refused");
-    number(refusal.number() as usize);
-    number(refusal.place());
+pub fn refused<W: Write>(out: &mut W, refusal: Refusal) -> io::Result<()> {
+    word(out, b"refused")?;
+    number(out, refusal.number() as usize)?;
+    number(out, refusal.place())
 }
 
-fn measures(size: Size) {
-    number(size.width as usize);
-    number(size.depth as usize);
-    number(size.shifts as usize);
+fn measures<W: Write>(out: &mut W, size: Size) -> io::Result<()> {
+    number(out, size.width as usize)?;
+    number(out, size.depth as usize)?;
+    number(out, size.shifts as usize)
 }
 
 // Its measures, and a word where it may be turned.
-fn print_item(item: Item) {
-    measures(item.size);
+fn print_item<W: Write>(out: &mut W, item: Item) -> io::Result<()> {
+    measures(out, item.size)?;
     if item.may_turn {
-        word(b" turn");
+        word(out, b" turn")?;
     }
+    Ok(())
 }
 
-fn items_below(items: [Item; Instance::MAX_ITEMS], n: usize) {
-    let mut i: usize = 0;
-    while i < n {
-        if Instance::MAX_ITEMS <= i {
-            return;
-        }
-        print_item(items[i]);
-        i += 1;
+fn items_below<W: Write>(
+    out: &mut W,
+    items: [Item; Instance::MAX_ITEMS],
+    n: usize,
+) -> io::Result<()> {
+    for &item in items.iter().take(n) {
+        print_item(out, item)?;
     }
+    Ok(())
 }
 
 // Its lag is printed where it is above 0.
-fn print_precedence(precedence: Precedence) {
-    number(precedence.predecessor as usize);
-    number(precedence.successor as usize);
+fn print_precedence<W: Write>(out: &mut W, precedence: Precedence) -> io::Result<()> {
+    number(out, precedence.predecessor as usize)?;
+    number(out, precedence.successor as usize)?;
     if precedence.lag != 0 {
-        word(b" lag");
-        number(precedence.lag as usize);
+        word(out, b" lag")?;
+        number(out, precedence.lag as usize)?;
     }
+    Ok(())
 }
 
-fn precedences_below(precedences: [Precedence; Instance::MAX_PRECEDENCES], m: usize) {
-    let mut i: usize = 0;
-    while i < m {
-        if Instance::MAX_PRECEDENCES <= i {
-            return;
-        }
-        print_precedence(precedences[i]);
-        i += 1;
+fn precedences_below<W: Write>(
+    out: &mut W,
+    precedences: [Precedence; Instance::MAX_PRECEDENCES],
+    m: usize,
+) -> io::Result<()> {
+    for &precedence in precedences.iter().take(m) {
+        print_precedence(out, precedence)?;
     }
+    Ok(())
 }
 
 fn is_size_zero(size: Size) -> bool
@@ -194,27 +187,26 @@ fn is_rest_zero(instance: Instance) -> bool
 }
 
 // An instance, with a word on the entries past its counts; its walkway is printed where it is above 0.
-pub fn read_instance(instance: Instance) {
-    word(b"read");
+pub fn read_instance<W: Write>(out: &mut W, instance: Instance) -> io::Result<()> {
+    word(out, b"read")?;
     let container = instance.container;
-    measures(container);
-    word(b" items");
-    number(instance.item_count);
+    measures(out, container)?;
+    word(out, b" items")?;
+    number(out, instance.item_count)?;
     let items = instance.items;
-    items_below(items, instance.item_count);
-    word(b" precedences");
-    number(instance.precedence_count);
+    items_below(out, items, instance.item_count)?;
+    word(out, b" precedences")?;
+    number(out, instance.precedence_count)?;
     let precedences = instance.precedences;
-    precedences_below(precedences, instance.precedence_count);
-    word(b" yard");
-    number(instance.yard_number as usize);
+    precedences_below(out, precedences, instance.precedence_count)?;
+    word(out, b" yard")?;
+    number(out, instance.yard_number as usize)?;
     if instance.walkway != 0 {
-        word(b" walkway");
-        number(instance.walkway as usize);
+        word(out, b" walkway")?;
+        number(out, instance.walkway as usize)?;
     }
     if is_rest_zero(instance) {
-        word(b" rest zero");
-        return;
+        return word(out, b" rest zero");
     }
-    word(b" rest not zero");
+    word(out, b" rest not zero")
 }
