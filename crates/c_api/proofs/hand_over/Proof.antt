@@ -18,8 +18,8 @@ answered c = omega (arith, number_is c.before, c.if-code-ge100.false)
 returns : tie.Need-returns-then-code-ge100
 returns c =
     let a = (start c.before).args in
-    let refused : 100 ≤ answer_number a.result.answer = omega (arith, number_is c.before, c.if-code-ge100.true) in
-    let (n, s, p) = refused-keeps a.result.answer a.note.now a.steps.now a.plan.now _ _ _ refused in
+    let refused : 100 ≤ answer_number a.res.answer = omega (arith, number_is c.before, c.if-code-ge100.true) in
+    let (n, s, p) = refused-keeps a.res.answer a.note.now a.steps.now a.plan.now _ _ _ refused in
     (number_is c.before, (sym n, (sym s, sym p)))
 
 returns_2 : tie.Need-returns
@@ -31,8 +31,8 @@ returns_2 c =
     let e = put.put_answer.ensures in (
       e.0,
       (
-        noted.write_checkpoint.ensures ∙ not_refused a.result.answer _ _ (answered coded),
-        (e.1.0 ∙ not_refused a.result.answer _ _ (answered coded), e.1.1),
+        noted.write_checkpoint.ensures ∙ not_refused a.res.answer _ _ (answered coded),
+        (e.1.0 ∙ not_refused a.res.answer _ _ (answered coded), e.1.1),
       ),
     )
 

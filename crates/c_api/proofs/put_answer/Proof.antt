@@ -22,7 +22,7 @@ returns c =
     let placed = sym (number_is coded) ∙ c.if-code-eq1.true in (
       number_is coded,
       (
-        (stepped coded).write-steps.ensures,
+        (stepped coded).write_steps.ensures,
         c.write_packing.ensures ∙ plan-placed a.answer a.plan.now (packing_bytes a.n a.packing) placed,
       ),
     )
@@ -33,7 +33,7 @@ returns_2 c =
     let a = (start coded).args in (
       number_is coded,
       (
-        (stepped coded).write-steps.ensures,
+        (stepped coded).write_steps.ensures,
         plan-kept a.answer a.plan.now (packing_bytes a.n a.packing) (λ e. c.if-code-eq1.false (number_is coded ∙ e)),
       ),
     )
