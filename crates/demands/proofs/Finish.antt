@@ -1,6 +1,7 @@
 -- Document 02's #103 holds, in values and on bytes.
 use Rattle.prelude.specs.Names.{true, List, ◌≡◌, refl, ap, ◌∙◌, ℕ, arith}
-use Rattle.model.proofs.Earliest.{fits_longer, earliest_right}
+use Rattle.model.proofs.Earliest.{fits_longer}
+use Rattle.model.proofs.EarliestRight.{earliest_right}
 use Rattle.model.specs.Admits.{Sound}
 use Rattle.model.specs.Earliest.{earliest_finish}
 use Rattle.model.specs.Turning.{Turnable, Plan, Fits}

@@ -39,5 +39,6 @@ pub mod Outside
 pub mod FirstBranches
 pub mod Theorems
 pub mod Earliest
+pub mod EarliestRight
 pub mod Shorter
 pub mod Examples

@@ -8,8 +8,8 @@ use Rattle.test_exports.proofs.exports_clearance.Tie as tie
 
 returns : tie.Need-returns
 returns c =
-    let integer = c.clearance-integer in
-    to_z-of_z w32 _ (record { sfits = integer.type-inv }) ∙ integer.ensures ∙ ap (λ a. clearance_in (clearance_values a)) c.before.clearance-of.ensures
+    let integer = c.clearance_integer in
+    to_z-of_z w32 _ (record { sfits = integer.type_inv }) ∙ integer.ensures ∙ ap (λ a. clearance_in (clearance_values a)) c.clearance_of.ensures
 
 pub exports_clearance_spec : {M : Type 1} → Rattle.test_exports.proofs.exports_clearance.Statement.statement M
 exports_clearance_spec = tie.close (tie.spec (λ c κs. search rules) (λ c κs. search rules) returns)

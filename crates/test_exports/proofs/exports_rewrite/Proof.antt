@@ -13,17 +13,17 @@ values_read same h = rw (sym same, h) refl
 values-refused : {r r' : ReadResult} {e : Refusal} → r ≡ r' → r.answer ≡ R.Refused e → read_values r' ≡ inr (number_of e, place_of e)
 values-refused same h = rw (sym same, h) refl
 
-returns : tie.Need-returns
+returns : tie.Need-returns-in-Read
 returns c =
     let written = c.before.before.before in
     let answered = written.before.before in
     let w = written.write.ensures in
-    let e = values_read answered.before.before.before.read.ensures answered.enum_told.given.1 in
-    (rw (e, c.write-length.ensures, w.0), rw (e, w.1.0))
+    let e = values_read answered.read-result.ensures answered.in-Read.is in
+    (rw (e, c.write_length.ensures, w.0), rw (e, w.1.0))
 
-returns_2 : tie.Need-returns-2
+returns_2 : tie.Need-returns-in-Refused
 returns_2 c =
-    let e = values-refused c.before.before.before.read.ensures c.enum-told2.given.1 in
+    let e = values-refused c.read-result.ensures c.in-Refused.is in
     (rw e, rw e)
 
 pub exports_rewrite_spec : {M : Type 1} → Rattle.test_exports.proofs.exports_rewrite.Statement.statement M

@@ -5,4 +5,4 @@ use Rattle.test_exports.proofs.answers.check_code.Tie as tie
 pub check_code_spec : {M : Type 1} → Rattle.test_exports.proofs.answers.check_code.Statement.statement M
 check_code_spec = tie.close (tie.spec (λ c. search rules) (λ c. search rules) (λ c. search rules) (λ c κs. search rules) (λ c κs. search rules)
     (λ c. search rules) (λ c. search rules) (λ c. search rules)
-    (λ c. rw (c.before.before.before.answer.given.1, c.wide.ensures.0, c.before.number.ensures)))
+    (λ c. rw (c.in-Refused.is, c.wide.ensures.0, c.number.ensures)))

@@ -1,2 +1,0 @@
--- What the crates take from the toolchain's libraries.
-pub mod Names
