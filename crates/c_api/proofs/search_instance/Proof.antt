@@ -65,6 +65,6 @@ returns_3 : tie.Need-returns
 returns_3 c = rw (result c.before.before.before.before.before.before.before.before.before.before) c.hand_over.ensures
 
 pub search_instance_spec : {M : Type 1} → Rattle.c_api.proofs.search_instance.Statement.statement M
-search_instance_spec = tie.close (tie.spec (λ c κs. search rules) (λ c κs. search rules) returns (λ c κs. (lengths c.before).note_is)
+search_instance_spec = tie.close (tie.spec (λ c κs. search rules) (λ c κs. search rules) returns (λ c κs. (lengths c).note_is)
     (λ c κs. search rules) (λ c. search rules) returns_2 (λ c κs. (lengths c.before.before).note_is) (λ c κs. search rules)
     hand_over_requires (λ c. search rules) (λ c. search rules) (λ c. search rules) returns_3)
