@@ -3,7 +3,7 @@ use Rattle.prelude.specs.Names.{◌≡◌, refl, sym, ap, ◌∙◌, subst, ℕ,
 use Rattle.prelude.specs.Names.{le_refl, le_trans, le_of_suc-le-suc, zero-add, arith}
 use Rattle.model.specs.Turning.{Turnable, Plan, Fits}
 use Rattle.model.specs.Admits.{Sound}
-use Rattle.model.specs.Machine.{Status, running, failed, succeeded, steps}
+use Rattle.model.specs.Machine.{Status, running, failed, succeeded}
 use Rattle.model.specs.Search.{status}
 use Rattle.model.specs.Calls.{Answer, budget_spent, no_packing, packing}
 use Rattle.model.specs.Run.{plan_at, run_end, step_count}

@@ -5,7 +5,7 @@ use Rattle.model.specs.Below.{all_below}
 use Rattle.model.specs.Problem.{Problem}
 use Rattle.model.specs.Pairs.{pair_number, pair_of}
 use Rattle.model.specs.Domains.{Domains, may_overlap, may_before, gone, without, fixed_before, remove_overlap, remove_before}
-use Rattle.model.specs.Propagate.{Slot, passes}
+use Rattle.model.specs.Propagate.{Slot}
 use Rattle.model.specs.Branching.{separated, packed, undecided, pair_separated, choice_number, choice_axis, choice, Branch, first, second}
 use Rattle.model.specs.Branching.{branch_at, branched, path_domains}
 use Rattle.model.specs.Order.{Proper, WellFormed, ◌⊑◌, Fork}

@@ -3,7 +3,7 @@ use Rattle.prelude.specs.Names.{◌≡◌, refl, sym, ap, subst, ◌⊎◌, inl,
 use Rattle.prelude.specs.Names.{le_refl, arith, length}
 use Rattle.model.specs.Branching.{Branch, first, second}
 use Rattle.model.specs.Machine.{Open, steps, Count, Invariant}
-use Rattle.model.specs.Search.{Outlook, conflict, complete, fork, Checkpoint, open_at, infeasible, packed_at, backtrack, act, step, searching}
+use Rattle.model.specs.Search.{Outlook, conflict, complete, fork, Checkpoint, open_at, infeasible, packed_at, backtrack, act, searching}
 use Rattle.model.specs.Search.{opening, Forking, Follows, is_fork, is_complete, forking, follows, path_count, Laws}
 use Rattle.model.proofs.Below.{and_intro, and_both}
 use Rattle.model.proofs.Machine.{Way, no_steps, step_then, join, way_ends, way_counts, steps_keep}

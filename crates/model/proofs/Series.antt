@@ -1,12 +1,12 @@
 -- A series of machines ends where the first one succeeds, or where the last fails, and its steps are the sum of theirs. A call on it is a call on the machine
 -- that runs, and, where that fails, one on the next from its opening.
-use Rattle.prelude.specs.Names.{◌⊎◌, inl, inr, ◌≡◌, refl, sym, ap, ◌∙◌, subst, ℕ, zero, suc, ◌+◌, ◌-◌, ◌*◌, ◌≤◌, ◌<◌, dec_lt, le-ltb, lt-ltb, zero-add, arith}
+use Rattle.prelude.specs.Names.{◌≡◌, refl, sym, ap, ◌∙◌, subst, ℕ, zero, suc, ◌+◌, ◌-◌, ◌*◌, ◌≤◌, ◌<◌, dec_lt, le-ltb, lt-ltb, arith}
 use native.Mathlib.Nat.{suc-mul}
 use Rattle.model.specs.Below.{sum_below}
 use Rattle.model.specs.Machine.{Status, running, failed, succeeded, Machine, Running, Ended, Open, Finished, steps, taken, Count, Invariant}
 use Rattle.model.specs.Series.{Stage, stage, stage_by, stage_after, series, StageFollows}
-use Rattle.model.proofs.Machine.{ended_not_running, running_is, steps_open, taken_open, finished_stays, finished-takes-none, steps_keep}
-use Rattle.model.proofs.Machine.{Way, no_steps, step_then, join, way_ends, way_counts, count_way}
+use Rattle.model.proofs.Machine.{ended_not_running, running_is, steps_open, taken_open, finished_stays, finished-takes-none}
+use Rattle.model.proofs.Machine.{Way, no_steps, step_then, join, count_way}
 
 -- no sum is above as many times what each is no more than
 pub sum_bound : (f : ℕ → ℕ) (w : ℕ) → ((n : ℕ) → f n ≤ w) → (n : ℕ) → sum_below n f ≤ n * w

@@ -5,7 +5,7 @@ use Rattle.model.specs.Turning.{Fits}
 use Rattle.instance.specs.declared.Instance.{Instance}
 use Rattle.instance.specs.declared.Packing.{Packing}
 use Rattle.instance.specs.Valid.{valid}
-use Rattle.instance.specs.Meaning.{problem_of, positions_of}
+use Rattle.instance.specs.Meaning.{positions_of}
 use Rattle.turning.specs.Turned.{turnable_of, plan_of, marks_allowed, MarksAllowed}
 use Rattle.turning.proofs.Marks.{marks_exactly, marks_fit, fit_marks}
 use Rattle.packing.specs.declared.CheckAnswer.{CheckAnswer}

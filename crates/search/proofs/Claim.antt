@@ -5,7 +5,6 @@ use Rattle.model.proofs.Below.{and_intro, and_both, clash, test_false}
 use Rattle.model.proofs.Lists.{all-refused}
 use Rattle.model.proofs.Turning.{choice-sound, marks-sound, turned_same}
 use Rattle.model.specs.Admits.{Sound}
-use Rattle.model.specs.Branching.{plan}
 use Rattle.model.specs.Lists.{Reaches, call_served, Serves, AllRefused}
 use Rattle.model.specs.Machine.{steps, taken}
 use Rattle.model.specs.Problem.{Problem}
@@ -33,7 +32,6 @@ use Rattle.tree_paths.proofs.Checkpoints.{Short, checkpoint-back, value-well_for
 use Rattle.opening.proofs.Sound.{valid-sound}
 use Rattle.model.proofs.Theorems as T
 use Rattle.model.specs.Calls as C
-use Rattle.model.specs.Run as R
 use Rattle.model.specs.Search as S
 
 -- the value of the opening checkpoint

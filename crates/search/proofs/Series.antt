@@ -7,9 +7,9 @@ use Rattle.model.proofs.Series.{by_status, failed_succeeded, call-within, call-o
 use Rattle.model.proofs.Theorems.{finished_repeats}
 use Rattle.model.specs.Branching.{Branch, plan}
 use Rattle.model.specs.Machine.{failed, Machine, Running, Ended, steps, taken}
-use Rattle.model.specs.Problem.{Problem, Positions}
+use Rattle.model.specs.Problem.{Problem}
 use Rattle.model.specs.Series.{stage}
-use Rattle.model.specs.Turning.{Turnable, Plan, choice_problem, last_choice, marks_of}
+use Rattle.model.specs.Turning.{Turnable, choice_problem, last_choice, marks_of}
 use Rattle.model.specs.Run.{look, tree_machine, choice_machine, ChoiceCheckpoint, machine, plan_at, last_if_infeasible, choice_follows}
 use Rattle.refusal.specs.declared.Refusal.TheVariants.{NotFollowing}
 use Rattle.instance.specs.declared.Checkpoint.{Checkpoint}
@@ -25,7 +25,7 @@ use Rattle.tree_paths.specs.Checkpoints.{branches_of, value_path, value_at, with
 use Rattle.tree_paths.proofs.Checkpoints.{checkpoint_as}
 use Rattle.tree_search.specs.Results.{positions_list, not_following, tree_result}
 use Rattle.tree_search.specs.declared.outcome.TreeResult.{TreeResult}
-use Rattle.tree_search.proofs.Outcomes.{ResultIs, is-not_following, is-spent, is-infeasible, is-packed, result_is}
+use Rattle.tree_search.proofs.Outcomes.{is-not_following, is-spent, is-infeasible, is-packed, result_is}
 use Rattle.search.specs.Results.{marks_list, packing_of, result_of, result_refused, followed_if, followed, infeasible_after, spent_after, packed_after}
 use Rattle.search.specs.Results.{answer_in, search_result}
 use Rattle.search.specs.declared.answer.SearchResult.{SearchResult}
@@ -33,7 +33,6 @@ use Rattle.model.specs.Calls as C
 use Rattle.model.specs.Search as S
 use Rattle.tree_search.specs.Results as T
 use Rattle.tree_search.specs.declared.outcome.Outcome.{Outcome}
-use Rattle.tree_search.specs.declared.outcome.Outcome.TheVariants as Outcome
 
 -- outcomes of four kinds
 abbrev pub kind : Outcome → ℕ

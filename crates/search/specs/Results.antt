@@ -21,9 +21,7 @@ use Rattle.search.specs.declared.answer.SearchResult.{SearchResult}
 use Rattle.model.specs.Calls as C
 use Rattle.model.specs.Run as R
 use Rattle.refusal.specs.Numbers as N
-use Rattle.instance.specs.declared.Status.TheVariants as Status
 use Rattle.tree_search.specs.declared.outcome.Outcome.{Outcome}
-use Rattle.tree_search.specs.declared.outcome.Outcome.TheVariants as Outcome
 
 -- "It returns 0 spent, 1 placed, 2 none, or a refusal as check does": "100 plus the number for a refusal"
 abbrev pub answer_number : Answer → ℕ

@@ -142,8 +142,8 @@ module _ (s : List ℕ) where
         ],
         elim [
           | inl (p, i, w) ↦ (elim i as (λ p i. Misfit p e → ((is_set (byte_at s m) 1 ≡ true) × Misfit (m + 1) e)
-                ⊎ (((is_set (byte_at s m) 2 ≡ true) × Misfit (m + 1 + a) e)
-                ⊎ (((is_set (byte_at s m) 4 ≡ true) × Misfit (m + 1 + a + b) e) ⊎ W e)))
+              ⊎ (((is_set (byte_at s m) 2 ≡ true) × Misfit (m + 1 + a) e)
+              ⊎ (((is_set (byte_at s m) 4 ≡ true) × Misfit (m + 1 + a + b) e) ⊎ W e)))
               [ width t ↦ λ w. inl (t, w) | depth t ↦ λ w. inr (inl (t, w)) | shifts t ↦ λ w. inr (inr (inl (t, w))) ]) w
           | inr w ↦ inr (inr (inr w))
         ],

@@ -1,10 +1,10 @@
 -- How many choices there are, and the digits of a choice.
-use Rattle.prelude.specs.Names.{Bool, true, false, cond, ◌&&◌, List, ◌≡◌, refl, sym, ap, ◌∙◌, ℕ, zero, suc, ◌+◌, ◌-◌, ◌*◌, ◌/◌, ◌%◌, ◌^◌, ◌≤◌, ◌<◌, arith}
+use Rattle.prelude.specs.Names.{Bool, true, false, cond, ◌&&◌, List, ◌≡◌, refl, ap, ◌∙◌, ℕ, zero, suc, ◌+◌, ◌-◌, ◌*◌, ◌%◌, ◌^◌, ◌≤◌, ◌<◌, arith}
 use Rattle.prelude.specs.Names.{eqb, get_or}
-use Rattle.prelude.specs.Names.{le_refl, le_trans, pow_mono, lt-ltb, le-ltb, add-one}
+use Rattle.prelude.specs.Names.{le_trans, pow_mono, lt-ltb, le-ltb, add-one}
 use Rattle.model.specs.Below.{all_below}
 use Rattle.model.specs.Domains.{odd}
-use Rattle.model.specs.Turning.{Turnable, digits_from, marks_of, choice_count, last_choice}
+use Rattle.model.specs.Turning.{digits_from, marks_of, choice_count, last_choice}
 use Rattle.parts.specs.Sizes.{no_item}
 use native.Mathlib.Nat.{pow-suc}
 use Rattle.parts.specs.declared.Item.{Item}

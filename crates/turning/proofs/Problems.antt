@@ -1,15 +1,13 @@
 -- The instance with its marked items turned is the problem with them turned, and it is valid where it was.
-use Rattle.prelude.specs.Names.{Bool, true, false, ◌&&◌, List, ◌≡◌, refl, sym, ap, ◌∙◌, subst, ℕ, zero, suc, ◌≤◌, ◌<◌, dec_lt, arith, length, get_or, take}
-use Rattle.prelude.specs.Names.{length-take, length-take-le, get_or-take, le-leb, get_or-eq_default}
+use Rattle.prelude.specs.Names.{Bool, true, false, List, ◌≡◌, refl, sym, ap, ◌∙◌, ℕ, zero, suc, ◌≤◌, ◌<◌, dec_lt, arith, length, get_or, take}
+use Rattle.prelude.specs.Names.{length-take-le, get_or-take, le-leb, get_or-eq_default}
 use Rattle.model.proofs.Below.{and_intro, and_both}
-use Rattle.model.specs.Problem.{Problem}
-use Rattle.model.specs.Turning.{Turnable, measured_on, turned, marks_of, choice_problem}
-use Rattle.parts.specs.Sizes.{in_range, size_in_range, all_in_range, no_item}
+use Rattle.model.specs.Turning.{measured_on, turned, marks_of, choice_problem}
+use Rattle.parts.specs.Sizes.{in_range, size_in_range, no_item}
 use Rattle.parts.specs.declared.Item.{Item}
-use Rattle.parts.specs.declared.Size.{Size}
 use Rattle.instance.specs.declared.Instance.{Instance}
 use Rattle.instance.specs.Meaning.{measure_on, problem_of}
-use Rattle.instance.specs.Valid.{valid, items_of, precedences_of}
+use Rattle.instance.specs.Valid.{valid, items_of}
 use Rattle.instance.proofs.Ranges.{range_at, range_all}
 use Rattle.instance.proofs.Sheets.{valid-says}
 use Rattle.turning.specs.Turned.{may_turn_in, turnable_of, is_turned, mark_of, marks_in, each_of_ten, choice_marks, turned_item, turned_items}

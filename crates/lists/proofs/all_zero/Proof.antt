@@ -22,7 +22,7 @@ next-tested c =
 pub all_zero_spec : {M : Type 1} → Rattle.lists.proofs.all_zero.Statement.statement M
 unfolding lags_zero
 all_zero_spec = tie.close (tie.spec invariant_loop decreases_loop (λ c. (omega arith, refl)) (λ c. search rules)
-    (λ c. rw (next-tested c.before, ne_eqb _ _ c.if-lags-i-ne0.true)) (λ c. search rules) (λ c. search rules)
-    (λ c. (omega arith, rw (next-tested c.before, eq-eqb _ _ c.if-lags-i-ne0.false)))
+    (λ c. rw (next-tested c.before, ne_eqb (get_or c.args.lags c.loop-i.i 0) 0 (λ e. omega arith))) (λ c. search rules) (λ c. search rules)
+    (λ c. (omega arith, rw (next-tested c.before, eq-eqb (get_or c.args.lags c.loop-i.i 0) 0 (omega arith))))
     (λ c. let l = c.before in let gs = l.args.lags in let h : length gs ≡ 90 = search rules in
     rw (l.loop-i.invariant.1, drop_of_length-le gs {i = l.loop-i.i} (omega arith))))

@@ -1,9 +1,8 @@
 -- `makespan::earliest_finish` meets its contract.
-use Rattle.prelude.specs.Names.{true, ◌≡◌, sym, ap, ◌∙◌, ℕ, suc, ◌+◌, ◌*◌, ◌/◌, ◌≤◌, ◌<◌, arith, rules, not-true, not-false}
+use Rattle.prelude.specs.Names.{true, ◌≡◌, sym, ap, ◌∙◌, ℕ, ◌+◌, ◌*◌, ◌/◌, ◌≤◌, arith, rules, not-true, not-false}
 use Rattle.model.specs.Earliest.{earliest_finish}
 use Rattle.instance.proofs.Arrays.{length_mapped}
 use Rattle.instance.proofs.Sheets.{valid-says}
-use Rattle.instance.specs.Meaning.{problem_of}
 use Rattle.turning.specs.Turned.{turnable_of}
 use Rattle.opening.proofs.Sound.{valid-sound}
 use Rattle.model.specs.Admits.{Sound}

@@ -1,6 +1,5 @@
 -- `opening::root_of` meets its contract.
 use Rattle.prelude.specs.Names.{rules, not-true, not-false, true, subst, ◌≡◌}
-use Rattle.model.specs.Admits.{Sound}
 use Rattle.model.specs.Domains.{full_domains}
 use Rattle.model.specs.Branching.{opening_domains}
 use Rattle.instance.proofs.Arrays.{length_mapped}

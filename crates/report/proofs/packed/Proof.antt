@@ -1,5 +1,5 @@
 -- `report::packed` meets its contract.
-use Rattle.prelude.specs.Names.{rules, arith, ◌∙◌, ◌++◌, length-append}
+use Rattle.prelude.specs.Names.{arith, ◌∙◌, ◌++◌, length-append}
 use Rattle.report.specs.Text.{placed_word, answer_line, item_lines}
 use Rattle.formats.proofs.Stores.{sets-front}
 use Rattle.report.proofs.Puts.{sets-joined}

@@ -7,7 +7,6 @@ use Rattle.model.specs.Admits.{Sound}
 use Rattle.model.specs.Branching.{Branch}
 use Rattle.model.specs.Domains.{Domains}
 use Rattle.model.specs.Problem.{Problem}
-use Rattle.model.specs.Run.{look}
 use Rattle.model.specs.Wide.{wide}
 use Rattle.instance.proofs.Arrays.{length_mapped}
 use Rattle.instance.specs.Meaning.{problem_of}

@@ -1,5 +1,5 @@
 -- `opening::layout::put_lag` meets its contract.
-use Rattle.prelude.specs.Names.{rules, arith, refl, ◌≤◌, lt-ltb, le-ltb}
+use Rattle.prelude.specs.Names.{rules, arith, refl, lt-ltb, le-ltb}
 use Rattle.opening.proofs.layout.put_lag.Tie as tie
 
 pub put_lag_spec : {M : Type 1} → Rattle.opening.proofs.layout.put_lag.Statement.statement M

@@ -1,5 +1,5 @@
 -- `parts::read::read_byte` meets its contract.
-use Rattle.prelude.specs.Names.{arith, get_or, add-zero, lt-leb, le-ltb}
+use Rattle.prelude.specs.Names.{◌≡◌, arith, get_or, add-zero, lt-leb, le-ltb}
 use Rattle.parts.proofs.Readers.{byte_number-run}
 use Rattle.parts.proofs.Answers.{answers}
 use Rattle.parts.proofs.read.read_byte.Tie as tie
@@ -7,6 +7,7 @@ use Rattle.parts.proofs.read.read_byte.Tie as tie
 pub read_byte_spec : {M : Type 1} → Rattle.parts.proofs.read.read_byte.Statement.statement M
 read_byte_spec = tie.close (tie.spec (λ c. search (answers, byte_number-run, c.if-not-present.true-raw, add-zero))
     (λ c. search (answers, byte_number-run, c.if-not-present.false-raw)) (λ c. search answers)
-    (λ c. let d = c.before.before in simp (byte_number-run, d.if-not-present.false-raw, le-ltb _ _ d.if-rest-lt1.false, c.if-v-eq0.true))
-    (λ c. let d = c.before.before in let above = lt-leb (get_or d.args.rest.now 0 0) 0 (omega (arith, c.if-v-eq0.false)) in
-    simp (byte_number-run, d.if-not-present.false-raw, le-ltb _ _ d.if-rest-lt1.false, above)))
+    (λ c. let none : get_or c.args.rest.now 0 0 ≡ 0 = omega arith in
+    simp (byte_number-run, c.if-not-present.false-raw, le-ltb _ _ c.if-rest-lt1.false, none))
+    (λ c. let above = lt-leb (get_or c.args.rest.now 0 0) 0 (omega arith) in
+    simp (byte_number-run, c.if-not-present.false-raw, le-ltb _ _ c.if-rest-lt1.false, above)))

@@ -1,5 +1,5 @@
 -- `parts::read::read_item` meets its contract.
-use Rattle.prelude.specs.Names.{arith, add_assoc, le-ltb, length-drop, drop-drop}
+use Rattle.prelude.specs.Names.{arith, add_assoc, get_or, le-ltb, length-drop, drop-drop}
 use Rattle.formats.proofs.Entries.{rest_of}
 use Rattle.formats.proofs.Run.{run_took}
 use Rattle.parts.proofs.Readers.{item-run}
@@ -20,14 +20,14 @@ read_item_spec = tie.close (tie.spec (λ c. search (answers, item-run)) (λ c. s
     simp (
       item-run,
       le-ltb _ _ c.if-rest-lt1.false,
-      le-ltb 15 _ c.if-map-gt15.false,
+      le-ltb 15 (get_or c.args.rest.now 0 0) (omega arith),
       h,
     ))
     (λ c. let h = rw (rest_of, c.in-Value.is) at c.read_size.ensures in
     simp (
       item-run,
       le-ltb _ _ c.if-rest-lt1.false,
-      le-ltb 15 _ c.if-map-gt15.false,
+      le-ltb 15 (get_or c.args.rest.now 0 0) (omega arith),
       h,
       ← c.bit_is_set-may_turn.ensures,
       add_assoc,

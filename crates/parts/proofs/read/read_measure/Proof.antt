@@ -29,8 +29,8 @@ pub read_measure_spec : {M : Type 1} → Rattle.parts.proofs.read.read_measure.S
 read_measure_spec = tie.close (tie.spec (λ c. search (answers, measure-run, c.if-not-present.true-raw, add-zero)) (λ c. search answers)
     (λ c. search (answers, measure-run, c.if-not-present.false-raw)) (λ c. search answers) (λ c κs. search answers) (λ c. search answers)
     (λ c κs. search answers) (λ c. search answers) (λ c. search answers)
-    (λ c. let b = c.before in rw (by_value b, le-leb (value b) 1 (omega (arith, c.if-v-le1.true))))
+    (λ c. let b = c.before in rw (by_value b, le-leb (value b) 1 (omega arith)))
     (λ c. let b = c.before.before in
-    rw (by_value b, lt-leb (value b) 1 (omega (arith, c.if-v-le1.false)), lt-ltb max_measure (value b) (omega (arith, c.if-v-gt-MAX_MEASURE.true))))
+    rw (by_value b, lt-leb (value b) 1 (omega arith), lt-ltb max_measure (value b) (omega arith)))
     (λ c. let b = c.before.before in
-    rw (by_value b, lt-leb (value b) 1 (omega (arith, c.if-v-le1.false)), le-ltb max_measure (value b) (omega (arith, c.if-v-gt-MAX_MEASURE.false)))))
+    rw (by_value b, lt-leb (value b) 1 (omega arith), le-ltb max_measure (value b) (omega arith))))

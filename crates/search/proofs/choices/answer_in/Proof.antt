@@ -1,6 +1,5 @@
 -- `search::choices::answer_in` meets its contract, by the outcome.
-use Rattle.prelude.specs.Names.{◌≡◌, sym, ap, ◌∙◌, rules}
-use Rattle.search.specs.Results.{answer_with, packed_after}
+use Rattle.prelude.specs.Names.{rules}
 use Rattle.search.proofs.choices.answer_in.Tie as tie
 
 pub answer_in_spec : {M : Type 1} → Rattle.search.proofs.choices.answer_in.Statement.statement M

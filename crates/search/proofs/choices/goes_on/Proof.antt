@@ -1,6 +1,5 @@
 -- `search::choices::goes_on` meets its contract.
-use Rattle.prelude.specs.Names.{◌≡◌, ℕ, arith, ap, sym, ◌∙◌, rules}
-use Rattle.tree_search.specs.declared.outcome.Outcome.{Outcome}
+use Rattle.prelude.specs.Names.{arith, ap, rules}
 use Rattle.search.proofs.Series.{kind}
 use Rattle.search.proofs.choices.goes_on.Tie as tie
 

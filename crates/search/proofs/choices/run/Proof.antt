@@ -1,8 +1,8 @@
 -- `search::choices::run` meets its contract. Invariant: the whole call is the one that is left, from the choice and its path, after the steps so far.
 -- Measure: the choices left.
-use Rattle.prelude.specs.Names.{◌≡◌, refl, sym, ap, ◌∙◌, subst, List, ℕ, suc, ◌+◌, ◌-◌, ◌≤◌, ◌<◌, add-one, sub-zero, arith, rules, not-true, not-false}
+use Rattle.prelude.specs.Names.{◌≡◌, refl, sym, ◌∙◌, subst, List, ℕ, ◌+◌, ◌-◌, ◌≤◌, ◌<◌, add-one, arith, rules, not-true, not-false}
 use Rattle.model.specs.Series.{stage}
-use Rattle.model.specs.Turning.{Turnable, choice_problem, last_choice}
+use Rattle.model.specs.Turning.{choice_problem, last_choice}
 use Rattle.instance.proofs.Sheets.{valid-says}
 use Rattle.instance.specs.declared.Checkpoint.{Checkpoint}
 use Rattle.instance.specs.declared.Instance.{Instance}
