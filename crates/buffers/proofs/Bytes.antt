@@ -1,5 +1,6 @@
 -- Laws of words, plans and steps as bytes.
-use Rattle.prelude.specs.Names.{List, [], ◌∷◌, ◌++◌, append-nil, map, ◌≡◌, refl, sym, ◌∙◌, ℕ, zero, suc, ◌+◌, ◌*◌, ◌/◌, ◌%◌, ◌≤◌, ◌<◌, ℕ_discrete, dec_lt}
+use Rattle.std.specs.Prelude.{◌∷◌, ◌++◌, ◌≡◌, ◌+◌, ◌*◌, ◌/◌, ◌%◌, ◌≤◌, ◌<◌}
+use Rattle.prelude.specs.Names.{List, [], append-nil, map, refl, sym, ◌∙◌, ℕ, zero, suc, ℕ_discrete, dec_lt}
 use Rattle.prelude.specs.Names.{arith, add-zero, add-one, length, get_or, set, replicate, length-append, length-set, drop_of_length-le, get_or-eq_default}
 use Rattle.prelude.specs.Names.{sets, ext_get_or, get_or-set_same, get_or-set_other, get_or-append-add}
 use lib.ListN.{get_or-append}

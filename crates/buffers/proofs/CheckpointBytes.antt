@@ -1,5 +1,6 @@
 -- Laws of checkpoints as bytes.
-use Rattle.prelude.specs.Names.{true, false, ◌&&◌, List, [], ◌∷◌, ◌++◌, ◌≡◌, refl, sym, ◌∙◌, ℕ, zero, suc, ◌+◌, ◌*◌, ◌/◌, ◌%◌, ◌≤◌, ◌<◌, arith, add-one}
+use Rattle.std.specs.Prelude.{◌&&◌, ◌∷◌, ◌++◌, ◌≡◌, ◌+◌, ◌*◌, ◌/◌, ◌%◌, ◌≤◌, ◌<◌}
+use Rattle.prelude.specs.Names.{true, false, List, [], refl, sym, ◌∙◌, ℕ, zero, suc, arith, add-one}
 use Rattle.prelude.specs.Names.{eq-eqb, ne_eqb, eqb-true, ltb, eqb, length, get_or, take, drop, set, length-append, length-drop, drop_of_length-le, sets}
 use Rattle.prelude.specs.Names.{drop-cons, get_or-drop, get_or-take, get_or-append-add, length-take-le, take_all, take_at}
 use lib.ListN.{take-append-drop}

@@ -1,5 +1,6 @@
 -- Plans and steps as bytes (document 01, "Refusals": "The planning screen, written in C, ..").
-use Rattle.prelude.specs.Names.{List, [], ◌∷◌, ◌++◌, map, ℕ, zero, suc, ◌+◌, ◌*◌, ◌/◌, ◌%◌, get_or}
+use Rattle.std.specs.Prelude.{◌∷◌, ◌++◌, ◌+◌, ◌*◌, ◌/◌, ◌%◌}
+use Rattle.prelude.specs.Names.{List, [], map, ℕ, zero, suc, get_or}
 use Rattle.sheet.specs.Places.{word_at}
 use Rattle.instance.specs.declared.Packing.{Packing}
 use Rattle.instance.specs.declared.Position.{Position}

@@ -1,5 +1,6 @@
 -- Checkpoints as bytes; a note is a checkpoint, a turn a branch, the row's length that of its path (document 01, "Refusals").
-use Rattle.prelude.specs.Names.{Bool, true, ◌&&◌, List, [], ◌∷◌, ◌++◌, ℕ, zero, suc, ◌+◌, ltb, eqb, get_or, take, drop}
+use Rattle.std.specs.Prelude.{◌&&◌, ◌∷◌, ◌++◌, ◌+◌}
+use Rattle.prelude.specs.Names.{Bool, true, List, [], ℕ, zero, suc, ltb, eqb, get_or, take, drop}
 use Rattle.instance.specs.declared.Checkpoint.{Checkpoint}
 use Rattle.instance.specs.declared.Status.{Status}
 use Rattle.instance.specs.declared.Status.TheVariants.{Open, Infeasible, Packed}

@@ -1,6 +1,7 @@
 -- What one call and every list of calls come to, on bytes, from the contract of `hallplan_search`: the number that it returns and what it
 -- leaves in the note, the step bytes and the plan bytes.
-use Rattle.prelude.specs.Names.{Bool, true, false, List, ◌≡◌, refl, sym, ap, ℕ, ◌+◌, ◌≤◌, arith, length, ne_eqb}
+use Rattle.std.specs.Prelude.{◌≡◌, ◌+◌, ◌≤◌}
+use Rattle.prelude.specs.Names.{Bool, true, false, List, refl, sym, ap, ℕ, arith, length, ne_eqb}
 use Rattle.model.proofs.Lists.{all-refused}
 use Rattle.model.specs.Lists.{Reaches, call_refused, call_served, Served, Serves, AllRefused}
 use Rattle.model.specs.Machine.{steps, taken}

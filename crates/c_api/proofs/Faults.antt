@@ -1,5 +1,6 @@
 -- What search refuses of the bytes that it is lent: exactly what the table does, and then it leaves the buffers.
-use Rattle.prelude.specs.Names.{Bool, true, false, List, ◌↔◌, ◌⊎◌, inl, inr, ⊎_elim, ◌≡◌, refl, sym, ap, ◌∙◌, ℕ, ◌+◌, ◌≤◌, ◌<◌, arith}
+use Rattle.std.specs.Prelude.{◌↔◌, ◌⊎◌, ◌≡◌, ◌+◌, ◌≤◌, ◌<◌}
+use Rattle.prelude.specs.Names.{Bool, true, false, List, inl, inr, ⊎_elim, refl, sym, ap, ◌∙◌, ℕ, arith}
 use Rattle.model.proofs.Below.{and_both, clash, test_false}
 use Rattle.model.specs.Run.{ChoiceCheckpoint, ChoiceFollows, machine, plan_at, search}
 use Rattle.model.specs.Series.{stage}

@@ -1,5 +1,6 @@
 -- The earliest finish on bytes, case by case.
-use Rattle.prelude.specs.Names.{Bool, true, false, List, ◌↔◌, ◌⊎◌, inl, inr, ⊎_elim, ◌≡◌, refl, ap, ℕ, ◌+◌, ◌≤◌, ◌<◌, arith, eqb, length, eqb-true, eq-eqb}
+use Rattle.std.specs.Prelude.{◌↔◌, ◌⊎◌, ◌≡◌, ◌+◌, ◌≤◌, ◌<◌}
+use Rattle.prelude.specs.Names.{Bool, true, false, List, inl, inr, ⊎_elim, refl, ap, ℕ, arith, eqb, length, eqb-true, eq-eqb}
 use Rattle.model.proofs.Below.{and_both, clash, test_false}
 use Rattle.refusal.specs.Numbers.{number_of}
 use Rattle.refusal.specs.declared.Refusal.TheVariants.{BadArgument}

@@ -1,5 +1,6 @@
 -- Note bytes and checkpoints: the bytes of a checkpoint hold it, and bytes that get no 10 are those of a checkpoint that follows.
-use Rattle.prelude.specs.Names.{true, List, [], ◌↔◌, ◌≡◌, refl, sym, ap, ◌∙◌, ℕ, ◌+◌, ◌-◌, ◌≤◌, arith, ltb, length, get_or, drop, replicate}
+use Rattle.std.specs.Prelude.{◌↔◌, ◌≡◌, ◌+◌, ◌-◌, ◌≤◌}
+use Rattle.prelude.specs.Names.{true, List, [], refl, sym, ap, ◌∙◌, ℕ, arith, ltb, length, get_or, drop, replicate}
 use Rattle.prelude.specs.Names.{length-drop, length-take-le, get_or-drop, ltb-true}
 use Rattle.model.proofs.Below.{and_both, and_intro}
 use Rattle.model.specs.Admits.{Sound}

@@ -1,5 +1,6 @@
 -- What a call comes to, case by case, and that a path that is to be written has room in a note.
-use Rattle.prelude.specs.Names.{true, false, List, ◌↔◌, ◌≡◌, refl, sym, subst, ℕ, ◌*◌, ◌≤◌, ◌<◌, arith, eqb, length, eqb-true, eq-eqb}
+use Rattle.std.specs.Prelude.{◌↔◌, ◌≡◌, ◌*◌, ◌≤◌, ◌<◌}
+use Rattle.prelude.specs.Names.{true, false, List, refl, sym, subst, ℕ, arith, eqb, length, eqb-true, eq-eqb}
 use Rattle.model.proofs.Below.{and_both}
 use Rattle.model.specs.Admits.{Sound}
 use Rattle.model.specs.Machine.{steps}

@@ -1,5 +1,6 @@
 -- What `hallplan_pieces` returns: the number of the sheet's pieces, at most 10, or 100 plus the number of its first fault.
-use Rattle.prelude.specs.Names.{List, ◌↔◌, ◌⊎◌, inl, inr, ⊎_elim, ◌≡◌, refl, sym, ◌∙◌, ℕ, ◌+◌, ◌≤◌, ◌<◌, arith}
+use Rattle.std.specs.Prelude.{◌↔◌, ◌⊎◌, ◌≡◌, ◌+◌, ◌≤◌, ◌<◌}
+use Rattle.prelude.specs.Names.{List, inl, inr, ⊎_elim, refl, sym, ◌∙◌, ℕ, arith}
 use Rattle.refusal.specs.Numbers.{number_of}
 use Rattle.refusal.specs.declared.Refusal.{Refusal}
 use Rattle.formats.specs.Reading.{Bytes}

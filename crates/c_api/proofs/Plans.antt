@@ -1,5 +1,6 @@
 -- What check says of sheet and plan bytes, and that it says yes to the plan bytes of a packing that fits.
-use Rattle.prelude.specs.Names.{Bool, true, false, List, ◌↔◌, ◌⊎◌, inl, inr, ⊎_elim, ◌≡◌, refl, sym, ap, ◌∙◌, ℕ, ◌+◌, ◌*◌, ◌≤◌, ◌<◌, arith, length, get_or}
+use Rattle.std.specs.Prelude.{◌↔◌, ◌⊎◌, ◌≡◌, ◌+◌, ◌*◌, ◌≤◌, ◌<◌}
+use Rattle.prelude.specs.Names.{Bool, true, false, List, inl, inr, ⊎_elim, refl, sym, ap, ◌∙◌, ℕ, arith, length, get_or}
 use Rattle.prelude.specs.Names.{eq-eqb, ne_eqb, eqb-true}
 use Rattle.model.proofs.Below.{clash}
 use Rattle.model.proofs.Turning.{marks-sound, turned_same}

@@ -1,6 +1,7 @@
 -- A call by the table of refusals: there is a fault, and the call's number is 100 more than the fault's, or nothing is refused, and its
 -- number is less.
-use Rattle.prelude.specs.Names.{◌≡◌, subst, ◌⊎◌, inl, inr, ◌↔◌, ℕ, ◌+◌, ◌<◌, arith}
+use Rattle.std.specs.Prelude.{◌≡◌, ◌⊎◌, ◌↔◌, ◌+◌, ◌<◌}
+use Rattle.prelude.specs.Names.{subst, inl, inr, ℕ, arith}
 
 module _
     (code : ℕ) (Fault : ℕ → Type 0) {Served : Type 0} (table : ((n : ℕ) × Fault n) ⊎ Served)

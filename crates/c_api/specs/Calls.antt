@@ -1,5 +1,6 @@
 -- What check, pieces and search return and leave in the lent buffers (document 01, "Refusals": "The planning screen, written in C, ..").
-use Rattle.prelude.specs.Names.{Bool, true, false, ◌&&◌, List, ℕ, ◌+◌, ◌*◌, ◌≤◌, eqb, length}
+use Rattle.std.specs.Prelude.{◌&&◌, ◌+◌, ◌*◌, ◌≤◌}
+use Rattle.prelude.specs.Names.{Bool, true, false, List, ℕ, eqb, length}
 use Rattle.model.specs.Turning.{Turnable}
 use Rattle.refusal.specs.Numbers.{number_of}
 use Rattle.refusal.specs.declared.Refusal.TheVariants.{BadArgument}

@@ -1,6 +1,7 @@
 -- The table's conditions for check and search on bytes, in their order (document 01, "Refusals": "the sheet's refusals come first",
 -- "8 before 10"; 13: document 02, #106).
-use Rattle.prelude.specs.Names.{List, ◌≡◌, ℕ, ◌*◌, length}
+use Rattle.std.specs.Prelude.{◌≡◌, ◌*◌}
+use Rattle.prelude.specs.Names.{List, ℕ, length}
 use Rattle.refusal.specs.Numbers.{number_of}
 use Rattle.refusal.specs.declared.Refusal.{Refusal}
 use Rattle.sheet.specs.Faults.{FirstFault}

@@ -1,5 +1,6 @@
 -- What the earliest finish returns and leaves in the lent buffers (document 02, #103).
-use Rattle.prelude.specs.Names.{Bool, true, false, ◌&&◌, List, ◌≡◌, ℕ, ◌*◌, eqb, length}
+use Rattle.std.specs.Prelude.{◌&&◌, ◌≡◌, ◌*◌}
+use Rattle.prelude.specs.Names.{Bool, true, false, List, ℕ, eqb, length}
 use Rattle.refusal.specs.Numbers.{number_of}
 use Rattle.refusal.specs.declared.Refusal.{Refusal}
 use Rattle.refusal.specs.declared.Refusal.TheVariants.{BadArgument}

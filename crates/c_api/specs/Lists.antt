@@ -1,5 +1,6 @@
 -- A list of calls on bytes (document 01, "The search": "A list is all in values or all on the screen").
-use Rattle.prelude.specs.Names.{Bool, false, List, ℕ, ◌≤◌, length, replicate}
+use Rattle.std.specs.Prelude.{◌≤◌}
+use Rattle.prelude.specs.Names.{Bool, false, List, ℕ, length, replicate}
 use Rattle.model.specs.Lists.{Service}
 use Rattle.model.specs.Run.{ChoiceCheckpoint, plan_at}
 use Rattle.instance.specs.declared.Instance.{Instance}

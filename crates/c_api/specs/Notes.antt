@@ -1,5 +1,6 @@
 -- What the bytes lent to the search hold (document 01, "Refusals": "A note is 273 bytes .."; the choice: document 02, #106).
-use Rattle.prelude.specs.Names.{List, ◌≡◌, ℕ, ◌*◌, length}
+use Rattle.std.specs.Prelude.{◌≡◌, ◌*◌}
+use Rattle.prelude.specs.Names.{List, ℕ, length}
 use Rattle.model.specs.Run.{ChoiceCheckpoint, ChoiceFollows}
 use Rattle.model.specs.Turning.{Turnable}
 use Rattle.instance.specs.declared.Instance.{Instance}

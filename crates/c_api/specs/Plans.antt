@@ -1,5 +1,6 @@
 -- What check looks at: a sheet that reads, plan bytes of the right length, and marks that may stand (document 01, "Fit"; document 02, #106).
-use Rattle.prelude.specs.Names.{List, ◌≡◌, ℕ, ◌*◌, length}
+use Rattle.std.specs.Prelude.{◌≡◌, ◌*◌}
+use Rattle.prelude.specs.Names.{List, ℕ, length}
 use Rattle.instance.specs.Reads.{Reads}
 use Rattle.turning.specs.Turned.{turnable_of, plan_of, MarksAllowed}
 use Rattle.buffers.specs.Bytes.{packing_in}

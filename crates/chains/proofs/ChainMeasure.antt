@@ -1,5 +1,6 @@
 -- Why following links ends: totals only grow, up to the container's measure, and where none grows the set of items to go on from loses one.
-use Rattle.prelude.specs.Names.{List, ◌⊎◌, inl, inr, ⊎_elim, ◌≡◌, ℕ, zero, suc, ◌+◌, ◌-◌, ◌*◌, ◌≤◌, ◌<◌, eq-or-lt_of_le, arith, get_or}
+use Rattle.std.specs.Prelude.{◌⊎◌, ◌≡◌, ◌+◌, ◌-◌, ◌*◌, ◌≤◌, ◌<◌}
+use Rattle.prelude.specs.Names.{List, inl, inr, ⊎_elim, ℕ, zero, suc, eq-or-lt_of_le, arith, get_or}
 use Rattle.chains.specs.Totals.{capacity_at}
 use Rattle.chains.specs.Links.{total_at}
 

@@ -1,6 +1,7 @@
 -- What the totals find too long: the set of items, and removing it for the items of a set.
-use Rattle.prelude.specs.Names.{Bool, true, false, not, ◌&&◌, or-false, and-false, List, ⊎_elim, ◌≢◌, ◌≡◌, refl, sym, ◌∙◌, ap, ℕ, ◌+◌, ◌-◌, ◌*◌, ◌/◌}
-use Rattle.prelude.specs.Names.{◌%◌, ◌^◌, ◌≤◌, ◌<◌, ℕ_discrete, eq-or-lt_of_le, arith, bit_and, bit_or, bit_xor, or_lt, eqb, ltb, pow-lt, eqb-true, lt-ltb, le-ltb}
+use Rattle.std.specs.Prelude.{◌&&◌, ◌≢◌, ◌≡◌, ◌+◌, ◌-◌, ◌*◌, ◌/◌, ◌%◌, ◌^◌, ◌≤◌, ◌<◌}
+use Rattle.prelude.specs.Names.{Bool, true, false, not, or-false, and-false, List, ⊎_elim, refl, sym, ◌∙◌, ap, ℕ}
+use Rattle.prelude.specs.Names.{ℕ_discrete, eq-or-lt_of_le, arith, bit_and, bit_or, bit_xor, or_lt, eqb, ltb, pow-lt, eqb-true, lt-ltb, le-ltb}
 use Rattle.prelude.specs.Names.{ltb-true, ltb-false, eq-eqb, ne_eqb, eqb-false, not-true, not-false}
 use Rattle.model.specs.Domains.{Domains}
 use Rattle.model.specs.Order.{◌⊑◌}

@@ -1,7 +1,8 @@
 -- Rule 5 where a link is new: totals raised along the links of the domains stay under every goal's chains, and with the cuts around the items that
 -- grew nothing is left open but the links of pairs on the queue.
-use Rattle.prelude.specs.Names.{Bool, true, false, ◌&&◌, List, ◌⊎◌, inl, inr, ⊎_elim, ⊎_map, ◌≡◌, refl, sym, ◌∙◌, ap₂, ℕ, ◌+◌, ◌*◌, ◌^◌, ◌≤◌}
-use Rattle.prelude.specs.Names.{◌<◌, ℕ_discrete, arith, get_or, set, get_or-set_other, ltb, ltb-true, lt-ltb}
+use Rattle.std.specs.Prelude.{◌&&◌, ◌⊎◌, ◌≡◌, ◌+◌, ◌*◌, ◌^◌, ◌≤◌, ◌<◌}
+use Rattle.prelude.specs.Names.{Bool, true, false, List, inl, inr, ⊎_elim, ⊎_map, refl, sym, ◌∙◌, ap₂, ℕ}
+use Rattle.prelude.specs.Names.{ℕ_discrete, arith, get_or, set, get_or-set_other, ltb, ltb-true, lt-ltb}
 use Rattle.model.specs.Problem.{Problem}
 use Rattle.model.specs.Domains.{Domains, fixed_before}
 use Rattle.model.specs.Rules.{joined}

@@ -1,6 +1,7 @@
 -- Totals raised along links: what one link does, links one after another, all links from an item, and on from every item that grows.
-use Rattle.prelude.specs.Names.{Bool, true, false, ◌&&◌, List, ◌⊎◌, inl, inr, ⊎_elim, ⊎_map, ◌≢◌, ◌≡◌, refl, sym, ◌∙◌, ℕ, ◌+◌, ◌-◌, ◌*◌, ◌/◌, ◌^◌}
-use Rattle.prelude.specs.Names.{◌≤◌, ◌<◌, le_refl, ℕ_discrete, arith, bit_or, or_step, or_zero_r, or_lt, get_or, set, length-set, pow-lt, get_or-set_same}
+use Rattle.std.specs.Prelude.{◌&&◌, ◌⊎◌, ◌≢◌, ◌≡◌, ◌+◌, ◌-◌, ◌*◌, ◌/◌, ◌^◌, ◌≤◌, ◌<◌}
+use Rattle.prelude.specs.Names.{Bool, true, false, List, inl, inr, ⊎_elim, ⊎_map, refl, sym, ◌∙◌, ℕ}
+use Rattle.prelude.specs.Names.{le_refl, ℕ_discrete, arith, bit_or, or_step, or_zero_r, or_lt, get_or, set, length-set, pow-lt, get_or-set_same}
 use Rattle.prelude.specs.Names.{get_or-set_other, eq-eqb, eqb-true}
 use lib.Arith.{bin_ind}
 use Rattle.model.specs.Toward.{Direction}

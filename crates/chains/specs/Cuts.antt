@@ -1,5 +1,6 @@
 -- What the totals find too long, and removing it.
-use Rattle.prelude.specs.Names.{Bool, true, List, ◌≡◌, ℕ, ◌+◌, ◌%◌, ◌≤◌, ◌<◌, ltb, get_or}
+use Rattle.std.specs.Prelude.{◌≡◌, ◌+◌, ◌%◌, ◌≤◌, ◌<◌}
+use Rattle.prelude.specs.Names.{Bool, true, List, ℕ, ltb, get_or}
 use Rattle.model.specs.Domains.{Domains}
 use Rattle.model.specs.Order.{Proper}
 use Rattle.model.specs.Relations.{gone, converse}

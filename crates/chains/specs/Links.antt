@@ -1,5 +1,6 @@
 -- Totals extended along links, on the axis a and in the table that starts at o: 0 of the chains ending in an item, 30 of those starting in it.
-use Rattle.prelude.specs.Names.{Bool, true, false, ◌&&◌, List, ◌⊎◌, ◌≡◌, ℕ, ◌+◌, ◌*◌, ◌%◌, ◌^◌, ◌≤◌, ◌<◌, bit_or, get_or, length, set}
+use Rattle.std.specs.Prelude.{◌&&◌, ◌⊎◌, ◌≡◌, ◌+◌, ◌*◌, ◌%◌, ◌^◌, ◌≤◌, ◌<◌}
+use Rattle.prelude.specs.Names.{Bool, true, false, List, ℕ, bit_or, get_or, length, set}
 use Rattle.domains.specs.Bits.{bit_at}
 use Rattle.domains.specs.Rows.{row_at}
 use Rattle.chains.specs.Totals.{capacity_at, step_at, Tabled}

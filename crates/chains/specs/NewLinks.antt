@@ -1,5 +1,6 @@
 -- Rule 5 where a link is new: totals extended along it and on from there, and what they find too long removed.
-use Rattle.prelude.specs.Names.{Bool, true, false, List, ◌⊎◌, ℕ, ◌≤◌}
+use Rattle.std.specs.Prelude.{◌⊎◌, ◌≤◌}
+use Rattle.prelude.specs.Names.{Bool, true, false, List, ℕ}
 use Rattle.model.specs.Problem.{Problem}
 use Rattle.model.specs.Domains.{Domains}
 use Rattle.model.specs.Order.{◌⊑◌}

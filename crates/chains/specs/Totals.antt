@@ -1,7 +1,8 @@
 -- Totals of chains beside the measures they are made of, 696 numbers: at axis * 10 + item the total of the chains ending in the item, from 30 on
 -- that of those starting in it, from 60 on the item's measure; from 90 on the container's, by axis; from 93 on, by axis, 0 where nothing lies between
 -- any two items; from 96 on, ten for each total, what its chain grows by where it goes on with each item.
-use Rattle.prelude.specs.Names.{List, ◌≡◌, ℕ, zero, suc, ◌+◌, ◌-◌, ◌*◌, ◌≤◌, ◌<◌, get_or, length}
+use Rattle.std.specs.Prelude.{◌≡◌, ◌+◌, ◌-◌, ◌*◌, ◌≤◌, ◌<◌}
+use Rattle.prelude.specs.Names.{List, ℕ, zero, suc, get_or, length}
 use Rattle.model.specs.Problem.{Problem}
 use Rattle.model.specs.Domains.{Domains}
 use Rattle.model.specs.Toward.{Goal, Direction, between, Under}

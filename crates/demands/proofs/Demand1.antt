@@ -1,5 +1,6 @@
 -- The mission's first demand holds.
-use Rattle.prelude.specs.Names.{◌⊎◌, inl, inr, ◌≤◌, arith}
+use Rattle.std.specs.Prelude.{◌⊎◌, ◌≤◌}
+use Rattle.prelude.specs.Names.{inl, inr, arith}
 use Rattle.instance.proofs.Readings.{read_refuses, read_answers}
 use Rattle.item_record.proofs.Records.{record_is_read}
 use Rattle.item_record.proofs.Refusing.{record_refuses, record_serves, record_empty}

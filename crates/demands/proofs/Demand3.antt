@@ -1,5 +1,6 @@
 -- The mission's third demand holds: for whoever serves calls by the search, so in values and on bytes.
-use Rattle.prelude.specs.Names.{Bool, true, false, List, [], ◌∷◌, ◌++◌, ◌↔◌, ◌≡◌, refl, sym, ap, ◌∙◌, ℕ, ◌+◌, ◌≤◌, ◌<◌, dec_lt, arith, get_or}
+use Rattle.std.specs.Prelude.{◌∷◌, ◌++◌, ◌↔◌, ◌≡◌, ◌+◌, ◌≤◌, ◌<◌}
+use Rattle.prelude.specs.Names.{Bool, true, false, List, [], refl, sym, ap, ◌∙◌, ℕ, dec_lt, arith, get_or}
 use Rattle.model.specs.Admits.{Sound}
 use Rattle.model.specs.Branching.{Branch}
 use Rattle.model.specs.Lists.{Service, status_number, budget_sum, returned_code, returned_plan, plan_by, Right, Serves}

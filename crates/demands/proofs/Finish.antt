@@ -1,5 +1,6 @@
 -- Document 02's #103 holds, in values and on bytes.
-use Rattle.prelude.specs.Names.{true, List, ◌≡◌, refl, ap, ◌∙◌, ℕ, arith}
+use Rattle.std.specs.Prelude.{◌≡◌}
+use Rattle.prelude.specs.Names.{true, List, refl, ap, ◌∙◌, ℕ, arith}
 use Rattle.model.proofs.Earliest.{fits_longer}
 use Rattle.model.proofs.EarliestRight.{earliest_right}
 use Rattle.model.specs.Admits.{Sound}

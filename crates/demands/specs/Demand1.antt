@@ -1,7 +1,8 @@
 -- The mission's first demand, as one theorem: that every function answers, what is refused and with which number, and what a refusal
 -- leaves. The table's conditions stand beside the definitions that test them: c_api Faults (check and search in bytes) and Finishes, search Results
 -- (`SearchFault`), sheet Faults (reading, with document 02's 11 and 12), writer and item_record Refusing, packing Check and Clearance (with 02's 13).
-use Rattle.prelude.specs.Names.{true, false, List, [], ◌↔◌, ◌⊎◌, inl, inr, ◌≡◌, ℕ, ◌+◌, ◌≤◌, ◌<◌, ℤ, length, get_or}
+use Rattle.std.specs.Prelude.{◌↔◌, ◌⊎◌, ◌≡◌, ◌+◌, ◌≤◌, ◌<◌}
+use Rattle.prelude.specs.Names.{true, false, List, [], inl, inr, ℕ, ℤ, length, get_or}
 use Rattle.refusal.specs.Numbers.{number_of, place_of}
 use Rattle.refusal.specs.declared.Refusal.{Refusal}
 use Rattle.formats.specs.Reading.{Bytes}

@@ -1,5 +1,6 @@
 -- The mission's second demand, as one theorem: the plan check, and reading and writing sheets.
-use Rattle.prelude.specs.Names.{true, List, ◌++◌, ◌↔◌, inl, ◌≡◌, ℕ, ◌≤◌, length, take, drop}
+use Rattle.std.specs.Prelude.{◌++◌, ◌↔◌, ◌≡◌, ◌≤◌}
+use Rattle.prelude.specs.Names.{true, List, inl, ℕ, length, take, drop}
 use Rattle.model.specs.Problem.{Feasible}
 use Rattle.model.specs.Turning.{Fits}
 use Rattle.formats.specs.Reading.{Bytes}

@@ -1,5 +1,6 @@
 -- The mission's third demand, as one theorem: the search, for every list of calls, in values and on bytes.
-use Rattle.prelude.specs.Names.{true, false, List, ◌↔◌, ◌≡◌, ℕ, suc, ◌+◌, ◌≤◌, ◌<◌, length}
+use Rattle.std.specs.Prelude.{◌↔◌, ◌≡◌, ◌+◌, ◌≤◌, ◌<◌}
+use Rattle.prelude.specs.Names.{true, false, List, ℕ, suc, length}
 use Rattle.model.specs.Lists.{Service, status_number, budget_sum, returned_code, returned_plan, Claim, AllRefused}
 use Rattle.model.specs.Machine.{Count, steps}
 use Rattle.model.specs.Problem.{Positions, Feasible}

@@ -1,5 +1,6 @@
 -- Document 02's #103, the earliest finish, as one theorem, in values and on bytes. With #106 each length is searched in all choices, and plans have marks.
-use Rattle.prelude.specs.Names.{true, List, ◌≡◌, ℕ}
+use Rattle.std.specs.Prelude.{◌≡◌}
+use Rattle.prelude.specs.Names.{true, List, ℕ}
 use Rattle.model.specs.Calls.{Answer}
 use Rattle.model.specs.Earliest.{earliest_finish, Earliest}
 use Rattle.model.specs.Turning.{Turnable, Plan}

@@ -1,5 +1,6 @@
 -- The functions open to callers, and what each of them promises.
-use Rattle.prelude.specs.Names.{◌≡◌, length}
+use Rattle.std.specs.Prelude.{◌≡◌}
+use Rattle.prelude.specs.Names.{length}
 use Rattle.refusal.specs.Numbers.{number_of, place_of}
 use Rattle.formats.specs.Reading.{Bytes}
 use Rattle.instance.specs.Sheets.{decode}

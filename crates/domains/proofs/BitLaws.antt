@@ -1,6 +1,7 @@
 -- Rows of bits and sets of items as numbers: what and, or, xor, shifts and powers of 2 make of them. The laws hold of numbers of any length.
-use Rattle.prelude.specs.Names.{Bool, cond, true, false, not, ◌&&◌, ◌||◌, and-true, ◌⊎◌, inl, inr, ◌≢◌, ◌≡◌, refl, sym, ◌∙◌, ℕ, zero, suc, ◌+◌, ◌-◌}
-use Rattle.prelude.specs.Names.{◌*◌, ◌/◌, ◌%◌, ◌^◌, ◌≤◌, ◌<◌, min, max, ℕ_discrete, dec_lt, arith, bit_and, bit_or, bit_xor, or_step, count_trailing_zeros, eqb}
+use Rattle.std.specs.Prelude.{◌&&◌, ◌||◌, ◌⊎◌, ◌≢◌, ◌≡◌, ◌+◌, ◌-◌, ◌*◌, ◌/◌, ◌%◌, ◌^◌, ◌≤◌, ◌<◌}
+use Rattle.prelude.specs.Names.{Bool, cond, true, false, not, and-true, inl, inr, refl, sym, ◌∙◌, ℕ, zero, suc}
+use Rattle.prelude.specs.Names.{min, max, ℕ_discrete, dec_lt, arith, bit_and, bit_or, bit_xor, or_step, count_trailing_zeros, eqb}
 use Rattle.prelude.specs.Names.{eqb-suc-zero, pow_mono, eq-eqb, ne_eqb}
 use mathlib.Core.Bool.{and_self}
 use lib.Bits.{differ, and_step, xor_step, and_shr, or_shr, xor_shr, and_le_l, and_le_r, shifted_half, shifted_even}

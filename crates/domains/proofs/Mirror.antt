@@ -1,5 +1,6 @@
 -- Rows that say what the domains say: read, and kept so after one removal by two bits marked.
-use Rattle.prelude.specs.Names.{true, ◌&&◌, or-true, or-false, List, [], ◌∷◌, ◌≡◌, refl, sym, ◌∙◌, ℕ, zero, suc, ◌+◌, ◌*◌, ◌^◌, ◌<◌, ℕ_discrete}
+use Rattle.std.specs.Prelude.{◌&&◌, ◌∷◌, ◌≡◌, ◌+◌, ◌*◌, ◌^◌, ◌<◌}
+use Rattle.prelude.specs.Names.{true, or-true, or-false, List, [], refl, sym, ◌∙◌, ℕ, zero, suc, ℕ_discrete}
 use Rattle.prelude.specs.Names.{arith, bit_or, or_lt, get_or, length, set, length-set, pow-lt, get_or-set_same, get_or-set_other, eq-eqb, ne_eqb}
 use mathlib.Core.Logic.Dec
 use Rattle.model.specs.Domains.{Domains}

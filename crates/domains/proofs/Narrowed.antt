@@ -1,5 +1,6 @@
 -- The algebra of removing: nothing done, one after another, asked for in other words. Stated once for all functions that remove relations.
-use Rattle.prelude.specs.Names.{Bool, true, false, List, inl, inr, ⊎_map, refl, ◌∙◌, ℕ, ◌≤◌, le_refl, arith}
+use Rattle.std.specs.Prelude.{◌≤◌}
+use Rattle.prelude.specs.Names.{Bool, true, false, List, inl, inr, ⊎_map, refl, ◌∙◌, ℕ, le_refl, arith}
 use Rattle.model.specs.Domains.{Domains}
 use Rattle.model.specs.Order.{◌⊑◌}
 use Rattle.model.proofs.Order.{below_refl, below_trans}

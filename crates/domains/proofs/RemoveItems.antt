@@ -1,5 +1,6 @@
 -- Removing a relation of u with each item of a set, one after another.
-use Rattle.prelude.specs.Names.{true, false, List, ◌≢◌, ◌≡◌, ◌∙◌, ℕ, ◌≤◌, ◌<◌, arith}
+use Rattle.std.specs.Prelude.{◌≢◌, ◌≡◌, ◌≤◌, ◌<◌}
+use Rattle.prelude.specs.Names.{true, false, List, ◌∙◌, ℕ, arith}
 use Rattle.model.specs.Domains.{Domains}
 use Rattle.model.specs.Order.{Proper, ◌⊑◌}
 use Rattle.model.specs.Relations.{gone, without}

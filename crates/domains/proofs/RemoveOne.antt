@@ -1,5 +1,6 @@
 -- One relation is removed, of a pair that has another left; the rows say so too, and the pair goes on the queue.
-use Rattle.prelude.specs.Names.{false, ◌&&◌, and-false, List, ◌⊎◌, inl, inr, ⊎_map, ◌≢◌, ◌≡◌, sym, ◌∙◌, ℕ, ◌+◌, ◌/◌, ◌%◌, ◌≤◌, ◌<◌, ℕ_discrete}
+use Rattle.std.specs.Prelude.{◌&&◌, ◌⊎◌, ◌≢◌, ◌≡◌, ◌+◌, ◌/◌, ◌%◌, ◌≤◌, ◌<◌}
+use Rattle.prelude.specs.Names.{false, and-false, List, inl, inr, ⊎_map, sym, ◌∙◌, ℕ, ℕ_discrete}
 use Rattle.prelude.specs.Names.{le_refl, arith, get_or, length, set, length-set, get_or-set_same, get_or-set_other}
 use Rattle.model.proofs.Below.{below_three}
 use Rattle.model.specs.Domains.{Domains}

@@ -1,6 +1,7 @@
 -- Removing what stands in a set, as in the row of u: refused where it leaves nothing of a pair, else one relation after another; and what is left of
 -- the set where the row has some of it.
-use Rattle.prelude.specs.Names.{true, false, ◌&&◌, ◌||◌, Bool, not, List, inl, inr, ◌≢◌, ◌≡◌, sym, ◌∙◌, ℕ, zero, suc, ◌+◌, ◌*◌, ◌≤◌, ◌<◌, ℕ_discrete}
+use Rattle.std.specs.Prelude.{◌&&◌, ◌||◌, ◌≢◌, ◌≡◌, ◌+◌, ◌*◌, ◌≤◌, ◌<◌}
+use Rattle.prelude.specs.Names.{true, false, Bool, not, List, inl, inr, sym, ◌∙◌, ℕ, zero, suc, ℕ_discrete}
 use Rattle.prelude.specs.Names.{arith, bit_or, bit_and, bit_xor, not-true}
 use Rattle.model.specs.Domains.{Domains}
 use Rattle.model.specs.Order.{Proper, WellFormed, ◌⊑◌}

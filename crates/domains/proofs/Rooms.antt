@@ -1,5 +1,6 @@
 -- Room on the queue: the numbers of 135 domains add up to 945 at most, so there is room for all of them where the queue is empty.
-use Rattle.prelude.specs.Names.{List, [], ◌∷◌, ◌≡◌, ℕ, zero, suc, ◌*◌, ◌≤◌, ◌<◌, arith, get_or, length}
+use Rattle.std.specs.Prelude.{◌∷◌, ◌≡◌, ◌*◌, ◌≤◌, ◌<◌}
+use Rattle.prelude.specs.Names.{List, [], ℕ, zero, suc, arith, get_or, length}
 use Rattle.model.specs.Domains.{Domains}
 use Rattle.model.specs.Propagate.{sum}
 use Rattle.domains.specs.Rows.{Laid}

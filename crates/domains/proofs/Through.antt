@@ -1,5 +1,6 @@
 -- Going through the bits of a number from the lowest on: each is taken out of those that are left, until none is.
-use Rattle.prelude.specs.Names.{true, false, ◌≡◌, sym, ◌∙◌, ℕ, ◌^◌, ◌<◌, ℕ_discrete, arith}
+use Rattle.std.specs.Prelude.{◌≡◌, ◌^◌, ◌<◌}
+use Rattle.prelude.specs.Names.{true, false, sym, ◌∙◌, ℕ, ℕ_discrete, arith}
 use Rattle.model.proofs.Below.{clash}
 use Rattle.domains.specs.Bits.{bit_at, TakenOut}
 use Rattle.domains.proofs.BitLaws.{bit-zero, taken-rest, taken_in}

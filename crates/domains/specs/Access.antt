@@ -1,5 +1,6 @@
 -- What removing asks of its caller.
-use Rattle.prelude.specs.Names.{◌≡◌, ℕ, length}
+use Rattle.std.specs.Prelude.{◌≡◌}
+use Rattle.prelude.specs.Names.{ℕ, length}
 use Rattle.model.specs.Domains.{Domains}
 use Rattle.model.specs.Order.{Proper}
 

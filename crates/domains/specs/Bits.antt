@@ -1,5 +1,6 @@
 -- Rows of bits and sets of items as numbers. A row has bit 10 * x + v for the relation x with the item v; a set of items the bits below 10.
-use Rattle.prelude.specs.Names.{Bool, true, not, ◌&&◌, ◌≡◌, ℕ, ◌/◌, ◌%◌, ◌^◌, ◌<◌, eqb, count_trailing_zeros}
+use Rattle.std.specs.Prelude.{◌&&◌, ◌≡◌, ◌/◌, ◌%◌, ◌^◌, ◌<◌}
+use Rattle.prelude.specs.Names.{Bool, true, not, ℕ, eqb, count_trailing_zeros}
 
 unfoldable pub bit_at : ℕ → ℕ → Bool
 bit_at m i = eqb (m / 2 ^ i % 2) 1

@@ -1,5 +1,6 @@
 -- The queue of pairs that changed: place 0 has where it ends, the pairs stand from place 1 on.
-use Rattle.prelude.specs.Names.{List, ◌⊎◌, ◌≡◌, ℕ, ◌+◌, ◌*◌, ◌/◌, ◌%◌, ◌≤◌, ◌<◌, get_or, length, set}
+use Rattle.std.specs.Prelude.{◌⊎◌, ◌≡◌, ◌+◌, ◌*◌, ◌/◌, ◌%◌, ◌≤◌, ◌<◌}
+use Rattle.prelude.specs.Names.{List, ℕ, get_or, length, set}
 use Rattle.model.specs.Domains.{Domains}
 use Rattle.model.specs.Propagate.{sum}
 use Rattle.model.specs.Order.{Proper}

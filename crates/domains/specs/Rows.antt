@@ -1,5 +1,6 @@
 -- Domains laid out as rows of bits: for each axis and item one row, at axis * 10 + item.
-use Rattle.prelude.specs.Names.{List, ◌≡◌, ℕ, ◌+◌, ◌*◌, ◌^◌, ◌<◌, get_or, length}
+use Rattle.std.specs.Prelude.{◌≡◌, ◌+◌, ◌*◌, ◌^◌, ◌<◌}
+use Rattle.prelude.specs.Names.{List, ℕ, get_or, length}
 use Rattle.model.specs.Domains.{Domains}
 use Rattle.model.specs.Order.{WellFormed}
 use Rattle.model.specs.Relations.{gone, Filled}

@@ -1,5 +1,6 @@
 -- Laws of the first entries of an array, and of what is left of a slice.
-use Rattle.prelude.specs.Names.{◌≡◌, ◌∙◌, List, [], ◌∷◌, ℕ, ◌+◌, ◌-◌, ◌≤◌, ◌<◌, le_of_eq, add-one, length, get_or, take, drop, length-drop}
+use Rattle.std.specs.Prelude.{◌≡◌, ◌∷◌, ◌+◌, ◌-◌, ◌≤◌, ◌<◌}
+use Rattle.prelude.specs.Names.{◌∙◌, List, [], ℕ, le_of_eq, add-one, length, get_or, take, drop, length-drop}
 use Rattle.prelude.specs.Names.{drop_of_length-le, take_all, drop-cons, get_or-take, length-take-le}
 
 -- the part of a list from a place to its end is what is left there

@@ -1,6 +1,7 @@
 -- The laws of a format, and that each combinator keeps them.
-use Rattle.prelude.specs.Names.{◌≡◌, refl, sym, ap, ◌∙◌, subst, Bool, true, false, not, ◌&&◌, false≢true, List, [], ◌∷◌, ◌++◌, append_assoc}
-use Rattle.prelude.specs.Names.{append-nil, ℕ, zero, suc, ◌+◌, ◌*◌, ◌/◌, ◌%◌, ◌<◌, arith, add-zero, zero-add, add_assoc, length, length-append}
+use Rattle.std.specs.Prelude.{◌≡◌, ◌&&◌, ◌∷◌, ◌++◌, ◌+◌, ◌*◌, ◌/◌, ◌%◌, ◌<◌}
+use Rattle.prelude.specs.Names.{refl, sym, ap, ◌∙◌, subst, Bool, true, false, not, false≢true, List, [], append_assoc}
+use Rattle.prelude.specs.Names.{append-nil, ℕ, zero, suc, arith, add-zero, zero-add, add_assoc, length, length-append}
 use Rattle.prelude.specs.Names.{get_or-append-add, not-true}
 use Rattle.formats.specs.Reading.{Reading, done, due, end, ◌>>=◌, got, run, Bytes}
 use Rattle.formats.specs.Formats.{Format, byte, word, presence, pair, converted, Test, testing, passes_all, tested, keyed, row_bytes, row_reading}

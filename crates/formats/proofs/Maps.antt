@@ -1,5 +1,6 @@
 -- The laws of fields by the bits of a map byte.
-use Rattle.prelude.specs.Names.{◌≡◌, refl, sym, ◌∙◌, Bool, true, false, not, cond, ◌||◌, [], append_assoc, ℕ, ◌*◌, ◌/◌, ◌%◌, ◌≤◌, ◌<◌, arith}
+use Rattle.std.specs.Prelude.{◌≡◌, ◌||◌, ◌*◌, ◌/◌, ◌%◌, ◌≤◌, ◌<◌}
+use Rattle.prelude.specs.Names.{refl, sym, ◌∙◌, Bool, true, false, not, cond, [], append_assoc, ℕ, arith}
 use Rattle.prelude.specs.Names.{add-zero, add_assoc, eqb, leb, length-append, eqb-true, eqb-false, eq-eqb, leb-false, lt-leb, not-true}
 use native.Mathlib.Nat.{div-one, div-div-eq-div-mul}
 use Rattle.formats.specs.Reading.{run}

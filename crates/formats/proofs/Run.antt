@@ -1,5 +1,6 @@
 -- Laws of running a reading.
-use Rattle.prelude.specs.Names.{◌≡◌, refl, sym, ap, ◌∙◌, Bool, true, false, cond, List, [], ◌∷◌, ◌↔◌, ℕ, ◌+◌, ◌≤◌, arith, length, drop}
+use Rattle.std.specs.Prelude.{◌≡◌, ◌∷◌, ◌↔◌, ◌+◌, ◌≤◌}
+use Rattle.prelude.specs.Names.{refl, sym, ap, ◌∙◌, Bool, true, false, cond, List, [], ℕ, arith, length, drop}
 use Rattle.prelude.specs.Names.{length-drop}
 use Rattle.refusal.specs.declared.Refusal.{Refusal}
 use Rattle.formats.specs.Reading.{Reading, done, due, at_place, refuse_if, end, ◌>>=◌, Read, got, refused, run, read_as}

@@ -1,7 +1,8 @@
 -- The faults of some bytes by their places: over bytes s, what a reading from a place on reads, how far, and which faults it meets on the way,
 -- if it reads on after each as if there were none. How each combinator puts these together.
-use Rattle.prelude.specs.Names.{◌≡◌, refl, sym, ap, ◌∙◌, Bool, true, false, cond, ◌||◌, false≢true, List, [], ◌∷◌, ◌⊎◌, inl, inr, ◌↔◌, ℕ, zero, suc}
-use Rattle.prelude.specs.Names.{◌+◌, ◌≤◌, ◌<◌, min, arith, eq-or-lt_of_le, add-one, eqb, ltb, leb, length, get_or, drop, drop_of_length-le, drop-cons}
+use Rattle.std.specs.Prelude.{◌≡◌, ◌||◌, ◌∷◌, ◌⊎◌, ◌↔◌, ◌+◌, ◌≤◌, ◌<◌}
+use Rattle.prelude.specs.Names.{refl, sym, ap, ◌∙◌, Bool, true, false, cond, false≢true, List, [], inl, inr, ℕ, zero, suc}
+use Rattle.prelude.specs.Names.{min, arith, eq-or-lt_of_le, add-one, eqb, ltb, leb, length, get_or, drop, drop_of_length-le, drop-cons}
 use Rattle.prelude.specs.Names.{eqb-true, eq-eqb, ltb-true, lt-ltb, leb-true, le-leb}
 use Rattle.refusal.specs.declared.Refusal.{Refusal}
 use Rattle.refusal.specs.declared.Refusal.TheVariants.{EndsEarly, UnknownBit, WrittenDefault, BadCount, BadItem, NotRising, TrailingBytes}

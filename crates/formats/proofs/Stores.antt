@@ -1,5 +1,6 @@
 -- Laws of runs of stores into a list, and of the bytes of a row of parts: what the writers' proofs cite.
-use Rattle.prelude.specs.Names.{◌≡◌, refl, ◌∙◌, List, [], ◌∷◌, ◌++◌, append_assoc, append-nil, ℕ, suc, ◌+◌, ◌-◌, ◌≤◌, ◌<◌, arith, add-zero, zero-add}
+use Rattle.std.specs.Prelude.{◌≡◌, ◌∷◌, ◌++◌, ◌+◌, ◌-◌, ◌≤◌, ◌<◌}
+use Rattle.prelude.specs.Names.{refl, ◌∙◌, List, [], append_assoc, append-nil, ℕ, suc, arith, add-zero, zero-add}
 use Rattle.prelude.specs.Names.{suc-add, add-one, length, take, drop, set, get_or, length-append, sets, take-suc, length-take-le}
 use native.Mathlib.Nat.{add-suc}
 use lib.Seq.{sets-eq, take-add}

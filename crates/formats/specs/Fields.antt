@@ -1,5 +1,6 @@
 -- "A map byte comes first, then only the fields whose bit stands, by rising bit."
-use Rattle.prelude.specs.Names.{ℕ, zero, suc, ◌+◌, ◌*◌, ◌/◌, ◌%◌, Bool, true, false, cond, ◌&&◌, ◌||◌, List, [], ◌∷◌, ◌++◌, eqb, leb}
+use Rattle.std.specs.Prelude.{◌+◌, ◌*◌, ◌/◌, ◌%◌, ◌&&◌, ◌||◌, ◌∷◌, ◌++◌}
+use Rattle.prelude.specs.Names.{ℕ, zero, suc, Bool, true, false, cond, List, [], eqb, leb}
 use Rattle.refusal.specs.declared.Refusal.TheVariants.{UnknownBit}
 use Rattle.formats.specs.Reading.{Reading, done, ◌>>=◌}
 use Rattle.formats.specs.Formats.{Format, Test, byte, tested, keyed}

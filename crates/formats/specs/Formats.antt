@@ -1,5 +1,6 @@
 -- Formats: how a value is read, its bytes, and which values may be written. What each keeps is proved in proofs/Laws.
-use Rattle.prelude.specs.Names.{ℕ, zero, suc, ◌+◌, ◌*◌, ◌/◌, ◌%◌, Bool, true, false, not, ◌&&◌, ◌||◌, List, [], ◌∷◌, ◌++◌, eqb, ltb, length}
+use Rattle.std.specs.Prelude.{◌+◌, ◌*◌, ◌/◌, ◌%◌, ◌&&◌, ◌||◌, ◌∷◌, ◌++◌}
+use Rattle.prelude.specs.Names.{ℕ, zero, suc, Bool, true, false, not, List, [], eqb, ltb, length}
 use Rattle.refusal.specs.declared.Refusal.{Refusal}
 use Rattle.refusal.specs.declared.Refusal.TheVariants.{BadCount}
 use Rattle.formats.specs.Reading.{Reading, done, due, at_place, refuse_if, end, ◌>>=◌}

@@ -1,5 +1,6 @@
 -- Reading bytes from left to right, as data: what is due and what is tested; and what reading gives of some bytes.
-use Rattle.prelude.specs.Names.{ℕ, ◌+◌, ◌<◌, Bool, cond, List, [], ◌∷◌, ◌⊎◌, ◌≡◌, eqb, get_or}
+use Rattle.std.specs.Prelude.{◌+◌, ◌<◌, ◌∷◌, ◌⊎◌, ◌≡◌}
+use Rattle.prelude.specs.Names.{ℕ, Bool, cond, List, [], eqb, get_or}
 use Rattle.refusal.specs.declared.Refusal.{Refusal}
 use Rattle.refusal.specs.declared.Refusal.TheVariants.{EndsEarly, TrailingBytes}
 use Rattle.refusal.specs.Numbers.{number_of, place_of}

@@ -1,5 +1,6 @@
 -- Arrays of structs.
-use Rattle.prelude.specs.Names.{List, map, ◌≡◌, sym, ◌∙◌, ℕ, length}
+use Rattle.std.specs.Prelude.{◌≡◌}
+use Rattle.prelude.specs.Names.{List, map, sym, ◌∙◌, ℕ, length}
 use lib.ListN.{length-map}
 
 -- an array of structs is as long as what it is in memory

@@ -1,5 +1,6 @@
 -- Items in range, one by one.
-use Rattle.prelude.specs.Names.{true, List, [], ◌∷◌, ◌≡◌, refl, ℕ, zero, suc, ◌<◌, arith, length, get_or}
+use Rattle.std.specs.Prelude.{◌∷◌, ◌≡◌, ◌<◌}
+use Rattle.prelude.specs.Names.{true, List, [], refl, ℕ, zero, suc, arith, length, get_or}
 use Rattle.model.proofs.Below.{and_both, and_intro}
 use Rattle.parts.specs.Sizes.{size_in_range, all_in_range, no_item}
 use Rattle.parts.specs.declared.Item.{Item}

@@ -1,5 +1,6 @@
 -- What the sheet's readings give, field by field: the equations that the readers' proofs cite; and the draft that the fields go into.
-use Rattle.prelude.specs.Names.{◌≡◌, refl, sym, ap₂, ◌∙◌, List, [], ◌∷◌, map, ℕ, ◌≤◌, ◌<◌, arith, length, get_or, take, drop, lt-leb}
+use Rattle.std.specs.Prelude.{◌≡◌, ◌∷◌, ◌≤◌, ◌<◌}
+use Rattle.prelude.specs.Names.{refl, sym, ap₂, ◌∙◌, List, [], map, ℕ, arith, length, get_or, take, drop, lt-leb}
 use lib.ListN.{length-map}
 use Rattle.refusal.specs.declared.Refusal.TheVariants.{EndsEarly, TrailingBytes}
 use Rattle.formats.specs.Reading.{done, end, got, refused, run, ◌>>=◌, read_as}

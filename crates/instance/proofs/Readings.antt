@@ -1,5 +1,6 @@
 -- A sheet reads as an instance, to the end of its bytes, or is refused: what reading returns.
-use Rattle.prelude.specs.Names.{List, [], ◌↔◌, iff_refl, ◌⊎◌, inl, inr, ◌≡◌, refl, sym, ap, ◌∙◌, ℕ, arith, length}
+use Rattle.std.specs.Prelude.{◌↔◌, ◌⊎◌, ◌≡◌}
+use Rattle.prelude.specs.Names.{List, [], iff_refl, inl, inr, refl, sym, ap, ◌∙◌, ℕ, arith, length}
 use Rattle.refusal.specs.declared.Refusal.{Refusal}
 use Rattle.refusal.specs.Numbers.{number_of, place_of}
 use Rattle.formats.specs.Reading.{Read, got, refused}

@@ -1,5 +1,6 @@
 -- Reading and writing undo one another.
-use Rattle.prelude.specs.Names.{true, List, [], ◌≡◌, refl, sym, ap, ◌∙◌, ℕ, arith, leb, eqb, eqb-true, eq-eqb}
+use Rattle.std.specs.Prelude.{◌≡◌}
+use Rattle.prelude.specs.Names.{true, List, [], refl, sym, ap, ◌∙◌, ℕ, arith, leb, eqb, eqb-true, eq-eqb}
 use Rattle.prelude.specs.Names.{length, length-append, length-replicate, take-append_seam}
 use lib.ListN.{length-map}
 use Rattle.formats.specs.Reading.{Bytes, got, run}

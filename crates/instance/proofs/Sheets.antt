@@ -1,6 +1,7 @@
 -- What validity says of an instance, part by part; and that its sheet may be written.
-use Rattle.prelude.specs.Names.{◌≡◌, sym, ◌∙◌, true, ◌&&◌, map, ◌≤◌, ℕ, zero, suc, ◌<◌, arith, leb, ltb, length, get_or, length-take-le, leb-true, ltb-true}
-use Rattle.prelude.specs.Names.{eq-eqb, eqb-false, not-true, List, [], ◌∷◌, ◌≢◌, le_of_suc-le-suc}
+use Rattle.std.specs.Prelude.{◌≡◌, ◌&&◌, ◌≤◌, ◌<◌, ◌∷◌, ◌≢◌}
+use Rattle.prelude.specs.Names.{sym, ◌∙◌, true, map, ℕ, zero, suc, arith, leb, ltb, length, get_or, length-take-le, leb-true, ltb-true}
+use Rattle.prelude.specs.Names.{eq-eqb, eqb-false, not-true, List, [], le_of_suc-le-suc}
 use lib.ListN.{length-map}
 use Rattle.formats.proofs.Laws.{both_true}
 use Rattle.parts.specs.declared.Previous.TheVariants.{Nothing, Was}

@@ -1,5 +1,6 @@
 -- What reading answers.
-use Rattle.prelude.specs.Names.{◌⊎◌, inl, inr, ℕ, replicate}
+use Rattle.std.specs.Prelude.{◌⊎◌}
+use Rattle.prelude.specs.Names.{inl, inr, ℕ, replicate}
 use Rattle.refusal.specs.Numbers.{number_of, place_of}
 use Rattle.formats.specs.Reading.{Read, got, refused}
 use Rattle.parts.specs.Sizes.{no_item, no_precedence}

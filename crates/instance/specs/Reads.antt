@@ -1,5 +1,6 @@
 -- Bytes that read as a sheet, and when two values are the same sheet.
-use Rattle.prelude.specs.Names.{List, [], ◌≡◌, ℕ, length}
+use Rattle.std.specs.Prelude.{◌≡◌}
+use Rattle.prelude.specs.Names.{List, [], ℕ, length}
 use Rattle.formats.specs.Reading.{got}
 use Rattle.sheet.specs.Sheet.{max_items, max_precedences}
 use Rattle.instance.specs.declared.Instance.{Instance}

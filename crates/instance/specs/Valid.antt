@@ -1,5 +1,6 @@
 -- When a value is an instance (document 01, refusal 9).
-use Rattle.prelude.specs.Names.{Bool, ◌&&◌, List, map, leb, take}
+use Rattle.std.specs.Prelude.{◌&&◌}
+use Rattle.prelude.specs.Names.{Bool, List, map, leb, take}
 use Rattle.parts.specs.declared.Item.{Item}
 use Rattle.parts.specs.declared.Precedence.{Precedence}
 use Rattle.parts.specs.declared.Previous.TheVariants.{Nothing}

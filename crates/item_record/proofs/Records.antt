@@ -1,5 +1,6 @@
 -- The record that is handed out for an item is the bytes that the item was read from.
-use Rattle.prelude.specs.Names.{List, ◌≡◌, ap, subst, ℕ, zero, suc, ◌+◌, ◌-◌, ◌≤◌, ◌<◌, arith, length, get_or, take, drop, length-append, length-drop}
+use Rattle.std.specs.Prelude.{◌≡◌, ◌+◌, ◌-◌, ◌≤◌, ◌<◌}
+use Rattle.prelude.specs.Names.{List, ap, subst, ℕ, zero, suc, arith, length, get_or, take, drop, length-append, length-drop}
 use Rattle.prelude.specs.Names.{take_at, get_or-drop}
 use lib.ListN.{get_or-append}
 use Rattle.formats.specs.Reading.{Bytes, got, run}

@@ -1,5 +1,6 @@
 -- An item's record is refused exactly for the table's conditions.
-use Rattle.prelude.specs.Names.{Bool, true, false, cond, List, [], ◌↔◌, ◌≡◌, refl, sym, ap, subst, ℕ, ◌<◌, ltb, ltb-true, ltb-false, lt-ltb, le-ltb}
+use Rattle.std.specs.Prelude.{◌↔◌, ◌≡◌, ◌<◌}
+use Rattle.prelude.specs.Names.{Bool, true, false, cond, List, [], refl, sym, ap, subst, ℕ, ltb, ltb-true, ltb-false, lt-ltb, le-ltb}
 use Rattle.refusal.specs.declared.Refusal.{Refusal}
 use Rattle.refusal.specs.declared.Refusal.TheVariants.{BadItem}
 use Rattle.refusal.specs.Numbers.{number_of, place_of}

@@ -1,5 +1,6 @@
 -- An item's record as a part of the sheet (document 01, "Sheet bytes": "For the label printer ..").
-use Rattle.prelude.specs.Names.{cond, List, [], ℕ, suc, ◌-◌, ltb, take, drop}
+use Rattle.std.specs.Prelude.{◌-◌}
+use Rattle.prelude.specs.Names.{cond, List, [], ℕ, suc, ltb, take, drop}
 use Rattle.refusal.specs.declared.Refusal.TheVariants.{BadItem}
 use Rattle.refusal.specs.Numbers.{number_of, place_of}
 use Rattle.formats.specs.Reading.{Read, got, refused}

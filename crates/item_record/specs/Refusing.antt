@@ -1,5 +1,6 @@
 -- Document 01's table for an item's record, in the order of the tests.
-use Rattle.prelude.specs.Names.{List, ◌≡◌, ℕ, ◌≤◌}
+use Rattle.std.specs.Prelude.{◌≡◌, ◌≤◌}
+use Rattle.prelude.specs.Names.{List, ℕ}
 use Rattle.refusal.specs.declared.Refusal.{Refusal}
 use Rattle.refusal.specs.declared.Refusal.TheVariants.{BadItem}
 use Rattle.sheet.specs.Faults.{FirstFault}

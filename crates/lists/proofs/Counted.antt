@@ -1,6 +1,7 @@
 -- Counted rows: a count and a row; and the first entries of a filled array.
-use Rattle.prelude.specs.Names.{◌≡◌, refl, ap, Bool, true, false, ◌||◌, true≢false, or-true, List, [], ◌∷◌, ℕ, ◌≤◌, ◌<◌, arith, eqb, ltb, length}
-use Rattle.prelude.specs.Names.{◌+◌, ◌-◌, take, take_at, replicate, length-append, length-take, length-replicate, lt-ltb}
+use Rattle.std.specs.Prelude.{◌≡◌, ◌||◌, ◌∷◌, ◌≤◌, ◌<◌, ◌+◌, ◌-◌}
+use Rattle.prelude.specs.Names.{refl, ap, Bool, true, false, true≢false, or-true, List, [], ℕ, arith, eqb, ltb, length}
+use Rattle.prelude.specs.Names.{take, take_at, replicate, length-append, length-take, length-replicate, lt-ltb}
 use lib.ListN.{replicate-append-replicate}
 use Rattle.formats.specs.Reading.{got, run, ◌>>=◌}
 use Rattle.formats.specs.Formats.{Format, Test, byte, testing, tested, keyed, row_reading, row, count, counted}

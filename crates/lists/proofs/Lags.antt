@@ -1,5 +1,6 @@
 -- Laws of lags in an array, and of precedences with their lags.
-use Rattle.prelude.specs.Names.{◌≡◌, refl, sym, ap, ◌∙◌, List, [], ◌∷◌, ◌++◌, map, ℕ, zero, suc, ◌+◌, ◌-◌, ◌<◌, arith}
+use Rattle.std.specs.Prelude.{◌≡◌, ◌∷◌, ◌++◌, ◌+◌, ◌-◌, ◌<◌}
+use Rattle.prelude.specs.Names.{refl, sym, ap, ◌∙◌, List, [], map, ℕ, zero, suc, arith}
 use Rattle.prelude.specs.Names.{length, get_or, set, take, drop, replicate, add-one, take-suc, drop-cons, length-take-le, append_assoc}
 use lib.ListN.{length-map}
 use lib.Seq.{take-suc-set, drop-set-lt}

@@ -1,5 +1,6 @@
 -- Laws of a row of parts that is read one after the other into an array with blank entries. A part may be held in another form than it is read.
-use Rattle.prelude.specs.Names.{◌≡◌, refl, ◌∙◌, List, [], ◌∷◌, ◌++◌, map, append_assoc, append-nil, ℕ, suc, ◌+◌, ◌-◌, ◌≤◌, ◌<◌, arith, sub-zero}
+use Rattle.std.specs.Prelude.{◌≡◌, ◌∷◌, ◌++◌, ◌+◌, ◌-◌, ◌≤◌, ◌<◌}
+use Rattle.prelude.specs.Names.{refl, ◌∙◌, List, [], map, append_assoc, append-nil, ℕ, suc, arith, sub-zero}
 use Rattle.prelude.specs.Names.{add_assoc, length, set, take, drop, replicate, length-append, length-drop, take_at, drop-drop}
 use lib.Seq.{set-append_seam, append_snoc}
 use Rattle.refusal.specs.declared.Refusal.{Refusal}

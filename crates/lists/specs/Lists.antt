@@ -1,5 +1,6 @@
 -- The rows of a sheet and the arrays that hold them.
-use Rattle.prelude.specs.Names.{List, [], ◌∷◌, ◌++◌, ◌≡◌, ℕ, ◌+◌, ◌-◌, ◌≤◌, length, take, drop, replicate}
+use Rattle.std.specs.Prelude.{◌∷◌, ◌++◌, ◌≡◌, ◌+◌, ◌-◌, ◌≤◌}
+use Rattle.prelude.specs.Names.{List, [], ℕ, length, take, drop, replicate}
 use Rattle.formats.specs.Reading.{Reading, Read, got, refused}
 use Rattle.formats.specs.Formats.{row_reading}
 use Rattle.parts.specs.declared.Item.{Item}

@@ -1,5 +1,6 @@
 -- What a finish comes to in values: it is refused with 9 and for nothing else, and otherwise it is the model's.
-use Rattle.prelude.specs.Names.{Bool, true, false, ◌↔◌, ◌≡◌, refl, ap, ℕ, ◌+◌, ◌≤◌, ◌<◌, arith}
+use Rattle.std.specs.Prelude.{◌↔◌, ◌≡◌, ◌+◌, ◌≤◌, ◌<◌}
+use Rattle.prelude.specs.Names.{Bool, true, false, refl, ap, ℕ, arith}
 use Rattle.model.proofs.Below.{clash}
 use Rattle.model.specs.Earliest.{earliest_finish}
 use Rattle.refusal.specs.declared.Refusal.TheVariants.{InvalidInstance}

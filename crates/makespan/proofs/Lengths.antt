@@ -1,5 +1,6 @@
 -- The search of an instance with fewer shifts, as a value and in the model.
-use Rattle.prelude.specs.Names.{Bool, true, false, cond, ◌≡◌, refl, sym, ap, ◌∙◌, subst, ℕ, zero, suc, ◌+◌, ◌-◌, ◌*◌, ◌/◌, ◌%◌, ◌≤◌, ◌<◌, zero-add, le-leb}
+use Rattle.std.specs.Prelude.{◌≡◌, ◌+◌, ◌-◌, ◌*◌, ◌/◌, ◌%◌, ◌≤◌, ◌<◌}
+use Rattle.prelude.specs.Names.{Bool, true, false, cond, refl, sym, ap, ◌∙◌, subst, ℕ, zero, suc, zero-add, le-leb}
 use Rattle.prelude.specs.Names.{le-ltb, arith, leb, ltb, leb-true, length}
 use mathlib.Core.Path.{fun_ext}
 use native.Mathlib.Nat.{suc-mul, mod-lt, div-add-mod', mul-le-mul_right}

@@ -1,5 +1,6 @@
 -- Lengths at which the opening domains of every choice are inconsistent: each takes a step a choice, and as many steps as there are choices tell.
-use Rattle.prelude.specs.Names.{[], ◌≡◌, refl, sym, ap, ◌∙◌, subst, ℕ, zero, suc, ◌+◌, ◌-◌, ◌*◌, ◌≤◌, ◌<◌, dec_lt, le_refl, zero-add, suc-add, add-zero}
+use Rattle.std.specs.Prelude.{◌≡◌, ◌+◌, ◌-◌, ◌*◌, ◌≤◌, ◌<◌}
+use Rattle.prelude.specs.Names.{[], refl, sym, ap, ◌∙◌, subst, ℕ, zero, suc, dec_lt, le_refl, zero-add, suc-add, add-zero}
 use Rattle.prelude.specs.Names.{sub-zero}
 use Rattle.prelude.specs.Names.{arith}
 use native.Mathlib.Nat.{suc-mul, zero-mul}

@@ -1,5 +1,6 @@
 -- The earliest finish as a value (document 02, #103).
-use Rattle.prelude.specs.Names.{Bool, true, false, [], ◌⊎◌, ◌≡◌, ℕ, suc, ◌≤◌}
+use Rattle.std.specs.Prelude.{◌⊎◌, ◌≡◌, ◌≤◌}
+use Rattle.prelude.specs.Names.{Bool, true, false, [], ℕ, suc}
 use Rattle.model.specs.Turning.{Turnable, choice_problem, last_choice}
 use Rattle.model.specs.Search.{conflict}
 use Rattle.model.specs.Run.{look}

@@ -1,5 +1,6 @@
 -- Removals that a packing does not mind: a relation that it does not realise may go. So the opening domains admit every feasible packing.
-use Rattle.prelude.specs.Names.{true, false, not, List, [], ◌∷◌, Mem, mem-head, mem-tail, ◌≡◌, refl, ◌∙◌, ap, ℕ, zero, suc, ◌<◌}
+use Rattle.std.specs.Prelude.{◌∷◌, ◌≡◌, ◌<◌}
+use Rattle.prelude.specs.Names.{true, false, not, List, [], Mem, mem-head, mem-tail, refl, ◌∙◌, ap, ℕ, zero, suc}
 use Rattle.prelude.specs.Names.{compare, arith, get_or-eq_default, dec_lt}
 use lib.ListN.{get_or-replicate}
 use Rattle.model.specs.Problem.{Problem, Precedence, Positions, EndsBefore, Feasible, time}

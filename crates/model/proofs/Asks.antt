@@ -1,5 +1,6 @@
 -- What makes rules 1 and 5 ask, and that what is asked for is removed at rest.
-use Rattle.prelude.specs.Names.{true, false, ◌||◌, ◌≢◌, ◌≡◌, ℕ, ◌<◌, ℕ_discrete, eqb, arith, eq-eqb, lt-ltb, not-true}
+use Rattle.std.specs.Prelude.{◌||◌, ◌≢◌, ◌≡◌, ◌<◌}
+use Rattle.prelude.specs.Names.{true, false, ℕ, ℕ_discrete, eqb, arith, eq-eqb, lt-ltb, not-true}
 use Rattle.model.specs.Problem.{Problem}
 use Rattle.model.specs.Domains.{Domains, may_overlap, may_before, gone, fixed_overlap}
 use Rattle.model.specs.Rules.{joined, greatest_ending, greatest_starting, rule1, rule2, rule3, rule4, rule5, asks_overlap, asks_before, asks}

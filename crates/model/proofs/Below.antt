@@ -1,7 +1,8 @@
 -- Laws of tests: what a test over all numbers below n says, and that tests are monotone in their parts. Assumes nothing.
-use Rattle.prelude.specs.Names.{Bool, true, false, not, ◌&&◌, ◌||◌, false≢true, Bool-discrete, ◌↔◌, ◌⊎◌, inl, inr, ⊎_elim, ◌≡◌, refl, sym, ◌∙◌, ap, ℕ}
-use Rattle.prelude.specs.Names.{zero, suc, ◌≤◌, ◌<◌, eq-or-lt_of_le, le_of_suc-le-suc, dec_le, arith, ltb, ltb-true, lt-ltb, not-true}
-use Rattle.prelude.specs.Names.{not-false, List, [], ◌∷◌, Mem, mem-head, mem-tail, mem-not_nil, mem-cases_cons}
+use Rattle.std.specs.Prelude.{◌&&◌, ◌||◌, ◌↔◌, ◌⊎◌, ◌≡◌, ◌≤◌, ◌<◌, ◌∷◌}
+use Rattle.prelude.specs.Names.{Bool, true, false, not, false≢true, Bool-discrete, inl, inr, ⊎_elim, refl, sym, ◌∙◌, ap, ℕ}
+use Rattle.prelude.specs.Names.{zero, suc, eq-or-lt_of_le, le_of_suc-le-suc, dec_le, arith, ltb, ltb-true, lt-ltb, not-true}
+use Rattle.prelude.specs.Names.{not-false, List, [], Mem, mem-head, mem-tail, mem-not_nil, mem-cases_cons}
 use Rattle.model.specs.Below.{some_below, all_below, most_below, all_in, first_below}
 
 -- where the first test passes, so does the second

@@ -1,5 +1,6 @@
 -- One call: spent is answered exactly on an open state, and then all of the budget was taken; a finished state repeats its answer.
-use Rattle.prelude.specs.Names.{◌≡◌, ℕ, arith}
+use Rattle.std.specs.Prelude.{◌≡◌}
+use Rattle.prelude.specs.Names.{ℕ, arith}
 use Rattle.model.specs.Machine.{Status, running, failed, succeeded, Machine, Running, steps, taken}
 use Rattle.model.specs.Calls.{budget_spent, answer_by, answer_at}
 use Rattle.model.proofs.Machine.{open_takes-all}

@@ -1,5 +1,6 @@
 -- `greatest_ending` and `greatest_starting` are the greatest totals of chains as document 01 has them: rows of distinct items, each fixed before the next.
-use Rattle.prelude.specs.Names.{Bool, true, false, not, ◌&&◌, false≢true, cond, ◌||◌, List, [], ◌∷◌, ◌≡◌, refl, ◌∙◌, ap, ℕ, zero, suc, ◌+◌, ◌≤◌, ◌<◌}
+use Rattle.std.specs.Prelude.{◌&&◌, ◌||◌, ◌∷◌, ◌≡◌, ◌+◌, ◌≤◌, ◌<◌}
+use Rattle.prelude.specs.Names.{Bool, true, false, not, false≢true, cond, List, [], refl, ◌∙◌, ap, ℕ, zero, suc}
 use Rattle.prelude.specs.Names.{zero-le, dec_le, le_refl, le_trans, arith, eqb, eqb-true, eq-eqb, ne_eqb, not-true}
 use Rattle.model.specs.Below.{most_below}
 use Rattle.model.specs.Problem.{Problem, gap}

@@ -1,5 +1,6 @@
 -- Domains obey the clauses exactly where rules 1 to 4, as tests, ask for nothing that is left.
-use Rattle.prelude.specs.Names.{true, false, not, ◌&&◌, ◌||◌, ◌≢◌, ◌≡◌, sym, ◌∙◌, ap, ℕ, zero, suc, ◌%◌, ◌<◌, ℕ_discrete, arith, eqb, eqb-true}
+use Rattle.std.specs.Prelude.{◌&&◌, ◌||◌, ◌≢◌, ◌≡◌, ◌%◌, ◌<◌}
+use Rattle.prelude.specs.Names.{true, false, not, sym, ◌∙◌, ap, ℕ, zero, suc, ℕ_discrete, arith, eqb, eqb-true}
 use Rattle.prelude.specs.Names.{not-true}
 use Rattle.model.specs.Problem.{Problem}
 use Rattle.model.specs.Domains.{Domains, may_overlap, may_before, fixed_before, fixed_overlap}

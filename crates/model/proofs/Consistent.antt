@@ -1,5 +1,6 @@
 -- What it says that domains are inconsistent or not; where they are not, and rule 2 has been applied, "before" is a strict order.
-use Rattle.prelude.specs.Names.{Bool, true, false, not, ◌||◌, ⊎_elim, ◌≢◌, ◌≡◌, refl, ◌∙◌, ap, ℕ, ◌≤◌, ◌<◌, arith, ltb, ltb-false, lt-ltb, le-ltb}
+use Rattle.std.specs.Prelude.{◌||◌, ◌≢◌, ◌≡◌, ◌≤◌, ◌<◌}
+use Rattle.prelude.specs.Names.{Bool, true, false, not, ⊎_elim, refl, ◌∙◌, ap, ℕ, arith, ltb, ltb-false, lt-ltb, le-ltb}
 use Rattle.model.specs.Below.{some_below}
 use Rattle.model.specs.Problem.{Problem}
 use Rattle.model.specs.Domains.{Domains, may_overlap, may_before, fixed_before}

@@ -1,5 +1,6 @@
 -- The accessors: where the relations of two items are, in either order, what "fixed" says of them, and what a removal writes.
-use Rattle.prelude.specs.Names.{true, false, not, cond, and_comm, ◌≢◌, ⊎_elim, ◌≡◌, refl, sym, ◌∙◌, ap, ℕ, zero, suc, ◌<◌, min, compare, Ordering}
+use Rattle.std.specs.Prelude.{◌≢◌, ◌≡◌, ◌<◌}
+use Rattle.prelude.specs.Names.{true, false, not, cond, and_comm, ⊎_elim, refl, sym, ◌∙◌, ap, ℕ, zero, suc, min, compare, Ordering}
 use Rattle.prelude.specs.Names.{ordering_lt, ordering_eq, ordering_gt, arith, ℕ_discrete, get_or, set, eq-eqb, ne_eqb, le-leb, lt-leb, not-true}
 use lib.Dec.{compare_is_eq, is_le}
 use Rattle.model.specs.Domains.{Domains, domain, overlap_bit, before_bit, after_bit, index, bit, converse, place, left, cleared}

@@ -1,5 +1,6 @@
 -- The earliest finish, one length after another: what one search of a shortened problem comes to, and what the definition makes of it.
-use Rattle.prelude.specs.Names.{◌≡◌, sym, ap, ◌∙◌, subst, ℕ, suc, ◌-◌, ◌≤◌, ◌<◌, min, dec_lt}
+use Rattle.std.specs.Prelude.{◌≡◌, ◌-◌, ◌≤◌, ◌<◌}
+use Rattle.prelude.specs.Names.{sym, ap, ◌∙◌, subst, ℕ, suc, min, dec_lt}
 use Rattle.prelude.specs.Names.{le_refl, le_trans, arith}
 use Rattle.model.specs.Problem.{EndsBefore, EndsAhead, spacing}
 use Rattle.model.specs.Turning.{Turnable, Plan, Fits}

@@ -1,5 +1,6 @@
 -- The earliest finish is right: one induction over the lengths, by the runs of the shortened problems.
-use Rattle.prelude.specs.Names.{◌≡◌, refl, sym, ap, ◌∙◌, subst, ℕ, zero, suc, ◌+◌, ◌-◌, ◌≤◌, ◌<◌, eq-or-lt_of_le, ⊎_elim}
+use Rattle.std.specs.Prelude.{◌≡◌, ◌+◌, ◌-◌, ◌≤◌, ◌<◌}
+use Rattle.prelude.specs.Names.{refl, sym, ap, ◌∙◌, subst, ℕ, zero, suc, eq-or-lt_of_le, ⊎_elim}
 use Rattle.prelude.specs.Names.{le_refl, le_trans, le_of_suc-le-suc, zero-add, arith}
 use Rattle.model.specs.Turning.{Turnable, Plan, Fits}
 use Rattle.model.specs.Admits.{Sound}

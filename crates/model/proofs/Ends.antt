@@ -1,5 +1,6 @@
 -- What is used of "ends before" and of the total of two chains joined: whatever lies between neighbours enters here and nowhere above.
-use Rattle.prelude.specs.Names.{◌⊎◌, inl, inr, ℕ, ◌+◌, ◌≤◌, dec_le, arith}
+use Rattle.std.specs.Prelude.{◌⊎◌, ◌+◌, ◌≤◌}
+use Rattle.prelude.specs.Names.{inl, inr, ℕ, dec_le, arith}
 use Rattle.model.specs.Problem.{Problem, Positions, EndsBefore, EndsAhead, spacing, gap}
 use Rattle.model.specs.Rules.{joined}
 

@@ -1,6 +1,7 @@
 -- Document 01's "Plausible errors", each refuted by a small example, halls with lags, pairs by number and earliest finishes (document 02, #101 to #103); by
 -- computation. Halls with a walkway and with items that may be turned too (#105, #106).
-use Rattle.prelude.specs.Names.{Bool, true, false, cond, ◌&&◌, List, [], ◌∷◌, mem-not_nil, ◌≡◌, refl, ℕ, zero, suc, ◌+◌, ◌*◌, arith, leb, ltb}
+use Rattle.std.specs.Prelude.{◌&&◌, ◌∷◌, ◌≡◌, ◌+◌, ◌*◌}
+use Rattle.prelude.specs.Names.{Bool, true, false, cond, List, [], mem-not_nil, refl, ℕ, zero, suc, arith, leb, ltb}
 use Rattle.prelude.specs.Names.{get_or, map, leb-true}
 use Rattle.model.specs.Below.{all_below}
 use Rattle.model.specs.Problem.{Problem, Precedence, Positions, time, Feasible, ends_before, feasible}

@@ -1,5 +1,6 @@
 -- Claims about domains: seen from either item, and kept as relations are removed.
-use Rattle.prelude.specs.Names.{true, not, ◌&&◌, and_comm, ◌≢◌, ◌≡◌, refl, sym, ◌∙◌, ap, ap₂, ℕ, ◌-◌, ◌<◌, arith}
+use Rattle.std.specs.Prelude.{◌&&◌, ◌≢◌, ◌≡◌, ◌-◌, ◌<◌}
+use Rattle.prelude.specs.Names.{true, not, and_comm, refl, sym, ◌∙◌, ap, ap₂, ℕ, arith}
 use Rattle.model.specs.Domains.{Domains, may_before, fixed_before}
 use Rattle.model.specs.Order.{◌⊑◌}
 use Rattle.model.proofs.Below.{and_mono, below_three}

@@ -1,5 +1,6 @@
 -- The test of a packing passes exactly when the packing is feasible.
-use Rattle.prelude.specs.Names.{Bool, true, ◌&&◌, ◌||◌, ◌⊎◌, ⊎_elim, ⊎_map, ◌↔◌, ◌≡◌, ℕ, ◌+◌, ◌<◌, ℕ_discrete, leb, eqb, leb-true, le-leb, eqb-true}
+use Rattle.std.specs.Prelude.{◌&&◌, ◌||◌, ◌⊎◌, ◌↔◌, ◌≡◌, ◌+◌, ◌<◌}
+use Rattle.prelude.specs.Names.{Bool, true, ⊎_elim, ⊎_map, ℕ, ℕ_discrete, leb, eqb, leb-true, le-leb, eqb-true}
 use Rattle.prelude.specs.Names.{eq-eqb}
 use Rattle.model.specs.Below.{all_below}
 use Rattle.model.specs.Problem.{Problem, Precedence, Positions, EndsBefore, EndsAhead, ends_before, ends_ahead, Feasible, feasible, inside_test}

@@ -1,5 +1,6 @@
 -- A path has at most two first branches for each of the 45 pairs, and its branching pairs never go back in number.
-use Rattle.prelude.specs.Names.{Bool, true, false, not, cond, ◌||◌, List, [], ◌∷◌, ◌≡◌, refl, sym, ◌∙◌, ap, ℕ, suc, ◌+◌, ◌*◌, ◌≤◌, ◌<◌, dec_lt}
+use Rattle.std.specs.Prelude.{◌||◌, ◌∷◌, ◌≡◌, ◌+◌, ◌*◌, ◌≤◌, ◌<◌}
+use Rattle.prelude.specs.Names.{Bool, true, false, not, cond, List, [], refl, sym, ◌∙◌, ap, ℕ, suc, dec_lt}
 use Rattle.prelude.specs.Names.{arith, length, not-true, not-false}
 use Rattle.model.specs.Below.{all_below}
 use Rattle.model.specs.Problem.{Problem}

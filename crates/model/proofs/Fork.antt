@@ -1,5 +1,6 @@
 -- Where domains at rest are neither inconsistent nor packed there is a place to branch, and the two branches split what is admitted.
-use Rattle.prelude.specs.Names.{Bool, true, false, not, ◌&&◌, ◌||◌, ◌⊎◌, inl, inr, ◌≡◌, refl, ◌∙◌, ℕ, ◌≤◌, ◌<◌, arith}
+use Rattle.std.specs.Prelude.{◌&&◌, ◌||◌, ◌⊎◌, ◌≡◌, ◌≤◌, ◌<◌}
+use Rattle.prelude.specs.Names.{Bool, true, false, not, inl, inr, refl, ◌∙◌, ℕ, arith}
 use Rattle.prelude.specs.Names.{not-true}
 use Rattle.model.specs.Below.{all_below}
 use Rattle.model.specs.Problem.{Problem, Positions, EndsBefore}

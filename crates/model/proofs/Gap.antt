@@ -1,8 +1,9 @@
 -- What lies between two items, and the walkway and precedences of a packing: a feasible packing keeps it wherever one item is before the other, and a
 -- packing that keeps it keeps the walkway and every lag. The walkway is in "before" itself, the same for every pair of an axis. A lag there would not do:
 -- "before" is transitive, and what follows from two precedences has no lag of its own.
-use Rattle.prelude.specs.Names.{true, false, cond, ◌&&◌, List, [], ◌∷◌, Mem, mem-head, mem-tail, mem-not_nil}
-use Rattle.prelude.specs.Names.{mem-cases_cons, ◌⊎◌, inl, inr, ◌≡◌, refl, ℕ, ◌+◌, ◌-◌, ◌≤◌, zero-le, le_refl, arith, eqb, eqb-true, eq-eqb}
+use Rattle.std.specs.Prelude.{◌&&◌, ◌∷◌, ◌⊎◌, ◌≡◌, ◌+◌, ◌-◌, ◌≤◌}
+use Rattle.prelude.specs.Names.{true, false, cond, List, [], Mem, mem-head, mem-tail, mem-not_nil}
+use Rattle.prelude.specs.Names.{mem-cases_cons, inl, inr, refl, ℕ, zero-le, le_refl, arith, eqb, eqb-true, eq-eqb}
 use Rattle.model.specs.Problem.{Problem, Precedence, Positions, EndsBefore, EndsAhead, Feasible, time, spacing, lag_between, gap}
 use Rattle.model.specs.Admits.{Sound}
 use Rattle.model.proofs.Below.{and_intro, and_both}

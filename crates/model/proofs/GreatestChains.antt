@@ -1,5 +1,6 @@
 -- The greatest chains ending and starting in an item: the laws of proofs/Chain for both.
-use Rattle.prelude.specs.Names.{true, [], ◌∷◌, ◌≡◌, ℕ, ◌≤◌, ◌<◌}
+use Rattle.std.specs.Prelude.{◌∷◌, ◌≡◌, ◌≤◌, ◌<◌}
+use Rattle.prelude.specs.Names.{true, [], ℕ}
 use Rattle.model.specs.Problem.{Problem}
 use Rattle.model.specs.Domains.{Domains, fixed_before}
 use Rattle.model.specs.Rules.{joined, ending, starting, greatest_ending, greatest_starting}

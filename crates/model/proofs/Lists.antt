@@ -1,5 +1,6 @@
 -- Split runs agree with the one run: the claim about every list of calls, for whoever serves each call by the machine's steps.
-use Rattle.prelude.specs.Names.{List, [], ◌∷◌, ◌↔◌, ◌≡◌, refl, sym, ap, ◌∙◌, subst, ℕ, ◌+◌, ◌-◌, ◌≤◌, ◌<◌, min, dec_lt, add_assoc, add-zero, zero-add}
+use Rattle.std.specs.Prelude.{◌∷◌, ◌↔◌, ◌≡◌, ◌+◌, ◌-◌, ◌≤◌, ◌<◌}
+use Rattle.prelude.specs.Names.{List, [], refl, sym, ap, ◌∙◌, subst, ℕ, min, dec_lt, add_assoc, add-zero, zero-add}
 use Rattle.prelude.specs.Names.{arith, lt-ltb, le-ltb}
 use Rattle.model.specs.Machine.{Status, running, failed, succeeded, Machine, Ended, steps, Count, Invariant}
 use Rattle.model.specs.Lists.{Service, status_number, held_from, held, added, budget_sum, returned_code, returned_plan, plan_by, Right, Claim}

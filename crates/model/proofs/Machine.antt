@@ -1,5 +1,6 @@
 -- Steps of any machine: they compose, a run has one count, and past it stays as it is.
-use Rattle.prelude.specs.Names.{◌≡◌, refl, sym, ap, ◌∙◌, subst, ℕ, zero, suc, ◌+◌, ◌-◌, ◌≤◌, ◌<◌, min, le_of_suc-le-suc, zero-add, suc-add, arith}
+use Rattle.std.specs.Prelude.{◌≡◌, ◌+◌, ◌-◌, ◌≤◌, ◌<◌}
+use Rattle.prelude.specs.Names.{refl, sym, ap, ◌∙◌, subst, ℕ, zero, suc, min, le_of_suc-le-suc, zero-add, suc-add, arith}
 use native.Mathlib.Nat.{not-suc-le-zero}
 use Rattle.model.specs.Machine.{Status, running, failed, succeeded, Machine, Running, Ended, Open, Finished, steps, taken, Count, Invariant}
 

@@ -1,5 +1,6 @@
 -- The fewer relations are left, the more is fixed and the more the rules ask for.
-use Rattle.prelude.specs.Names.{[], ◌∷◌, sym, ◌∙◌, ℕ, zero, suc, ◌≤◌, compare}
+use Rattle.std.specs.Prelude.{◌∷◌, ◌≤◌}
+use Rattle.prelude.specs.Names.{[], sym, ◌∙◌, ℕ, zero, suc, compare}
 use Rattle.model.specs.Problem.{Problem}
 use Rattle.model.specs.Domains.{Domains, index_of, place, left, gone, may_overlap, may_before, fixed_before, fixed_overlap}
 use Rattle.model.specs.Rules.{ending, starting, greatest_ending, greatest_starting, rule1, rule2, rule3, rule4, rule5, asks_overlap}

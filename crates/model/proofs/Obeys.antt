@@ -1,5 +1,6 @@
 -- Domains obey the rules as document 01 words them exactly where they are at rest.
-use Rattle.prelude.specs.Names.{◌↔◌, le_trans, ltb-true}
+use Rattle.std.specs.Prelude.{◌↔◌}
+use Rattle.prelude.specs.Names.{le_trans, ltb-true}
 use Rattle.model.specs.Problem.{Problem}
 use Rattle.model.specs.Domains.{Domains}
 use Rattle.model.specs.Rules.{rule5}

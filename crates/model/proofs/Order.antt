@@ -1,5 +1,6 @@
 -- `k ⊑ j`, k has at most the relations of j: the order's own laws, and those of domains as numbers.
-use Rattle.prelude.specs.Names.{Bool, true, false, cond, ◌≢◌, ◌≡◌, refl, sym, ◌∙◌, ℕ, ◌*◌, ◌%◌, ◌/◌, ◌≤◌, ◌<◌, zero-le, arith, eqb, get_or, ext_get_or}
+use Rattle.std.specs.Prelude.{◌≢◌, ◌≡◌, ◌*◌, ◌%◌, ◌/◌, ◌≤◌, ◌<◌}
+use Rattle.prelude.specs.Names.{Bool, true, false, cond, refl, sym, ◌∙◌, ℕ, zero-le, arith, eqb, get_or, ext_get_or}
 use Rattle.prelude.specs.Names.{eqb-true}
 use Rattle.model.specs.Domains.{Domains, domain, overlap_bit, before_bit, after_bit, bit, clear}
 use Rattle.model.specs.Order.{WellFormed, Subdomain, ◌⊑◌}

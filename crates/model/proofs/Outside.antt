@@ -1,5 +1,6 @@
 -- Items past those of the problem, along a path: precedences and branches remove nothing of them either.
-use Rattle.prelude.specs.Names.{List, [], ◌∷◌, ◌≡◌, sym, ◌∙◌, ℕ, ◌≤◌, max, dec_lt, arith}
+use Rattle.std.specs.Prelude.{◌∷◌, ◌≡◌, ◌≤◌}
+use Rattle.prelude.specs.Names.{List, [], sym, ◌∙◌, ℕ, max, dec_lt, arith}
 use Rattle.model.specs.Problem.{Problem, time}
 use Rattle.model.specs.Domains.{Domains, fix_before, full_domains}
 use Rattle.model.specs.Branching.{opening_domains, Branch, branched, path_domains}

@@ -1,5 +1,6 @@
 -- Packed and consistent at rest, with the precedences fixed: starts by greatest chains are feasible.
-use Rattle.prelude.specs.Names.{true, false, ◌||◌, Mem, ◌⊎◌, inl, inr, ⊎_map, ⊎_elim, ◌≡◌, ℕ, ◌≤◌, ◌<◌, le_refl, le_trans, dec_le, arith}
+use Rattle.std.specs.Prelude.{◌||◌, ◌⊎◌, ◌≡◌, ◌≤◌, ◌<◌}
+use Rattle.prelude.specs.Names.{true, false, Mem, inl, inr, ⊎_map, ⊎_elim, ℕ, le_refl, le_trans, dec_le, arith}
 use Rattle.model.specs.Problem.{Problem, Precedence, EndsBefore, EndsAhead, Feasible, time, gap}
 use Rattle.model.specs.Domains.{Domains, fixed_before}
 use Rattle.model.specs.Rules.{joined, greatest_ending, greatest_starting}

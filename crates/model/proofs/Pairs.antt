@@ -1,5 +1,6 @@
 -- A pair's number and a number's pair undo one another, for any count of items.
-use Rattle.prelude.specs.Names.{inl, inr, ◌≡◌, refl, sym, ◌∙◌, ap, ℕ, zero, suc, ◌+◌, ◌*◌, ◌-◌, ◌≤◌, ◌<◌, dec_lt, eq-or-lt_of_le, arith, lt-ltb, le-ltb}
+use Rattle.std.specs.Prelude.{◌≡◌, ◌+◌, ◌*◌, ◌-◌, ◌≤◌, ◌<◌}
+use Rattle.prelude.specs.Names.{inl, inr, refl, sym, ◌∙◌, ap, ℕ, zero, suc, dec_lt, eq-or-lt_of_le, arith, lt-ltb, le-ltb}
 use Rattle.model.specs.Pairs.{Pair, pair_number, next_pair, pair_of, OnePair}
 
 pub square_split : (n : ℕ) → n * n ≡ n * (n - 1) + n

@@ -1,6 +1,7 @@
 -- One pass: it removes just the relations that some rule asks for, keeps the order of domains, and lowers their sum or changes nothing.
-use Rattle.prelude.specs.Names.{Bool, true, false, not, ◌&&◌, ◌||◌, or_comm, and-true, and-false, false≢true, [], ◌∷◌, ◌⊎◌, inl, inr, ◌≡◌, refl, sym}
-use Rattle.prelude.specs.Names.{◌∙◌, ap, ap₂, ℕ, zero, suc, ◌+◌, ◌≤◌, ◌<◌, min, max, le_refl, add-zero, zero-add, arith, ltb, eqb, get_or, length}
+use Rattle.std.specs.Prelude.{◌&&◌, ◌||◌, ◌∷◌, ◌⊎◌, ◌≡◌, ◌+◌, ◌≤◌, ◌<◌}
+use Rattle.prelude.specs.Names.{Bool, true, false, not, or_comm, and-true, and-false, false≢true, [], inl, inr, refl, sym}
+use Rattle.prelude.specs.Names.{◌∙◌, ap, ap₂, ℕ, zero, suc, min, max, le_refl, add-zero, zero-add, arith, ltb, eqb, get_or, length}
 use Rattle.prelude.specs.Names.{ext_get_or, eqb-true, eq-eqb, ltb-true, lt-ltb, le-ltb, not-true}
 use Rattle.model.specs.Below.{all_below}
 use Rattle.model.specs.Problem.{Problem}

@@ -1,6 +1,7 @@
 -- The domains of a path: all that the search uses of them.
-use Rattle.prelude.specs.Names.{true, false, List, [], ◌∷◌, Mem, mem-head, mem-tail, mem-not_nil, mem-cases_cons, ◌⊎◌}
-use Rattle.prelude.specs.Names.{inl, inr, ⊎_map, ◌≡◌, refl, ℕ, ◌<◌, arith}
+use Rattle.std.specs.Prelude.{◌∷◌, ◌⊎◌, ◌≡◌, ◌<◌}
+use Rattle.prelude.specs.Names.{true, false, List, [], Mem, mem-head, mem-tail, mem-not_nil, mem-cases_cons}
+use Rattle.prelude.specs.Names.{inl, inr, ⊎_map, refl, ℕ, arith}
 use Rattle.model.specs.Problem.{Problem, Precedence, Positions, Feasible, time}
 use Rattle.model.specs.Domains.{Domains, gone, without, fixed_before, remove_before, fix_before, full_domains}
 use Rattle.model.specs.Propagate.{propagate}

@@ -1,5 +1,6 @@
 -- What propagation leaves: of all domains below k at which no rule asks for anything, the greatest. So the order of removals does not matter.
-use Rattle.prelude.specs.Names.{true, false, inl, inr, ◌≡◌, refl, subst, ℕ, zero, suc, ◌≤◌, le_refl, arith}
+use Rattle.std.specs.Prelude.{◌≡◌, ◌≤◌}
+use Rattle.prelude.specs.Names.{true, false, inl, inr, refl, subst, ℕ, zero, suc, le_refl, arith}
 use Rattle.model.specs.Problem.{Problem}
 use Rattle.model.specs.Domains.{Domains}
 use Rattle.model.specs.Propagate.{pass, same, sum, passes, propagate}

@@ -1,7 +1,8 @@
 -- The order of removals does not matter: not that of the rules' own, and not whether the rules are
 -- applied after every branch of a path or once at its end.
-use Rattle.prelude.specs.Names.{Bool, true, false, false≢true, List, [], ◌∷◌, ◌≢◌, ◌⊎◌, inl, inr, ⊎_map, ◌≡◌, refl, sym, ◌∙◌, ap, subst, ℕ, zero, suc}
-use Rattle.prelude.specs.Names.{◌≤◌, ◌<◌, ℕ_discrete, eq-or-lt_of_le, le_of_suc-le-suc, arith}
+use Rattle.std.specs.Prelude.{◌∷◌, ◌≢◌, ◌⊎◌, ◌≡◌, ◌≤◌, ◌<◌}
+use Rattle.prelude.specs.Names.{Bool, true, false, false≢true, List, [], inl, inr, ⊎_map, refl, sym, ◌∙◌, ap, subst, ℕ, zero, suc}
+use Rattle.prelude.specs.Names.{ℕ_discrete, eq-or-lt_of_le, le_of_suc-le-suc, arith}
 use Rattle.model.specs.Problem.{Problem}
 use Rattle.model.specs.Domains.{Domains, gone, without, may_overlap, fix_overlap}
 use Rattle.model.specs.Rules.{asks}

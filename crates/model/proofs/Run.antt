@@ -1,5 +1,6 @@
 -- The run of the search ends, and says infeasible only where no packing is left: one induction on the weight.
-use Rattle.prelude.specs.Names.{◌≡◌, refl, sym, ap, subst, ◌⊎◌, inl, inr, ⊎_elim, ◌↔◌, true, false≢true, List, [], ◌∷◌, ℕ, zero, suc, ◌+◌, ◌≤◌, ◌<◌}
+use Rattle.std.specs.Prelude.{◌≡◌, ◌⊎◌, ◌↔◌, ◌∷◌, ◌+◌, ◌≤◌, ◌<◌}
+use Rattle.prelude.specs.Names.{refl, sym, ap, subst, inl, inr, ⊎_elim, true, false≢true, List, [], ℕ, zero, suc}
 use Rattle.prelude.specs.Names.{le_refl, arith, length}
 use Rattle.model.specs.Branching.{Branch, first, second}
 use Rattle.model.specs.Machine.{Open, steps, Count, Invariant}

@@ -1,5 +1,6 @@
 -- What a path's outlook says of its domains, and the laws that the search needs of paths.
-use Rattle.prelude.specs.Names.{Bool, true, false, List, [], ◌⊎◌, inl, inr, ◌≡◌, refl, ap, subst, ℕ, ◌*◌, ◌-◌, ◌≤◌, arith, leb, leb-true}
+use Rattle.std.specs.Prelude.{◌⊎◌, ◌≡◌, ◌*◌, ◌-◌, ◌≤◌}
+use Rattle.prelude.specs.Names.{Bool, true, false, List, [], inl, inr, refl, ap, subst, ℕ, arith, leb, leb-true}
 use Rattle.model.specs.Problem.{Problem, Positions, Feasible}
 use Rattle.model.specs.Branching.{Branch, inconsistent, packed, path_domains, plan}
 use Rattle.model.specs.Admits.{Sound, Admits}

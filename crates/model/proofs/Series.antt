@@ -1,6 +1,7 @@
 -- A series of machines ends where the first one succeeds, or where the last fails, and its steps are the sum of theirs. A call on it is a call on the machine
 -- that runs, and, where that fails, one on the next from its opening.
-use Rattle.prelude.specs.Names.{◌≡◌, refl, sym, ap, ◌∙◌, subst, ℕ, zero, suc, ◌+◌, ◌-◌, ◌*◌, ◌≤◌, ◌<◌, dec_lt, le-ltb, lt-ltb, arith}
+use Rattle.std.specs.Prelude.{◌≡◌, ◌+◌, ◌-◌, ◌*◌, ◌≤◌, ◌<◌}
+use Rattle.prelude.specs.Names.{refl, sym, ap, ◌∙◌, subst, ℕ, zero, suc, dec_lt, le-ltb, lt-ltb, arith}
 use native.Mathlib.Nat.{suc-mul}
 use Rattle.model.specs.Below.{sum_below}
 use Rattle.model.specs.Machine.{Status, running, failed, succeeded, Machine, Running, Ended, Open, Finished, steps, taken, Count, Invariant}

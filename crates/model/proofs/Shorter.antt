@@ -1,5 +1,6 @@
 -- Lengths whose opening domains are inconsistent: so are those of every shorter one.
-use Rattle.prelude.specs.Names.{Bool, true, false, cond, [], ◌≡◌, refl, ℕ, ◌≤◌, le_refl, le_trans, arith, ltb, ltb-true}
+use Rattle.std.specs.Prelude.{◌≡◌, ◌≤◌}
+use Rattle.prelude.specs.Names.{Bool, true, false, cond, [], refl, ℕ, le_refl, le_trans, arith, ltb, ltb-true}
 use Rattle.model.specs.Problem.{Problem, gap, time}
 use Rattle.model.specs.Domains.{Domains}
 use Rattle.model.specs.Rules.{joined, longest, ending, starting, greatest_ending, greatest_starting, rule5}

@@ -1,5 +1,6 @@
 -- Where each pair and axis is: the index of a domain.
-use Rattle.prelude.specs.Names.{Bool, true, ◌⊎◌, inl, inr, ◌≢◌, ◌≡◌, ap₂, ℕ, ◌+◌, ◌*◌, ◌/◌, ◌%◌, ◌<◌, min, max, dec_lt, arith}
+use Rattle.std.specs.Prelude.{◌⊎◌, ◌≢◌, ◌≡◌, ◌+◌, ◌*◌, ◌/◌, ◌%◌, ◌<◌}
+use Rattle.prelude.specs.Names.{Bool, true, inl, inr, ap₂, ℕ, min, max, dec_lt, arith}
 use Rattle.model.specs.Below.{all_below}
 use Rattle.model.specs.Pairs.{pair_number}
 use Rattle.model.specs.Domains.{index, index_of}

@@ -1,6 +1,7 @@
 -- The rules are sound: no rule asks for a relation that an admitted feasible packing realises. So propagation admits what it admitted,
 -- the opening domains admit every feasible packing, and inconsistent domains admit none.
-use Rattle.prelude.specs.Names.{true, false, not, ◌&&◌, ◌||◌, ◌⊎◌, inl, inr, ⊎_elim, ◌≡◌, refl, sym, ◌∙◌, ap, ℕ, zero, suc, ◌+◌, ◌-◌, ◌≤◌, ◌<◌}
+use Rattle.std.specs.Prelude.{◌&&◌, ◌||◌, ◌⊎◌, ◌≡◌, ◌+◌, ◌-◌, ◌≤◌, ◌<◌}
+use Rattle.prelude.specs.Names.{true, false, not, inl, inr, ⊎_elim, refl, sym, ◌∙◌, ap, ℕ, zero, suc}
 use Rattle.prelude.specs.Names.{le_refl, arith, eqb, eqb-true, ltb-true, not-true, not-false}
 use Rattle.model.specs.Problem.{Problem, Positions, EndsBefore, Feasible}
 use Rattle.model.specs.Domains.{Domains, may_overlap, may_before, left, gone, fixed_before, fixed_overlap}

@@ -1,5 +1,6 @@
 -- What the planner's mathematics comes to, in document 01's order.
-use Rattle.prelude.specs.Names.{Bool, true, ◌&&◌, List, [], ◌⊎◌, inl, inr, ◌↔◌, ◌≡◌, refl, sym, ap, ◌∙◌, subst, ℕ, suc, ◌+◌, ◌≤◌, ◌<◌, le_refl, le_trans}
+use Rattle.std.specs.Prelude.{◌&&◌, ◌⊎◌, ◌↔◌, ◌≡◌, ◌+◌, ◌≤◌, ◌<◌}
+use Rattle.prelude.specs.Names.{Bool, true, List, [], inl, inr, refl, sym, ap, ◌∙◌, subst, ℕ, suc, le_refl, le_trans}
 use Rattle.prelude.specs.Names.{arith, leb}
 use Rattle.prelude.specs.Names.{length, leb-true, le-leb, eqb-true, eq-eqb}
 use native.Mathlib.Nat.{mul-le-mul_right}

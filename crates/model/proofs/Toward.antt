@@ -1,6 +1,7 @@
 -- Rule 5 inside the event loop. A table under the chains of every goal stays under them as its numbers go on along links, and what it finds too long no
 -- goal has. Where nothing is pending, the domains are the propagation and the table is exact.
-use Rattle.prelude.specs.Names.{true, false, ◌⊎◌, inl, inr, ⊎_elim, ⊎_map, ◌≡◌, sym, ◌∙◌, ℕ, ◌+◌, ◌≤◌, ◌<◌, le_refl, le_trans, arith, ltb-true}
+use Rattle.std.specs.Prelude.{◌⊎◌, ◌≡◌, ◌+◌, ◌≤◌, ◌<◌}
+use Rattle.prelude.specs.Names.{true, false, inl, inr, ⊎_elim, ⊎_map, sym, ◌∙◌, ℕ, le_refl, le_trans, arith, ltb-true}
 use Rattle.prelude.specs.Names.{not-true}
 use Rattle.model.specs.Problem.{Problem}
 use Rattle.model.specs.Domains.{Domains, may_before}

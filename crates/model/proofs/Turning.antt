@@ -1,5 +1,6 @@
 -- Choices are all the ways of turning: each choice is one, and each way has its choice.
-use Rattle.prelude.specs.Names.{Bool, true, false, cond, ◌&&◌, ◌⊎◌, inl, inr, ◌≡◌, refl, sym, ap, ◌∙◌, subst, ℕ, zero, suc, ◌+◌, ◌-◌, ◌*◌, ◌/◌, ◌%◌, ◌≤◌, ◌<◌}
+use Rattle.std.specs.Prelude.{◌&&◌, ◌⊎◌, ◌≡◌, ◌+◌, ◌-◌, ◌*◌, ◌/◌, ◌%◌, ◌≤◌, ◌<◌}
+use Rattle.prelude.specs.Names.{Bool, true, false, cond, inl, inr, refl, sym, ap, ◌∙◌, subst, ℕ, zero, suc}
 use Rattle.prelude.specs.Names.{arith, eq-eqb, ne_eqb}
 use Rattle.model.specs.Problem.{Problem, Positions, EndsAhead, EndsBefore, Feasible, spacing, time}
 use Rattle.model.specs.Domains.{odd}

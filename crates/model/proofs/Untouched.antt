@@ -1,5 +1,6 @@
 -- Items past those of the problem: propagation removes nothing of them, so that a goal obeys rules 1 to 4 for ten items as well as for its own.
-use Rattle.prelude.specs.Names.{true, false, ◌&&◌, List, ◌≡◌, refl, sym, ◌∙◌, ℕ, ◌≤◌, ◌<◌, max, dec_lt, arith, not-true}
+use Rattle.std.specs.Prelude.{◌&&◌, ◌≡◌, ◌≤◌, ◌<◌}
+use Rattle.prelude.specs.Names.{true, false, List, refl, sym, ◌∙◌, ℕ, max, dec_lt, arith, not-true}
 use Rattle.model.specs.Problem.{Problem}
 use Rattle.model.specs.Domains.{Domains, fixed_before}
 use Rattle.model.specs.Propagate.{pass, propagate}

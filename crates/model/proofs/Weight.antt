@@ -1,6 +1,7 @@
 -- The weight never grows where relations are removed, falls with each branch of a fork, and is at most 3 × n × (n − 1).
-use Rattle.prelude.specs.Names.{Bool, true, not, false, cond, ◌&&◌, ◌||◌, false≢true, inl, inr, ◌≡◌, refl, ap, ℕ, zero, suc, pred, ◌+◌, ◌*◌, ◌-◌, ◌≤◌}
-use Rattle.prelude.specs.Names.{◌<◌, eq-or-lt_of_le, le_of_suc-le-suc, arith, not-true}
+use Rattle.std.specs.Prelude.{◌&&◌, ◌||◌, ◌≡◌, ◌+◌, ◌*◌, ◌-◌, ◌≤◌, ◌<◌}
+use Rattle.prelude.specs.Names.{Bool, true, not, false, cond, false≢true, inl, inr, refl, ap, ℕ, zero, suc, pred}
+use Rattle.prelude.specs.Names.{eq-or-lt_of_le, le_of_suc-le-suc, arith, not-true}
 use Rattle.model.specs.Problem.{Problem}
 use Rattle.model.specs.Domains.{Domains, may_overlap, may_before, remove_overlap, remove_before, gone, without, fix_overlap}
 use Rattle.model.specs.Branching.{undecided, choice, Branch, first, second, branch_at, branched}

@@ -1,6 +1,7 @@
 -- The problem that the code works on (specs/Wide), ten items and the walkway in their measures: where nothing is removed of the items added, propagation comes
 -- to the same. Each total is longer by one walkway, that behind its last item; so is the container, and rule 5's sum, of two totals, is too.
-use Rattle.prelude.specs.Names.{Bool, true, false, cond, List, ◌∷◌, ◌⊎◌, inl, inr, ◌≡◌, sym, ◌∙◌, ℕ, zero, suc, ◌+◌, ◌≤◌, ◌<◌, le_trans, dec_lt, arith}
+use Rattle.std.specs.Prelude.{◌∷◌, ◌⊎◌, ◌≡◌, ◌+◌, ◌≤◌, ◌<◌}
+use Rattle.prelude.specs.Names.{Bool, true, false, cond, List, inl, inr, sym, ◌∙◌, ℕ, zero, suc, le_trans, dec_lt, arith}
 use Rattle.prelude.specs.Names.{eqb, ltb-true, lt-ltb, le-ltb}
 use Rattle.model.specs.Problem.{Problem, time, spacing, lag_between, gap}
 use Rattle.model.specs.Domains.{Domains, fixed_before}

@@ -1,5 +1,6 @@
 -- Removing a relation by its number: it is gone, every other stays, and the numbers add up to less; and removing all but one.
-use Rattle.prelude.specs.Names.{true, false, not, [], ◌∷◌, ◌≢◌, ◌⊎◌, inl, inr, eq-or-lt_of_le, ◌≡◌, refl, sym, ◌∙◌, ap, ℕ, zero, suc, ◌≤◌, ◌<◌, min}
+use Rattle.std.specs.Prelude.{◌∷◌, ◌≢◌, ◌⊎◌, ◌≡◌, ◌≤◌, ◌<◌}
+use Rattle.prelude.specs.Names.{true, false, not, [], inl, inr, eq-or-lt_of_le, refl, sym, ◌∙◌, ap, ℕ, zero, suc, min}
 use Rattle.prelude.specs.Names.{max, compare, ℕ_discrete, dec_lt, arith, get_or, length, set, length-set, not-true}
 use Rattle.model.specs.Domains.{Domains, index_of, bit, clear, converse, place, left, cleared, gone, without, remove_overlap, remove_before}
 use Rattle.model.specs.Domains.{fix_before}

@@ -1,5 +1,6 @@
 -- The packings that domains admit: the terms in which soundness is stated.
-use Rattle.prelude.specs.Names.{false, Mem, ◌≡◌, ℕ, zero, suc, ◌≤◌, ◌<◌}
+use Rattle.std.specs.Prelude.{◌≡◌, ◌≤◌, ◌<◌}
+use Rattle.prelude.specs.Names.{false, Mem, ℕ, zero, suc}
 use Rattle.model.specs.Problem.{Problem, Precedence, Positions, EndsBefore, time}
 use Rattle.model.specs.Domains.{Domains, gone}
 use Rattle.model.specs.Order.{Proper}

@@ -1,5 +1,6 @@
 -- Tests over the numbers below n and over the elements of a list.
-use Rattle.prelude.specs.Names.{Bool, true, false, List, [], ◌∷◌, ℕ, zero, suc, ◌+◌, max}
+use Rattle.std.specs.Prelude.{◌∷◌, ◌+◌}
+use Rattle.prelude.specs.Names.{Bool, true, false, List, [], ℕ, zero, suc, max}
 
 -- some number below n passes
 abbrev pub some_below : ℕ → (ℕ → Bool) → Bool

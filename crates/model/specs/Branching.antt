@@ -1,5 +1,6 @@
 -- What domains show and where the search branches (document 01, "The search"; a turn is a branch, a row of turns a path).
-use Rattle.prelude.specs.Names.{Bool, true, false, not, ◌&&◌, ◌||◌, List, [], ◌∷◌, ℕ, ◌-◌, ltb}
+use Rattle.std.specs.Prelude.{◌&&◌, ◌||◌, ◌∷◌, ◌-◌}
+use Rattle.prelude.specs.Names.{Bool, true, false, not, List, [], ℕ, ltb}
 use Rattle.model.specs.Below.{some_below, all_below, first_below}
 use Rattle.model.specs.Problem.{Problem, Precedence, Positions, time}
 use Rattle.model.specs.Pairs.{pair_of}

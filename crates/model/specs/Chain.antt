@@ -1,5 +1,6 @@
 -- Chains as lists of items (document 01, rule 5): what `longest` is the greatest total of.
-use Rattle.prelude.specs.Names.{Bool, true, false, List, [], ◌∷◌, ◌≡◌, ℕ, ◌+◌, ◌<◌}
+use Rattle.std.specs.Prelude.{◌∷◌, ◌≡◌, ◌+◌, ◌<◌}
+use Rattle.prelude.specs.Names.{Bool, true, false, List, [], ℕ}
 use Rattle.model.specs.Problem.{Problem}
 use Rattle.model.specs.Domains.{Domains, fixed_before}
 use Rattle.model.specs.Rules.{listed, joined}

@@ -1,7 +1,8 @@
 -- Rules 1 to 4 as document 01 words them, forward from what is fixed to what is removed: where a clause's premises hold, its conclusion must.
 -- proofs/Clauses shows that domains obey them exactly where the tests of specs/Rules, which see each rule from the relation that it removes, ask for
 -- nothing that is left.
-use Rattle.prelude.specs.Names.{List, [], ◌∷◌, ◌≢◌, ℕ, ◌≤◌, ◌<◌}
+use Rattle.std.specs.Prelude.{◌∷◌, ◌≢◌, ◌≤◌, ◌<◌}
+use Rattle.prelude.specs.Names.{List, [], ℕ}
 use Rattle.model.specs.Domains.{Domains}
 use Rattle.model.specs.Order.{Proper}
 use Rattle.model.specs.Relations.{Filled}

@@ -1,6 +1,7 @@
 -- The relations left of each pair of items on each axis (document 01, "Knowledge and striking"; knowledge is `Domains`, a word a relation,
 -- the words left a domain, striking removal, known fixed).
-use Rattle.prelude.specs.Names.{Bool, true, false, not, cond, ◌&&◌, List, ℕ, zero, suc, ◌+◌, ◌*◌, ◌/◌, ◌%◌, min, max, compare, Ordering}
+use Rattle.std.specs.Prelude.{◌&&◌, ◌+◌, ◌*◌, ◌/◌, ◌%◌}
+use Rattle.prelude.specs.Names.{Bool, true, false, not, cond, List, ℕ, zero, suc, min, max, compare, Ordering}
 use Rattle.prelude.specs.Names.{ordering_lt, ordering_eq, ordering_gt, eqb, get_or, set, replicate}
 use Rattle.model.specs.Pairs.{pair_number}
 

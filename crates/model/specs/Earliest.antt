@@ -1,6 +1,7 @@
 -- The earliest finish (document 02, #103): "for lengths 1, 2 and so on up to the sheet's shifts, search with the other measures unchanged, under
 -- one total allowance".
-use Rattle.prelude.specs.Names.{cond, ◌↔◌, ◌≡◌, ℕ, zero, suc, ◌+◌, ◌-◌, ◌≤◌, ◌<◌, min, ltb}
+use Rattle.std.specs.Prelude.{◌↔◌, ◌≡◌, ◌+◌, ◌-◌, ◌≤◌, ◌<◌}
+use Rattle.prelude.specs.Names.{cond, ℕ, zero, suc, min, ltb}
 use Rattle.model.specs.Problem.{Problem, time}
 use Rattle.model.specs.Turning.{Turnable, Plan, Fits}
 use Rattle.model.specs.Machine.{running, failed, succeeded}

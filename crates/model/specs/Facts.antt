@@ -1,5 +1,6 @@
 -- What the rules speak of: relations of two items on an axis that are known or removed.
-use Rattle.prelude.specs.Names.{Bool, true, ◌&&◌, ◌≡◌, ℕ}
+use Rattle.std.specs.Prelude.{◌&&◌, ◌≡◌}
+use Rattle.prelude.specs.Names.{Bool, true, ℕ}
 use Rattle.model.specs.Domains.{Domains}
 use Rattle.model.specs.Relations.{gone}
 

@@ -1,5 +1,6 @@
 -- How many first branches a path can have, and how far the pairs before the branching pair are done with.
-use Rattle.prelude.specs.Names.{true, List, [], ◌∷◌, ◌≡◌, ℕ, suc, ◌<◌}
+use Rattle.std.specs.Prelude.{◌∷◌, ◌≡◌, ◌<◌}
+use Rattle.prelude.specs.Names.{true, List, [], ℕ, suc}
 use Rattle.model.specs.Domains.{Domains}
 use Rattle.model.specs.Branching.{pair_separated, Branch, first, second}
 

@@ -1,6 +1,7 @@
 -- The claim about a whole list of search calls (document 01, "The search": "a single claim about a whole list of search calls and not one
 -- for each call"). It is over any machine M and over any service of its calls, in values or on bytes.
-use Rattle.prelude.specs.Names.{Bool, true, false, cond, List, [], ◌∷◌, ◌++◌, ◌↔◌, ◌≡◌, ℕ, ◌+◌, ◌≤◌, ◌<◌, min, ltb}
+use Rattle.std.specs.Prelude.{◌∷◌, ◌++◌, ◌↔◌, ◌≡◌, ◌+◌, ◌≤◌, ◌<◌}
+use Rattle.prelude.specs.Names.{Bool, true, false, cond, List, [], ℕ, min, ltb}
 use Rattle.model.specs.Machine.{Status, running, failed, succeeded, Machine, steps, taken}
 
 -- How calls are served: S are the machine's states, C the calls, X is what holds the note, P what holds a plan

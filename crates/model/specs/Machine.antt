@@ -1,5 +1,6 @@
 -- A machine that takes steps from an opening state until it is finished: what calls with a budget, and the claim about them, are stated over.
-use Rattle.prelude.specs.Names.{ℕ, zero, suc, ◌<◌}
+use Rattle.std.specs.Prelude.{◌<◌}
+use Rattle.prelude.specs.Names.{ℕ, zero, suc}
 
 -- "A note is open, none or placed": open is running, none failed, placed succeeded
 pub data Status : Type 0 where

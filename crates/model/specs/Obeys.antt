@@ -1,6 +1,7 @@
 -- The five rules as document 01 words them. proofs/Obeys shows that domains obey them exactly where no rule, seen from the relation that it removes,
 -- asks for a relation that is left.
-use Rattle.prelude.specs.Names.{false, List, ◌∷◌, ◌≡◌, ℕ, ◌<◌}
+use Rattle.std.specs.Prelude.{◌∷◌, ◌≡◌, ◌<◌}
+use Rattle.prelude.specs.Names.{false, List, ℕ}
 use Rattle.model.specs.Problem.{Problem}
 use Rattle.model.specs.Domains.{Domains, may_before}
 use Rattle.model.specs.Rules.{joined}

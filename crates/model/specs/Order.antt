@@ -1,5 +1,6 @@
 -- What lies between domains and their propagation: the terms in which the laws of removal are stated.
-use Rattle.prelude.specs.Names.{true, false, ◌≢◌, ◌≡◌, ℕ, ◌<◌, get_or, length}
+use Rattle.std.specs.Prelude.{◌≢◌, ◌≡◌, ◌<◌}
+use Rattle.prelude.specs.Names.{true, false, ℕ, get_or, length}
 use Rattle.model.specs.Problem.{Problem}
 use Rattle.model.specs.Domains.{Domains, bit, gone}
 use Rattle.model.specs.Rules.{asks}

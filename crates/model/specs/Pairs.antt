@@ -1,5 +1,6 @@
 -- Pairs of items by number (document 01, "The search"; document 02, #102).
-use Rattle.prelude.specs.Names.{true, false, ◌≡◌, ℕ, zero, suc, ◌+◌, ◌*◌, ◌-◌, ◌/◌, ◌<◌, ltb}
+use Rattle.std.specs.Prelude.{◌≡◌, ◌+◌, ◌*◌, ◌-◌, ◌/◌, ◌<◌}
+use Rattle.prelude.specs.Names.{true, false, ℕ, zero, suc, ltb}
 
 -- two items, u < v
 pub record Pair : Type 0 where

@@ -1,6 +1,7 @@
 -- A packing problem with precedences, and its feasible packings (document 01, "Fit"; lags: document 02, #101; the walkway: #105).
 -- Axes are 0 (x), 1 (y) and 2 (t); items count from 0.
-use Rattle.prelude.specs.Names.{Bool, cond, ◌&&◌, ◌||◌, List, [], ◌∷◌, Mem, ◌⊎◌, ◌≢◌, ℕ, ◌+◌, ◌<◌, ◌≤◌, max, leb, eqb}
+use Rattle.std.specs.Prelude.{◌&&◌, ◌||◌, ◌∷◌, ◌⊎◌, ◌≢◌, ◌+◌, ◌<◌, ◌≤◌}
+use Rattle.prelude.specs.Names.{Bool, cond, List, [], Mem, ℕ, max, leb, eqb}
 use Rattle.model.specs.Below.{some_below, all_below, all_in}
 
 -- the axis t, on which precedences act

@@ -1,5 +1,6 @@
 -- Propagation: the rules applied "until nothing more can be struck". proofs/Propagate shows that any order of removals comes to the same.
-use Rattle.prelude.specs.Names.{Bool, true, false, not, ◌&&◌, [], ◌∷◌, ℕ, zero, suc, ◌+◌, ◌/◌, ◌%◌, ltb, eqb}
+use Rattle.std.specs.Prelude.{◌&&◌, ◌∷◌, ◌+◌, ◌/◌, ◌%◌}
+use Rattle.prelude.specs.Names.{Bool, true, false, not, [], ℕ, zero, suc, ltb, eqb}
 use Rattle.model.specs.Problem.{Problem}
 use Rattle.model.specs.Pairs.{pair_of}
 use Rattle.model.specs.Domains.{Domains, domain, overlap_bit, before_bit, after_bit}

@@ -1,5 +1,6 @@
 -- What is said of relations by their numbers: 0 overlap, 1 "u before v", 2 "v before u".
-use Rattle.prelude.specs.Names.{true, false, ◌&&◌, ◌≡◌, ℕ, ◌<◌}
+use Rattle.std.specs.Prelude.{◌&&◌, ◌≡◌, ◌<◌}
+use Rattle.prelude.specs.Names.{true, false, ℕ}
 use Rattle.model.specs.Domains.{Domains}
 use Rattle.model.specs.Order.{Proper}
 unfoldable pub use Rattle.model.specs.Domains.{gone, without, converse}

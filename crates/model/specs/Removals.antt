@@ -1,7 +1,8 @@
 -- What document 01 says of the rules and of a row, with no word of passes: relations removed in any
 -- order, and a path's removals with no rule applied in between. proofs/Removals shows that they
 -- come to what `propagate` and `path_domains` compute.
-use Rattle.prelude.specs.Names.{true, List, [], ◌∷◌, ◌≡◌, ℕ, ◌<◌}
+use Rattle.std.specs.Prelude.{◌∷◌, ◌≡◌, ◌<◌}
+use Rattle.prelude.specs.Names.{true, List, [], ℕ}
 use Rattle.model.specs.Problem.{Problem}
 use Rattle.model.specs.Domains.{Domains, may_overlap, without}
 use Rattle.model.specs.Rules.{asks}

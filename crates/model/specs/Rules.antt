@@ -1,6 +1,7 @@
 -- The five rules (document 01, "Knowledge and striking") as tests, for computing: the clauses of specs/Clauses, each seen from the relation that it removes.
 -- "These hold for distinct pieces": nothing is removed of an item and itself, so that items in a premise differ.
-use Rattle.prelude.specs.Names.{Bool, true, false, not, ◌&&◌, ◌||◌, List, [], ◌∷◌, ℕ, zero, suc, ◌+◌, max, ltb, eqb}
+use Rattle.std.specs.Prelude.{◌&&◌, ◌||◌, ◌∷◌, ◌+◌}
+use Rattle.prelude.specs.Names.{Bool, true, false, not, List, [], ℕ, zero, suc, max, ltb, eqb}
 use Rattle.model.specs.Below.{some_below, all_below, most_below}
 use Rattle.model.specs.Problem.{Problem, gap}
 use Rattle.model.specs.Domains.{Domains, may_overlap, may_before, fixed_before, fixed_overlap}

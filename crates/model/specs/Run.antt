@@ -1,5 +1,6 @@
 -- The search: what the paths of a problem show, the search of one choice, of all choices (document 02, #106), one call, the run and its step count.
-use Rattle.prelude.specs.Names.{Bool, true, false, ◌&&◌, List, ℕ, suc, ◌*◌, ◌-◌, leb, eqb}
+use Rattle.std.specs.Prelude.{◌&&◌, ◌*◌, ◌-◌}
+use Rattle.prelude.specs.Names.{Bool, true, false, List, ℕ, suc, leb, eqb}
 use Rattle.model.specs.Below.{sum_below}
 use Rattle.model.specs.Problem.{Problem, Positions}
 use Rattle.model.specs.Turning.{Turnable, choice_problem, marks_of, last_choice, Plan}

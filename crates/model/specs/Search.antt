@@ -1,5 +1,6 @@
 -- The search (document 01, "The search") over what a path of branches shows. A path is kept with its last branch first.
-use Rattle.prelude.specs.Names.{◌≡◌, ◌⊎◌, Bool, true, false, ◌&&◌, List, [], ◌∷◌, ℕ, zero, suc, ◌+◌, ◌<◌}
+use Rattle.std.specs.Prelude.{◌≡◌, ◌⊎◌, ◌&&◌, ◌∷◌, ◌+◌, ◌<◌}
+use Rattle.prelude.specs.Names.{Bool, true, false, List, [], ℕ, zero, suc}
 use Rattle.model.specs.Machine.{Status, running, failed, succeeded, Machine}
 use Rattle.model.specs.Branching.{Branch, first, second}
 

@@ -1,5 +1,6 @@
 -- Numbered machines, one after the other from 0: where one would fail the next is opened instead, until the last. So are choices searched (document 02, #106).
-use Rattle.prelude.specs.Names.{◌≡◌, ℕ, suc, ◌≤◌, cond, ltb}
+use Rattle.std.specs.Prelude.{◌≡◌, ◌≤◌}
+use Rattle.prelude.specs.Names.{ℕ, suc, cond, ltb}
 use Rattle.model.specs.Machine.{Status, running, failed, succeeded, Machine}
 
 -- the number of the machine that runs, and its state

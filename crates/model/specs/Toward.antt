@@ -1,6 +1,7 @@
 -- Rule 5 inside the event loop: chain totals that are kept while rules 1 to 4 are not yet at rest, where "before" need not be a strict order.
 -- All of it is stated once for both directions x: 1 is of the chains that start in an item, 2 of those that end in it.
-use Rattle.prelude.specs.Names.{true, false, ◌⊎◌, ◌≡◌, ℕ, zero, suc, ◌≤◌, ◌<◌}
+use Rattle.std.specs.Prelude.{◌⊎◌, ◌≡◌, ◌≤◌, ◌<◌}
+use Rattle.prelude.specs.Names.{true, false, ℕ, zero, suc}
 use Rattle.model.specs.Problem.{Problem, gap}
 use Rattle.model.specs.Domains.{Domains}
 use Rattle.model.specs.Rules.{joined, greatest_ending, greatest_starting}

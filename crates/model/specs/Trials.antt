@@ -1,5 +1,6 @@
 -- Halls tried by computation: a problem, the calls made, and what they have to answer.
-use Rattle.prelude.specs.Names.{Bool, true, false, cond, ◌&&◌, List, [], ◌∷◌, ℕ, ◌+◌, eqb, get_or, length}
+use Rattle.std.specs.Prelude.{◌&&◌, ◌∷◌, ◌+◌}
+use Rattle.prelude.specs.Names.{Bool, true, false, cond, List, [], ℕ, eqb, get_or, length}
 use Rattle.model.specs.Below.{all_below}
 use Rattle.model.specs.Problem.{Problem, Precedence, feasible}
 use Rattle.model.specs.Turning.{Turnable, turned, Plan}

@@ -1,5 +1,6 @@
 -- Items that may be turned (document 02, #106): the choices of which are turned, the problem of each, and plans with marks.
-use Rattle.prelude.specs.Names.{Bool, true, false, cond, ◌&&◌, ◌≡◌, ℕ, zero, suc, ◌*◌, ◌/◌, ◌-◌, ◌<◌}
+use Rattle.std.specs.Prelude.{◌&&◌, ◌≡◌, ◌*◌, ◌/◌, ◌-◌, ◌<◌}
+use Rattle.prelude.specs.Names.{Bool, true, false, cond, ℕ, zero, suc}
 use Rattle.model.specs.Problem.{Problem, Positions, Feasible}
 use Rattle.model.specs.Domains.{odd}
 

@@ -1,5 +1,6 @@
 -- How much can still be removed: the relations left over one, summed. Each branch removes one, so that a path is no longer than this.
-use Rattle.prelude.specs.Names.{cond, ℕ, pred, ◌+◌}
+use Rattle.std.specs.Prelude.{◌+◌}
+use Rattle.prelude.specs.Names.{cond, ℕ, pred}
 use Rattle.model.specs.Below.{sum_below}
 use Rattle.model.specs.Problem.{Problem}
 use Rattle.model.specs.Domains.{Domains, may_overlap, may_before}

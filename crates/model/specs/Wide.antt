@@ -1,7 +1,8 @@
 -- The problem that the code works on: ten items, whatever the instance's count, those added of measure 0; and no walkway: on x and y each item of the
 -- instance is longer by the walkway behind it, and so is the container, since nothing is needed at its wall. proofs/Wide shows that propagation comes to
 -- the same, and that each start is the same.
-use Rattle.prelude.specs.Names.{◌+◌, cond, ltb}
+use Rattle.std.specs.Prelude.{◌+◌}
+use Rattle.prelude.specs.Names.{cond, ltb}
 use Rattle.model.specs.Problem.{Problem, spacing}
 
 unfoldable pub wide : Problem → Problem

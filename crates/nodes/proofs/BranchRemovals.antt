@@ -1,6 +1,7 @@
 -- Some relations of one pair are removed: what that leaves is the domains without them. A branch leaves the pair a relation.
-use Rattle.prelude.specs.Names.{Bool, true, false, not, ◌&&◌, ◌||◌, false≢true, not-eq-not, not-not, List, ◌⊎◌, inl, inr, ◌≢◌, ◌≡◌, refl, sym}
-use Rattle.prelude.specs.Names.{◌∙◌, ap, ℕ, ◌+◌, ◌*◌, ◌^◌, ◌<◌, arith, bit_or, or_lt, set, length-set, get_or-set_same, eqb-true, eq-eqb}
+use Rattle.std.specs.Prelude.{◌&&◌, ◌||◌, ◌⊎◌, ◌≢◌, ◌≡◌, ◌+◌, ◌*◌, ◌^◌, ◌<◌}
+use Rattle.prelude.specs.Names.{Bool, true, false, not, false≢true, not-eq-not, not-not, List, inl, inr, refl, sym}
+use Rattle.prelude.specs.Names.{◌∙◌, ap, ℕ, arith, bit_or, or_lt, set, length-set, get_or-set_same, eqb-true, eq-eqb}
 use Rattle.model.specs.Domains.{Domains, may_overlap, may_before, fix_overlap}
 use Rattle.model.specs.Branching.{undecided, Branch, first, second, branch_at}
 use Rattle.model.specs.Order.{Proper, WellFormed, ◌⊑◌}

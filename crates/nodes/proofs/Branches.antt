@@ -1,5 +1,6 @@
 -- The step from a branching point to its branch.
-use Rattle.prelude.specs.Names.{Bool, List, ◌∷◌, ◌≡◌, refl, sym, ◌∙◌, ap, subst, ℕ, arith, length, set, get_or-set_same}
+use Rattle.std.specs.Prelude.{◌∷◌, ◌≡◌}
+use Rattle.prelude.specs.Names.{Bool, List, refl, sym, ◌∙◌, ap, subst, ℕ, arith, length, set, get_or-set_same}
 use Rattle.model.specs.Problem.{Problem}
 use Rattle.model.specs.Domains.{Domains}
 use Rattle.model.specs.Propagate.{propagate}

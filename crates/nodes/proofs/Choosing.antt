@@ -1,6 +1,7 @@
 -- The branching place.
-use Rattle.prelude.specs.Names.{Bool, true, false, not, ◌&&◌, ◌||◌, or-true, not-eq-not, Bool-discrete, ◌≡◌, refl, sym, ◌∙◌, ap, ℕ, zero}
-use Rattle.prelude.specs.Names.{suc, ◌+◌, ◌*◌, ◌≤◌, ◌<◌, arith, eqb, get_or}
+use Rattle.std.specs.Prelude.{◌&&◌, ◌||◌, ◌≡◌, ◌+◌, ◌*◌, ◌≤◌, ◌<◌}
+use Rattle.prelude.specs.Names.{Bool, true, false, not, or-true, not-eq-not, Bool-discrete, refl, sym, ◌∙◌, ap, ℕ, zero}
+use Rattle.prelude.specs.Names.{suc, arith, eqb, get_or}
 use mathlib.Core.Bool.{and-or_distrib_left, decide, decide_iff}
 use Rattle.model.specs.Below.{all_below, some_below}
 use Rattle.model.specs.Pairs.{pair_number, pair_of}

@@ -1,5 +1,6 @@
 -- What loops keep: facts of all numbers below one, and of the entries of a list; facts of the three axes.
-use Rattle.prelude.specs.Names.{List, ◌≢◌, ◌≡◌, refl, ℕ, zero, suc, ◌+◌, ◌<◌, ℕ_discrete, arith, get_or, set, length, replicate, get_or-set_same}
+use Rattle.std.specs.Prelude.{◌≢◌, ◌≡◌, ◌+◌, ◌<◌}
+use Rattle.prelude.specs.Names.{List, refl, ℕ, zero, suc, ℕ_discrete, arith, get_or, set, length, replicate, get_or-set_same}
 use Rattle.prelude.specs.Names.{get_or-set_other}
 
 -- what holds below i, and at i, holds below i + 1

@@ -1,5 +1,6 @@
 -- Copying to a level of the snapshots and back: the loop's invariant, for every width.
-use Rattle.prelude.specs.Names.{List, inl, inr, ◌≡◌, refl, sym, ◌∙◌, ℕ, ◌+◌, ◌*◌, ◌≤◌, ◌<◌, arith, get_or, set, take, drop, length, length-set}
+use Rattle.std.specs.Prelude.{◌≡◌, ◌+◌, ◌*◌, ◌≤◌, ◌<◌}
+use Rattle.prelude.specs.Names.{List, inl, inr, refl, sym, ◌∙◌, ℕ, arith, get_or, set, take, drop, length, length-set}
 use Rattle.prelude.specs.Names.{length-drop, ext_get_or, get_or-drop, get_or-take, get_or-set_same, get_or-set_other, length-take-le}
 use native.Mathlib.Nat.{mul-le-mul_right, suc-mul}
 use Rattle.model.proofs.Slots.{lt_or_gt}

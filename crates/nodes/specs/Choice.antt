@@ -1,5 +1,6 @@
 -- The branching place.
-use Rattle.prelude.specs.Names.{Bool, true, false, not, ◌&&◌, ◌||◌, List, ◌≡◌, ℕ, ◌+◌, ◌*◌, get_or, length, set}
+use Rattle.std.specs.Prelude.{◌&&◌, ◌||◌, ◌≡◌, ◌+◌, ◌*◌}
+use Rattle.prelude.specs.Names.{Bool, true, false, not, List, ℕ, get_or, length, set}
 use Rattle.model.specs.Problem.{Problem}
 use Rattle.model.specs.Domains.{Domains, overlap_bit, before_bit, after_bit, may_overlap}
 use Rattle.model.specs.Branching.{packed, undecided, choice, Branch, first, second, branch_at}

@@ -1,5 +1,6 @@
 -- Snapshots in flat arrays: level i of width n is the n elements from i * n on.
-use Rattle.prelude.specs.Names.{List, ◌≢◌, ◌≡◌, ℕ, ◌*◌, ◌≤◌, ◌<◌, length, take, drop}
+use Rattle.std.specs.Prelude.{◌≢◌, ◌≡◌, ◌*◌, ◌≤◌, ◌<◌}
+use Rattle.prelude.specs.Names.{List, ℕ, length, take, drop}
 
 -- how many there can be: a path has at most 90 first branches
 abbrev pub max_levels : ℕ

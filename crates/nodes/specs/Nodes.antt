@@ -1,5 +1,6 @@
 -- Nodes of the search tree: domains of a path with their rows, queue and totals.
-use Rattle.prelude.specs.Names.{false, List, ◌≡◌, ℕ, ◌/◌, ◌%◌}
+use Rattle.std.specs.Prelude.{◌≡◌, ◌/◌, ◌%◌}
+use Rattle.prelude.specs.Names.{false, List, ℕ}
 use Rattle.model.specs.Branching.{Branch, path_domains, inconsistent}
 use Rattle.model.specs.Domains.{Domains}
 use Rattle.model.specs.Problem.{Problem}

@@ -1,5 +1,6 @@
 -- The starts by greatest chains.
-use Rattle.prelude.specs.Names.{List, ◌≡◌, ℕ, ◌-◌, ◌≤◌, ◌<◌, get_or, length}
+use Rattle.std.specs.Prelude.{◌≡◌, ◌-◌, ◌≤◌, ◌<◌}
+use Rattle.prelude.specs.Names.{List, ℕ, get_or, length}
 use Rattle.instance.specs.declared.Position.{Position}
 use Rattle.instance.specs.Meaning.{start}
 use Rattle.instance.specs.Values.{origin}

@@ -1,5 +1,6 @@
 -- An instance laid out: all of it, or an item that is too large.
-use Rattle.prelude.specs.Names.{true, false, List, [], ℕ, ◌<◌, dec_lt, arith}
+use Rattle.std.specs.Prelude.{◌<◌}
+use Rattle.prelude.specs.Names.{true, false, List, [], ℕ, dec_lt, arith}
 use Rattle.model.specs.Problem.{Problem}
 use Rattle.model.specs.Wide.{wide}
 use Rattle.model.proofs.Wide.{wide-size, wide-past}

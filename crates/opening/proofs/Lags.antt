@@ -1,6 +1,7 @@
 -- The steps of chains beside their totals: the measures alone, and then the lags, one precedence after another.
-use Rattle.prelude.specs.Names.{Bool, true, false, ◌&&◌, cond, List, [], ◌∷◌, ◌++◌, map, ◌⊎◌, inl, inr, ⊎_elim, ⊎_map, ◌≢◌, ◌≡◌, refl, sym, ◌∙◌, ap, ℕ}
-use Rattle.prelude.specs.Names.{◌+◌, ◌-◌, ◌*◌, ◌/◌, ◌%◌, ◌≤◌, ◌<◌, max, zero-le, le_refl, ℕ_discrete, dec_lt, arith, eqb, ltb, get_or, set, length, take}
+use Rattle.std.specs.Prelude.{◌&&◌, ◌∷◌, ◌++◌, ◌⊎◌, ◌≢◌, ◌≡◌, ◌+◌, ◌-◌, ◌*◌, ◌/◌, ◌%◌, ◌≤◌, ◌<◌}
+use Rattle.prelude.specs.Names.{Bool, true, false, cond, List, [], map, inl, inr, ⊎_elim, ⊎_map, refl, sym, ◌∙◌, ap, ℕ}
+use Rattle.prelude.specs.Names.{max, zero-le, le_refl, ℕ_discrete, dec_lt, arith, eqb, ltb, get_or, set, length, take}
 use Rattle.prelude.specs.Names.{add-one, take-suc, length-set, eqb-true, eq-eqb, ltb-true, ltb-false}
 use Rattle.model.specs.Problem.{Problem, lag_between, gap, time}
 use Rattle.model.specs.Toward.{Direction, between}

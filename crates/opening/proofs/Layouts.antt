@@ -1,5 +1,6 @@
 -- An instance's measures beside the totals of chains, item by item.
-use Rattle.prelude.specs.Names.{cond, List, [], ◌≡◌, refl, sym, ap, ◌∙◌, ◌≢◌, ℕ, ◌+◌, ◌*◌, ◌%◌, ◌≤◌, ◌<◌, dec_lt, arith, ltb, get_or, set, length}
+use Rattle.std.specs.Prelude.{◌≡◌, ◌≢◌, ◌+◌, ◌*◌, ◌%◌, ◌≤◌, ◌<◌}
+use Rattle.prelude.specs.Names.{cond, List, [], refl, sym, ap, ◌∙◌, ℕ, dec_lt, arith, ltb, get_or, set, length}
 use Rattle.prelude.specs.Names.{length-set, replicate, lt-ltb, le-ltb}
 use Rattle.model.proofs.Below.{below_three}
 use Rattle.model.specs.Problem.{Problem, spacing}

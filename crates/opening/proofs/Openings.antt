@@ -1,6 +1,7 @@
 -- The precedences of a valid instance name two items each; they are fixed one after another.
-use Rattle.prelude.specs.Names.{Bool, true, false, List, [], ◌∷◌, map, Mem, mem-head, mem-tail, ◌⊎◌, ◌≡◌, refl, ◌∙◌, ℕ, zero, suc}
-use Rattle.prelude.specs.Names.{◌+◌, ◌^◌, ◌≤◌, ◌<◌, arith, bit_or, get_or, length, take, drop, get_or-take, length-take-le}
+use Rattle.std.specs.Prelude.{◌∷◌, ◌⊎◌, ◌≡◌, ◌+◌, ◌^◌, ◌≤◌, ◌<◌}
+use Rattle.prelude.specs.Names.{Bool, true, false, List, [], map, Mem, mem-head, mem-tail, refl, ◌∙◌, ℕ, zero, suc}
+use Rattle.prelude.specs.Names.{arith, bit_or, get_or, length, take, drop, get_or-take, length-take-le}
 use Rattle.parts.specs.declared.Precedence.{Precedence}
 use Rattle.parts.specs.declared.Previous.TheVariants.{Nothing}
 use Rattle.parts.specs.Precedences.{arc_of, all_allowed}

@@ -1,5 +1,6 @@
 -- Rule 5 for chains of one item each: one item after another.
-use Rattle.prelude.specs.Names.{Bool, true, not, ◌&&◌, not-eq-not, List, inl, inr, ◌≢◌, ◌≡◌, refl, sym, ◌∙◌, ap, ℕ, ◌+◌, ◌*◌, ◌%◌, ◌^◌, ◌≤◌, ◌<◌, max}
+use Rattle.std.specs.Prelude.{◌&&◌, ◌≢◌, ◌≡◌, ◌+◌, ◌*◌, ◌%◌, ◌^◌, ◌≤◌, ◌<◌}
+use Rattle.prelude.specs.Names.{Bool, true, not, not-eq-not, List, inl, inr, refl, sym, ◌∙◌, ap, ℕ, max}
 use Rattle.prelude.specs.Names.{ℕ_discrete, dec_lt, arith, eqb, get_or, set, length, get_or-set_same, get_or-set_other, eqb-true, ne_eqb, ltb-true}
 use Rattle.prelude.specs.Names.{eqb-false, not-true}
 use Rattle.model.specs.Domains.{Domains, index_of}

@@ -1,5 +1,6 @@
 -- The root of the search: the opening domains ready to be propagated, or that they are inconsistent.
-use Rattle.prelude.specs.Names.{Bool, true, false, List, [], inl, inr, ◌≡◌, refl, sym, ◌∙◌, ap, ℕ, ◌+◌, ◌*◌, ◌<◌, ℕ_discrete, arith, set}
+use Rattle.std.specs.Prelude.{◌≡◌, ◌+◌, ◌*◌, ◌<◌}
+use Rattle.prelude.specs.Names.{Bool, true, false, List, [], inl, inr, refl, sym, ◌∙◌, ap, ℕ, ℕ_discrete, arith, set}
 use Rattle.prelude.specs.Names.{replicate, ltb-true, lt-ltb}
 use Rattle.model.specs.Problem.{Problem, spacing}
 use Rattle.model.specs.Domains.{Domains, full_domains}

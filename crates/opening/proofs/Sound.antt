@@ -1,5 +1,6 @@
 -- A valid instance is a sound problem.
-use Rattle.prelude.specs.Names.{true, not, ◌&&◌, List, [], ◌∷◌, map, Mem, mem-head, mem-tail, ◌≡◌, refl, ap, ℕ, ◌≤◌, ◌<◌}
+use Rattle.std.specs.Prelude.{◌&&◌, ◌∷◌, ◌≡◌, ◌≤◌, ◌<◌}
+use Rattle.prelude.specs.Names.{true, not, List, [], map, Mem, mem-head, mem-tail, refl, ap, ℕ}
 use Rattle.prelude.specs.Names.{arith, length, get_or, get_or-take, length-take-le, leb, leb-true, ltb-true, lt-ltb, eqb-false, ne_eqb, not-true}
 use mathlib.Core.List.Memᴰ
 use Rattle.model.proofs.Below.{and_both, and_intro, below_three}

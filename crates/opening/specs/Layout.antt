@@ -1,5 +1,6 @@
 -- An instance's measures beside the totals of chains.
-use Rattle.prelude.specs.Names.{Bool, true, false, cond, List, [], map, ◌⊎◌, ◌≡◌, ℕ, ◌+◌, ◌*◌, ◌/◌, ◌%◌, ◌≤◌, ◌<◌, ltb, get_or, length, set}
+use Rattle.std.specs.Prelude.{◌⊎◌, ◌≡◌, ◌+◌, ◌*◌, ◌/◌, ◌%◌, ◌≤◌, ◌<◌}
+use Rattle.prelude.specs.Names.{Bool, true, false, cond, List, [], map, ℕ, ltb, get_or, length, set}
 use Rattle.model.specs.Problem.{Problem, gap}
 use Rattle.model.specs.Wide.{wide}
 use Rattle.model.specs.Toward.{Direction, between}

@@ -1,5 +1,6 @@
 -- The opening domains by removals.
-use Rattle.prelude.specs.Names.{Bool, true, false, List, [], map, ◌⊎◌, ◌≡◌, ℕ, ◌≤◌, ◌<◌, take}
+use Rattle.std.specs.Prelude.{◌⊎◌, ◌≡◌, ◌≤◌, ◌<◌}
+use Rattle.prelude.specs.Names.{Bool, true, false, List, [], map, ℕ, take}
 use Rattle.model.specs.Problem.{Problem}
 use Rattle.model.specs.Domains.{Domains}
 use Rattle.model.specs.Order.{Proper}

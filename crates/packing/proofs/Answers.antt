@@ -1,5 +1,6 @@
 -- The clearance's answer: refused exactly for the table's conditions, and else the clearance.
-use Rattle.prelude.specs.Names.{Bool, true, false, false≢true, and-false, ◌⊎◌, inl, inr, ◌↔◌, ◌≡◌, refl, sym, ◌∙◌, subst, ℕ, ◌<◌, dec_lt, arith, ℤ}
+use Rattle.std.specs.Prelude.{◌⊎◌, ◌↔◌, ◌≡◌, ◌<◌}
+use Rattle.prelude.specs.Names.{Bool, true, false, false≢true, and-false, inl, inr, refl, sym, ◌∙◌, subst, ℕ, dec_lt, arith, ℤ}
 use Rattle.prelude.specs.Names.{lt-ltb, le-ltb}
 use Rattle.model.proofs.Below.{test_false}
 use Rattle.instance.specs.declared.Instance.{Instance}

@@ -1,5 +1,6 @@
 -- The check's answer says whether the packing is feasible with the marked items turned, and so whether it fits as a plan.
-use Rattle.prelude.specs.Names.{Bool, true, false, not, false≢true, ◌↔◌, ◌≡◌, refl, sym, subst, ◌∙◌, ℕ, ◌+◌, ◌≤◌, ◌<◌, arith, get_or, not-true, not-false}
+use Rattle.std.specs.Prelude.{◌↔◌, ◌≡◌, ◌+◌, ◌≤◌, ◌<◌}
+use Rattle.prelude.specs.Names.{Bool, true, false, not, false≢true, refl, sym, subst, ◌∙◌, ℕ, arith, get_or, not-true, not-false}
 use Rattle.model.proofs.Feasible.{feasible_exactly}
 use Rattle.model.specs.Turning.{Fits}
 use Rattle.instance.specs.declared.Instance.{Instance}

@@ -1,6 +1,7 @@
 -- What the clearance says of two items: above 0 a gap, 0 touching, below 0 the least move that parts them.
-use Rattle.prelude.specs.Names.{◌⊎◌, inl, inr, ⊎_elim, ◌↔◌, ◌≡◌, refl, ap, ◌∙◌, ℕ, zero, suc, ◌+◌, ◌≤◌, ◌<◌, ◌^◌, max, dec_le, arith, ℤ, pos, negsuc}
-use Rattle.prelude.specs.Names.{nat_abs, ◌+ℤ◌, ◌-ℤ◌, ◌≤ℤ◌, lt-ltb, le-ltb}
+use Rattle.std.specs.Prelude.{◌⊎◌, ◌↔◌, ◌≡◌, ◌+◌, ◌≤◌, ◌<◌, ◌^◌, ◌+ℤ◌, ◌-ℤ◌, ◌≤ℤ◌}
+use Rattle.prelude.specs.Names.{inl, inr, ⊎_elim, refl, ap, ◌∙◌, ℕ, zero, suc, max, dec_le, arith, ℤ, pos, negsuc}
+use Rattle.prelude.specs.Names.{nat_abs, lt-ltb, le-ltb}
 use lib.Dec.{leb→le, le→leb}
 use lib.IntN.{neg_ℤ, sub_ℕ}
 use lib.Signed.{mag}

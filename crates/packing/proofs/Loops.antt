@@ -1,6 +1,7 @@
 -- Loops over the numbers below n, and the tests of a packing as such loops.
-use Rattle.prelude.specs.Names.{Bool, true, false, ◌&&◌, ◌||◌, or_comm, or-true, and_comm, and_assoc, List, [], ◌∷◌, ◌++◌, map, ◌≢◌, ◌≡◌, refl, sym}
-use Rattle.prelude.specs.Names.{ap, ◌∙◌, ℕ, zero, suc, ◌+◌, ◌≤◌, ◌<◌, add-one, arith, dec_lt, leb, eqb, length, get_or, take, take-suc, eq-eqb, ne_eqb}
+use Rattle.std.specs.Prelude.{◌&&◌, ◌||◌, ◌∷◌, ◌++◌, ◌≢◌, ◌≡◌, ◌+◌, ◌≤◌, ◌<◌}
+use Rattle.prelude.specs.Names.{Bool, true, false, or_comm, or-true, and_comm, and_assoc, List, [], map, refl, sym}
+use Rattle.prelude.specs.Names.{ap, ◌∙◌, ℕ, zero, suc, add-one, arith, dec_lt, leb, eqb, length, get_or, take, take-suc, eq-eqb, ne_eqb}
 use mathlib.Core.Path.{fun_ext}
 use Rattle.model.specs.Below.{some_below, all_below, all_in}
 use Rattle.model.specs.Problem.{Problem, Positions, spacing, ends_before, ends_ahead, inside_test, apart_on_some_axis, apart_test, ordered_test, time}

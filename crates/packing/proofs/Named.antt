@@ -1,5 +1,6 @@
 -- Every precedence of a valid instance names two of its items.
-use Rattle.prelude.specs.Names.{true, ◌≡◌, ℕ, ◌<◌, dec_lt, arith, length, get_or, length-take, get_or-eq_default, get_or-take}
+use Rattle.std.specs.Prelude.{◌≡◌, ◌<◌}
+use Rattle.prelude.specs.Names.{true, ℕ, dec_lt, arith, length, get_or, length-take, get_or-eq_default, get_or-take}
 use Rattle.parts.specs.declared.Precedence.{Precedence}
 use Rattle.parts.specs.declared.Previous.TheVariants.{Nothing}
 use Rattle.parts.specs.Sizes.{no_precedence}

@@ -1,5 +1,6 @@
 -- What the check of a packing answers (document 01, "Fit" and refusal 9; document 02, #106 and refusal 13).
-use Rattle.prelude.specs.Names.{Bool, true, false, ◌↔◌, ◌≡◌, ℕ, ◌+◌}
+use Rattle.std.specs.Prelude.{◌↔◌, ◌≡◌, ◌+◌}
+use Rattle.prelude.specs.Names.{Bool, true, false, ℕ}
 use Rattle.refusal.specs.declared.Refusal.TheVariants.{InvalidInstance, BadMark}
 use Rattle.refusal.specs.Numbers.{number_of}
 use Rattle.instance.specs.declared.Instance.{Instance}

@@ -1,6 +1,7 @@
 -- The clearance of two items on an axis, and what is answered (document 01, "Fit" and the refusals 9, 5, 8; document 02, #106 and refusal 13). A walkway
 -- changes nothing here: the clearance is the plain distance of starts and ends.
-use Rattle.prelude.specs.Names.{Bool, true, false, cond, ◌&&◌, ◌⊎◌, inl, inr, ◌↔◌, ◌≡◌, ℕ, ◌+◌, ◌≤◌, ◌<◌, ltb, ℤ, pos, nat_abs, ◌+ℤ◌, ◌-ℤ◌, lt_z, ◌≤ℤ◌}
+use Rattle.std.specs.Prelude.{◌&&◌, ◌⊎◌, ◌↔◌, ◌≡◌, ◌+◌, ◌≤◌, ◌<◌, ◌+ℤ◌, ◌-ℤ◌, ◌≤ℤ◌}
+use Rattle.prelude.specs.Names.{Bool, true, false, cond, inl, inr, ℕ, ltb, ℤ, pos, nat_abs, lt_z}
 use Rattle.model.specs.Problem.{Problem, Positions, EndsAhead}
 use Rattle.refusal.specs.declared.Refusal.{Refusal}
 use Rattle.refusal.specs.declared.Refusal.TheVariants.{BadItem, BadArgument, InvalidInstance, BadMark}

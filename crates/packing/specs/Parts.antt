@@ -1,5 +1,6 @@
 -- Parts of the test of a packing, each the work of one loop.
-use Rattle.prelude.specs.Names.{Bool, true, cond, ◌&&◌, List, [], ◌∷◌, ℕ, ◌+◌, ◌<◌, leb, eqb, get_or}
+use Rattle.std.specs.Prelude.{◌&&◌, ◌∷◌, ◌+◌, ◌<◌}
+use Rattle.prelude.specs.Names.{Bool, true, cond, List, [], ℕ, leb, eqb, get_or}
 use Rattle.model.specs.Below.{all_below}
 use Rattle.model.specs.Problem.{Problem, Positions, apart_on_some_axis, time}
 use Rattle.parts.specs.declared.Item.{Item}

@@ -1,6 +1,7 @@
 -- The parts of a sheet have their laws; what may be written of each, and how many bytes it has at most.
-use Rattle.prelude.specs.Names.{◌≡◌, refl, sym, ◌∙◌, Bool, true, false, not, cond, ◌&&◌, ◌||◌, and-true, and-false, not-not, List, [], ◌∷◌}
-use Rattle.prelude.specs.Names.{ℕ, zero, suc, ◌≤◌, arith, dec_le, ℕ_discrete, eqb, eqb-suc-zero, leb, ltb, length, length-append}
+use Rattle.std.specs.Prelude.{◌≡◌, ◌&&◌, ◌||◌, ◌∷◌, ◌≤◌}
+use Rattle.prelude.specs.Names.{refl, sym, ◌∙◌, Bool, true, false, not, cond, and-true, and-false, not-not, List, []}
+use Rattle.prelude.specs.Names.{ℕ, zero, suc, arith, dec_le, ℕ_discrete, eqb, eqb-suc-zero, leb, ltb, length, length-append}
 use Rattle.prelude.specs.Names.{replicate, length-replicate, eqb-true, eq-eqb, ne_eqb, leb-false, le-leb, lt-leb, lt-ltb, le-ltb, not-true}
 use lib.Dec.{eqb-suc-suc}
 use Rattle.formats.specs.Formats.{Format, byte, word, presence, pair, converted, tested, passes_all, keyed, row_bytes, row_valid, row}

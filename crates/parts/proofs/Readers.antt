@@ -1,5 +1,6 @@
 -- What the parts' readings give, by how many bytes are left: the equations that the readers' proofs cite.
-use Rattle.prelude.specs.Names.{◌≡◌, refl, ap, ◌∙◌, Bool, true, false, cond, not, ◌||◌, List, [], ◌∷◌, ℕ, ◌+◌, ◌*◌, arith, eqb, leb, ltb, length, get_or}
+use Rattle.std.specs.Prelude.{◌≡◌, ◌||◌, ◌∷◌, ◌+◌, ◌*◌}
+use Rattle.prelude.specs.Names.{refl, ap, ◌∙◌, Bool, true, false, cond, not, List, [], ℕ, arith, eqb, leb, ltb, length, get_or}
 use Rattle.prelude.specs.Names.{zero, suc, add-zero, take, drop, replicate, le-ltb, lt-ltb}
 use lib.Dec.{leb-suc-suc}
 use Rattle.refusal.specs.declared.Refusal.TheVariants.{EndsEarly, UnknownBit, WrittenDefault, BadCount, BadItem, NotRising, NoLag, TooLarge}

@@ -1,5 +1,6 @@
 -- The bytes and the bits of the parts: the equations that the writers' proofs cite.
-use Rattle.prelude.specs.Names.{◌≡◌, refl, Bool, true, false, not, cond, List, [], ◌∷◌, ◌++◌, append-nil, ◌+◌, ◌*◌, arith, length, length-append}
+use Rattle.std.specs.Prelude.{◌≡◌, ◌∷◌, ◌++◌, ◌+◌, ◌*◌}
+use Rattle.prelude.specs.Names.{refl, Bool, true, false, not, cond, List, [], append-nil, arith, length, length-append}
 use Rattle.formats.specs.Formats.{byte, pair, converted, tested, keyed, row_bytes}
 use Rattle.formats.specs.Fields.{flag, flags, optional_bytes, fields_bytes, fields, map_byte, with_map}
 use Rattle.parts.specs.declared.Size.{Size}

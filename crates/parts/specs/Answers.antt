@@ -1,5 +1,6 @@
 -- What the readers' answers say, given the place and the bytes that they were handed.
-use Rattle.prelude.specs.Names.{ℕ, ◌+◌, ◌<◌, List, length, drop}
+use Rattle.std.specs.Prelude.{◌+◌, ◌<◌}
+use Rattle.prelude.specs.Names.{ℕ, List, length, drop}
 use Rattle.parts.specs.declared.Size.{Size}
 use Rattle.parts.specs.declared.Item.{Item}
 use Rattle.parts.specs.declared.Precedence.{Precedence}

@@ -1,5 +1,6 @@
 -- The parts of a sheet as formats (document 01, "Sheet bytes").
-use Rattle.prelude.specs.Names.{ℕ, suc, true, false, not, ◌&&◌, Bool, List, [], ◌∷◌, eqb, leb, ltb, length, replicate}
+use Rattle.std.specs.Prelude.{◌&&◌, ◌∷◌}
+use Rattle.prelude.specs.Names.{ℕ, suc, true, false, not, Bool, List, [], eqb, leb, ltb, length, replicate}
 use Rattle.refusal.specs.declared.Refusal.TheVariants.{WrittenDefault, BadItem, NotRising, NoLag, TooLarge}
 use Rattle.formats.specs.Formats.{Format, Test, byte, word, presence, pair, converted, tested, row, count}
 use Rattle.formats.specs.Fields.{Optional, optional_bytes, flag, Fields, made, field, with_map}

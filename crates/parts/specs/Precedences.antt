@@ -1,5 +1,6 @@
 -- Orders on a sheet and the precedences of an instance; which orders a sheet may have (document 01, "Sheet bytes" and the refusals 5 and 6).
-use Rattle.prelude.specs.Names.{Bool, true, not, ◌&&◌, ◌||◌, List, [], ◌∷◌, ℕ, ltb, eqb}
+use Rattle.std.specs.Prelude.{◌&&◌, ◌||◌, ◌∷◌}
+use Rattle.prelude.specs.Names.{Bool, true, not, List, [], ℕ, ltb, eqb}
 use Rattle.parts.specs.declared.Precedence.{Precedence}
 use Rattle.parts.specs.declared.Previous.{Previous}
 use Rattle.parts.specs.declared.Previous.TheVariants.{Nothing, Was}

@@ -1,5 +1,6 @@
 -- Measures, and blank entries.
-use Rattle.prelude.specs.Names.{Bool, true, false, ◌&&◌, List, [], ◌∷◌, ℕ, leb}
+use Rattle.std.specs.Prelude.{◌&&◌, ◌∷◌}
+use Rattle.prelude.specs.Names.{Bool, true, false, List, [], ℕ, leb}
 use Rattle.parts.specs.declared.Size.{Size}
 use Rattle.parts.specs.declared.Item.{Item}
 use Rattle.parts.specs.declared.Precedence.{Precedence}

@@ -1,5 +1,6 @@
 -- Laws of the program's text by what reading the sheet answered.
-use Rattle.prelude.specs.Names.{◌≡◌, List, ℕ, ◌≤◌}
+use Rattle.std.specs.Prelude.{◌≡◌, ◌≤◌}
+use Rattle.prelude.specs.Names.{List, ℕ}
 use Rattle.refusal.specs.declared.Refusal.{Refusal}
 use Rattle.formats.specs.Reading.{Bytes}
 use Rattle.instance.specs.declared.ReadResult.{ReadResult}

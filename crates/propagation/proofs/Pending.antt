@@ -1,6 +1,7 @@
 -- One pair of the queue after another is worked off: what is still asked for has a premise further on, and a link that
 -- is still to be followed is of a pair further on.
-use Rattle.prelude.specs.Names.{List, [], ◌∷◌, ◌⊎◌, inl, inr, ⊎_elim, ⊎_map, ◌≡◌, sym, ◌∙◌, ℕ, ◌+◌, ◌≤◌, ◌<◌, ℕ_discrete, arith, get_or}
+use Rattle.std.specs.Prelude.{◌∷◌, ◌⊎◌, ◌≡◌, ◌+◌, ◌≤◌, ◌<◌}
+use Rattle.prelude.specs.Names.{List, [], inl, inr, ⊎_elim, ⊎_map, sym, ◌∙◌, ℕ, ℕ_discrete, arith, get_or}
 use Rattle.model.specs.Domains.{Domains}
 use Rattle.model.specs.Order.{Proper}
 use Rattle.model.specs.Facts.{Fact}

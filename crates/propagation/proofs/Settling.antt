@@ -1,7 +1,8 @@
 -- The queue is worked off up to a place. Every goal below the domains at the start is below those of now, with totals
 -- under its chains; what is still asked for has a premise from there on, and a link still to be followed is of a pair
 -- from there on. At the end of the queue that is propagation.
-use Rattle.prelude.specs.Names.{true, List, inl, inr, ⊎_elim, ◌≡◌, ℕ, ◌+◌, ◌/◌, ◌%◌, ◌≤◌, ◌<◌, arith, get_or}
+use Rattle.std.specs.Prelude.{◌≡◌, ◌+◌, ◌/◌, ◌%◌, ◌≤◌, ◌<◌}
+use Rattle.prelude.specs.Names.{true, List, inl, inr, ⊎_elim, ℕ, arith, get_or}
 use Rattle.model.specs.Problem.{Problem}
 use Rattle.model.specs.Domains.{Domains}
 use Rattle.model.specs.Branching.{inconsistent}

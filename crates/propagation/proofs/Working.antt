@@ -1,6 +1,7 @@
 -- One pair of the queue is worked off: its link, where one order of it is known, and the clauses with a premise of it.
-use Rattle.prelude.specs.Names.{Bool, true, false, ◌&&◌, ◌||◌, and-false, List, ◌⊎◌, inl, inr, ⊎_elim, ⊎_map, ◌≡◌, refl, sym, ◌∙◌, ap₂, ℕ, ◌+◌, ◌*◌}
-use Rattle.prelude.specs.Names.{◌/◌, ◌^◌, ◌≤◌, ◌<◌, arith, bit_or}
+use Rattle.std.specs.Prelude.{◌&&◌, ◌||◌, ◌⊎◌, ◌≡◌, ◌+◌, ◌*◌, ◌/◌, ◌^◌, ◌≤◌, ◌<◌}
+use Rattle.prelude.specs.Names.{Bool, true, false, and-false, List, inl, inr, ⊎_elim, ⊎_map, refl, sym, ◌∙◌, ap₂, ℕ}
+use Rattle.prelude.specs.Names.{arith, bit_or}
 use Rattle.model.specs.Problem.{Problem}
 use Rattle.model.specs.Domains.{Domains, fixed_before}
 use Rattle.model.specs.Order.{Proper, ◌⊑◌}

@@ -1,5 +1,6 @@
 -- Working off one pair of the queue.
-use Rattle.prelude.specs.Names.{Bool, true, false, cond, List, ◌≡◌, ℕ}
+use Rattle.std.specs.Prelude.{◌≡◌}
+use Rattle.prelude.specs.Names.{Bool, true, false, cond, List, ℕ}
 use Rattle.model.specs.Problem.{Problem}
 use Rattle.model.specs.Domains.{Domains}
 use Rattle.model.specs.Relations.{gone}

@@ -1,5 +1,6 @@
 -- What propagation in code comes to: domains with their rows, queue and totals, before it and after.
-use Rattle.prelude.specs.Names.{Bool, true, false, List, [], ◌∷◌, ◌⊎◌, ◌≡◌, ℕ, ◌<◌}
+use Rattle.std.specs.Prelude.{◌∷◌, ◌⊎◌, ◌≡◌, ◌<◌}
+use Rattle.prelude.specs.Names.{Bool, true, false, List, [], ℕ}
 use Rattle.model.specs.Problem.{Problem}
 use Rattle.model.specs.Domains.{Domains}
 use Rattle.model.specs.Rules.{greatest_ending}

@@ -1,5 +1,6 @@
 -- Number and place say which refusal it is.
-use Rattle.prelude.specs.Names.{List, [], ◌∷◌, ◌≡◌, refl, sym, ap, ap₂, ◌∙◌, ℕ, ◌≤◌, arith, get_or}
+use Rattle.std.specs.Prelude.{◌∷◌, ◌≡◌, ◌≤◌}
+use Rattle.prelude.specs.Names.{List, [], refl, sym, ap, ap₂, ◌∙◌, ℕ, arith, get_or}
 use Rattle.refusal.specs.declared.Refusal.{Refusal}
 use Rattle.refusal.specs.declared.Refusal.TheVariants.{EndsEarly, UnknownBit, WrittenDefault, BadCount, BadItem, NotRising, TrailingBytes}
 use Rattle.refusal.specs.declared.Refusal.TheVariants.{BadArgument, InvalidInstance, NotFollowing, NoLag, TooLarge, BadMark}

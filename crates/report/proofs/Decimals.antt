@@ -1,5 +1,6 @@
 -- Laws of decimal numbers: the recursion that the code follows, and how many digits there are.
-use Rattle.prelude.specs.Names.{◌≡◌, sym, ◌∙◌, ◌⊎◌, inl, inr, ⊎_elim, [], ◌∷◌, ◌++◌, ℕ, zero, suc, ◌+◌, ◌/◌, ◌%◌, ◌^◌, ◌≤◌, ◌<◌, arith, div-lt_self}
+use Rattle.std.specs.Prelude.{◌≡◌, ◌⊎◌, ◌∷◌, ◌++◌, ◌+◌, ◌/◌, ◌%◌, ◌^◌, ◌≤◌, ◌<◌}
+use Rattle.prelude.specs.Names.{sym, ◌∙◌, inl, inr, ⊎_elim, [], ℕ, zero, suc, arith, div-lt_self}
 use Rattle.prelude.specs.Names.{dec_lt, lt-ltb, le-ltb, length, length-append}
 use native.Mathlib.Nat.{pow-suc, div-lt_iff_lt-mul}
 use Rattle.report.specs.Decimal.{digits, decimal}

@@ -1,5 +1,6 @@
 -- Laws of the runs of stores that make a text, and of its length.
-use Rattle.prelude.specs.Names.{◌≡◌, refl, ◌∙◌, List, [], ◌∷◌, ◌++◌, ℕ, suc, ◌+◌, ◌*◌, ◌^◌, ◌≤◌, ◌<◌, arith, add-one, length, take, drop, set, get_or}
+use Rattle.std.specs.Prelude.{◌≡◌, ◌∷◌, ◌++◌, ◌+◌, ◌*◌, ◌^◌, ◌≤◌, ◌<◌}
+use Rattle.prelude.specs.Names.{refl, ◌∙◌, List, [], ℕ, suc, arith, add-one, length, take, drop, set, get_or}
 use Rattle.prelude.specs.Names.{length-append, drop_of_length-le, sets, drop-cons, get_or-take, length-take-le}
 use Rattle.formats.proofs.Stores.{sets_append, sets-front}
 use Rattle.instance.specs.declared.Packing.{Packing}

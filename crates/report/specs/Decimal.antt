@@ -1,5 +1,6 @@
 -- Numbers in decimal.
-use Rattle.prelude.specs.Names.{cond, List, [], ◌∷◌, ◌++◌, ℕ, zero, suc, ◌+◌, ◌/◌, ◌%◌, ltb}
+use Rattle.std.specs.Prelude.{◌∷◌, ◌++◌, ◌+◌, ◌/◌, ◌%◌}
+use Rattle.prelude.specs.Names.{cond, List, [], ℕ, zero, suc, ltb}
 
 -- the last digits of n in ASCII: all that it has, and at most `places` of them
 unfoldable pub digits : ℕ → ℕ → List ℕ

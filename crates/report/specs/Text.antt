@@ -1,5 +1,6 @@
 -- What the program prints, in ASCII (document 01, "The program").
-use Rattle.prelude.specs.Names.{List, [], ◌∷◌, ◌++◌, ℕ, zero, suc, length, drop, get_or}
+use Rattle.std.specs.Prelude.{◌∷◌, ◌++◌}
+use Rattle.prelude.specs.Names.{List, [], ℕ, zero, suc, length, drop, get_or}
 use Rattle.refusal.specs.declared.Refusal.{Refusal}
 use Rattle.refusal.specs.Numbers.{number_of, place_of}
 use Rattle.instance.specs.declared.Packing.{Packing}

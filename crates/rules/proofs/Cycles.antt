@@ -1,6 +1,7 @@
 -- Rule 4: making r overlap each item known to overlap q and s is all that the rings q, r, s ask for.
-use Rattle.prelude.specs.Names.{Bool, true, false, not, ◌&&◌, ◌||◌, and-false, or-false, false≢true, List, [], ◌∷◌, ◌≢◌, ◌≡◌, refl, sym, ◌∙◌, ℕ, ◌+◌}
-use Rattle.prelude.specs.Names.{◌*◌, ◌%◌, ◌^◌, ◌≤◌, ◌<◌, arith, bit_and, bit_or, bit_xor, or_lt, eqb, eq-eqb, ne_eqb, not-true}
+use Rattle.std.specs.Prelude.{◌&&◌, ◌||◌, ◌∷◌, ◌≢◌, ◌≡◌, ◌+◌, ◌*◌, ◌%◌, ◌^◌, ◌≤◌, ◌<◌}
+use Rattle.prelude.specs.Names.{Bool, true, false, not, and-false, or-false, false≢true, List, [], refl, sym, ◌∙◌, ℕ}
+use Rattle.prelude.specs.Names.{arith, bit_and, bit_or, bit_xor, or_lt, eqb, eq-eqb, ne_eqb, not-true}
 use Rattle.model.specs.Domains.{Domains}
 use Rattle.model.specs.Order.{Proper, ◌⊑◌}
 use Rattle.model.specs.Relations.{gone}

@@ -1,5 +1,6 @@
 -- The algebra of `Handled`, stated once for all rules: premises stay, one after another, other clauses that ask for the same.
-use Rattle.prelude.specs.Names.{Bool, List, [], ◌∷◌, ◌⊎◌, inl, inr, ◌≡◌, ℕ, ◌≤◌}
+use Rattle.std.specs.Prelude.{◌∷◌, ◌⊎◌, ◌≡◌, ◌≤◌}
+use Rattle.prelude.specs.Names.{Bool, List, [], inl, inr, ℕ}
 use Rattle.model.specs.Domains.{Domains}
 use Rattle.model.specs.Order.{◌⊑◌}
 use Rattle.model.specs.Facts.{Fact, Holds}

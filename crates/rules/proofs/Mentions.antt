@@ -1,5 +1,6 @@
 -- Every clause with a premise of u and v is, up to its symmetries, among those that working the pair off looks at.
-use Rattle.prelude.specs.Names.{true, List, ◌⊎◌, inl, inr, ◌≡◌, refl, sym, ◌∙◌, ℕ, ◌<◌, ℕ_discrete, arith}
+use Rattle.std.specs.Prelude.{◌⊎◌, ◌≡◌, ◌<◌}
+use Rattle.prelude.specs.Names.{true, List, inl, inr, refl, sym, ◌∙◌, ℕ, ℕ_discrete, arith}
 use mathlib.Core.Logic.{⊎_swap}
 use Rattle.model.proofs.Below.{below_three}
 use Rattle.model.specs.Domains.{Domains}

@@ -1,5 +1,6 @@
 -- Rule 1: overlap known on two axes is removed on the third. The axes stand in a circle.
-use Rattle.prelude.specs.Names.{Bool, true, false, List, ◌≢◌, ◌≡◌, refl, sym, ◌∙◌, ℕ, ◌+◌, ◌*◌, ◌^◌, ◌<◌, arith, eqb, eqb-true, eq-eqb, ne_eqb}
+use Rattle.std.specs.Prelude.{◌≢◌, ◌≡◌, ◌+◌, ◌*◌, ◌^◌, ◌<◌}
+use Rattle.prelude.specs.Names.{Bool, true, false, List, refl, sym, ◌∙◌, ℕ, arith, eqb, eqb-true, eq-eqb, ne_eqb}
 use Rattle.model.specs.Domains.{Domains}
 use Rattle.model.specs.Order.{Proper}
 use Rattle.model.specs.Facts.{overlaps, says, Holds}

@@ -1,6 +1,7 @@
 -- Rules 2 and 3: the set of relations reached from u over v, computed from two rows by and, or and shifts; removing it is all that they ask for.
-use Rattle.prelude.specs.Names.{Bool, true, ◌&&◌, ◌||◌, or-true, false≢true, false, and-true, and-false, or-false, and_assoc, and_comm, List, ◌⊎◌}
-use Rattle.prelude.specs.Names.{inl, inr, ⊎_map, ◌≢◌, ◌≡◌, refl, sym, ◌∙◌, ap, ℕ, zero, suc, ◌+◌, ◌*◌, ◌<◌, ◌%◌, ◌^◌, ℕ_discrete, arith, bit_and}
+use Rattle.std.specs.Prelude.{◌&&◌, ◌||◌, ◌⊎◌, ◌≢◌, ◌≡◌, ◌+◌, ◌*◌, ◌<◌, ◌%◌, ◌^◌}
+use Rattle.prelude.specs.Names.{Bool, true, or-true, false≢true, false, and-true, and-false, or-false, and_assoc, and_comm, List}
+use Rattle.prelude.specs.Names.{inl, inr, ⊎_map, refl, sym, ◌∙◌, ap, ℕ, zero, suc, ℕ_discrete, arith, bit_and}
 use Rattle.prelude.specs.Names.{bit_or, or_lt, eqb}
 use mathlib.Core.Bool.{or_self}
 use Rattle.model.specs.Domains.{Domains}

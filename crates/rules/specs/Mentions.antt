@@ -1,5 +1,6 @@
 -- The clauses that have a pair in a premise.
-use Rattle.prelude.specs.Names.{List, [], ◌∷◌, ◌⊎◌, ℕ}
+use Rattle.std.specs.Prelude.{◌∷◌, ◌⊎◌}
+use Rattle.prelude.specs.Names.{List, [], ℕ}
 use Rattle.model.specs.Facts.{Fact}
 use Rattle.model.specs.Clauses.{Rule}
 use Rattle.domains.specs.Queue.{SamePair}

@@ -1,5 +1,6 @@
 -- The clauses that each function of rules 1 to 4 sees to.
-use Rattle.prelude.specs.Names.{Bool, true, false, ◌&&◌, ◌||◌, List, [], ◌∷◌, ◌⊎◌, ◌≡◌, ℕ, zero, suc, ◌+◌, ◌*◌, ◌^◌, ◌<◌}
+use Rattle.std.specs.Prelude.{◌&&◌, ◌||◌, ◌∷◌, ◌⊎◌, ◌≡◌, ◌+◌, ◌*◌, ◌^◌, ◌<◌}
+use Rattle.prelude.specs.Names.{Bool, true, false, List, [], ℕ, zero, suc}
 use Rattle.model.specs.Domains.{Domains}
 use Rattle.model.specs.Order.{Proper}
 use Rattle.model.specs.Facts.{overlaps, removed, forced, Fact, Holds}

@@ -1,6 +1,7 @@
 -- What one call and every list of calls come to, in values, from the contract of `search`: its result is `search_result`.
 -- An instance's array of items holds ten, as every value of the type does.
-use Rattle.prelude.specs.Names.{Bool, true, false, ◌&&◌, List, ◌↔◌, ◌≡◌, refl, sym, ap, ◌∙◌, subst, ℕ, ◌+◌, ◌≤◌, ◌<◌, arith, length, get_or, ltb, lt-ltb}
+use Rattle.std.specs.Prelude.{◌&&◌, ◌↔◌, ◌≡◌, ◌+◌, ◌≤◌, ◌<◌}
+use Rattle.prelude.specs.Names.{Bool, true, false, List, refl, sym, ap, ◌∙◌, subst, ℕ, arith, length, get_or, ltb, lt-ltb}
 use Rattle.model.proofs.Below.{and_intro, and_both, clash, test_false}
 use Rattle.model.proofs.Lists.{all-refused}
 use Rattle.model.proofs.Turning.{choice-sound, marks-sound, turned_same}

@@ -1,5 +1,6 @@
 -- A call goes through the choices: each is a call of its own problem's search, and where that is infeasible the next one's, from its opening.
-use Rattle.prelude.specs.Names.{Bool, true, false, ◌&&◌, List, ◌≡◌, refl, sym, ap, ◌∙◌, subst, ℕ, zero, suc, ◌+◌, ◌-◌, ◌≤◌, ◌<◌, dec_lt, arith, zero-add}
+use Rattle.std.specs.Prelude.{◌&&◌, ◌≡◌, ◌+◌, ◌-◌, ◌≤◌, ◌<◌}
+use Rattle.prelude.specs.Names.{Bool, true, false, List, refl, sym, ap, ◌∙◌, subst, ℕ, zero, suc, dec_lt, arith, zero-add}
 use Rattle.prelude.specs.Names.{le-leb, lt-ltb, ltb}
 use Rattle.prelude.specs.Names.{le-ltb, length, eq-eqb, ne_eqb, and-false, lt-leb}
 use Rattle.model.proofs.Machine.{taken_open, finished_stays, finished-takes-none}

@@ -1,5 +1,6 @@
 -- One call of the search as a value (document 01, "The search"; choices and marks: document 02, #106).
-use Rattle.prelude.specs.Names.{Bool, true, false, ◌&&◌, List, [], ◌≡◌, ℕ, ◌+◌, ◌≤◌, ◌<◌, ltb}
+use Rattle.std.specs.Prelude.{◌&&◌, ◌≡◌, ◌+◌, ◌≤◌, ◌<◌}
+use Rattle.prelude.specs.Names.{Bool, true, false, List, [], ℕ, ltb}
 use Rattle.model.specs.Turning.{Turnable, Plan}
 use Rattle.model.specs.Run.{ChoiceCheckpoint, choice_follows}
 use Rattle.refusal.specs.declared.Refusal.{Refusal}

@@ -1,5 +1,6 @@
 -- The byte examples of documents 01 and 02, and more for the limits and the order of the fields.
-use Rattle.prelude.specs.Names.{◌≡◌, true, false, List, [], ◌∷◌, ℕ, length}
+use Rattle.std.specs.Prelude.{◌≡◌, ◌∷◌}
+use Rattle.prelude.specs.Names.{true, false, List, [], ℕ, length}
 use Rattle.refusal.specs.declared.Refusal.TheVariants.{EndsEarly, UnknownBit, WrittenDefault, BadCount, BadItem, NotRising, TrailingBytes, NoLag}
 use Rattle.refusal.specs.declared.Refusal.TheVariants.{TooLarge}
 use Rattle.formats.specs.Reading.{Read, got, refused, run}

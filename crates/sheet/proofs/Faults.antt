@@ -1,6 +1,7 @@
 -- "Reading goes left to right and gives the first fault; at one place the lower number": what reading a sheet gives, by the faults of its bytes.
-use Rattle.prelude.specs.Names.{◌≡◌, refl, sym, ◌∙◌, Bool, true, false, not, cond, false≢true, and-false, not-not, List, [], ◌⊎◌, inl, inr, ◌↔◌}
-use Rattle.prelude.specs.Names.{iff_refl, ℕ, zero, suc, ◌+◌, ◌*◌, ◌≤◌, ◌<◌, arith, dec_le, dec_lt, add-zero, add_assoc, eq-or-lt_of_le, eqb, leb, ltb, length}
+use Rattle.std.specs.Prelude.{◌≡◌, ◌⊎◌, ◌↔◌, ◌+◌, ◌*◌, ◌≤◌, ◌<◌}
+use Rattle.prelude.specs.Names.{refl, sym, ◌∙◌, Bool, true, false, not, cond, false≢true, and-false, not-not, List, [], inl, inr}
+use Rattle.prelude.specs.Names.{iff_refl, ℕ, zero, suc, arith, dec_le, dec_lt, add-zero, add_assoc, eq-or-lt_of_le, eqb, leb, ltb, length}
 use Rattle.prelude.specs.Names.{get_or, drop, eqb-true, eq-eqb, ne_eqb, lt-ltb, ltb-true, le-ltb, leb-true, le-leb}
 use lib.Seq.{drop-length}
 use Rattle.refusal.specs.declared.Refusal.{Refusal}

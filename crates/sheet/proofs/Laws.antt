@@ -1,5 +1,6 @@
 -- The sheet has its laws: what that says of reading and writing.
-use Rattle.prelude.specs.Names.{◌≡◌, refl, Bool, true, false, not, ◌&&◌, ◌||◌, false≢true, List, [], ◌∷◌, ℕ, arith, eqb, length, eqb-true}
+use Rattle.std.specs.Prelude.{◌≡◌, ◌&&◌, ◌||◌, ◌∷◌}
+use Rattle.prelude.specs.Names.{refl, Bool, true, false, not, false≢true, List, [], ℕ, arith, eqb, length, eqb-true}
 use Rattle.formats.specs.Reading.{Bytes, got, run}
 use Rattle.formats.specs.Formats.{Format, Test, byte, tested, passes_all, keyed, count, counted, whole}
 use Rattle.formats.proofs.Laws.{Lawful, both_true, counted_lawful, whole-written_read, whole_read_written}

@@ -1,5 +1,6 @@
 -- "The longest sheet is 352 bytes": no valid sheet is longer, and one has that length.
-use Rattle.prelude.specs.Names.{◌≡◌, refl, sym, ◌∙◌, true, false, cond, List, [], ◌∷◌, ◌++◌, ℕ, zero, suc, ◌+◌, ◌*◌, ◌≤◌, arith, eqb, leb, length}
+use Rattle.std.specs.Prelude.{◌≡◌, ◌∷◌, ◌++◌, ◌+◌, ◌*◌, ◌≤◌}
+use Rattle.prelude.specs.Names.{refl, sym, ◌∙◌, true, false, cond, List, [], ℕ, zero, suc, arith, eqb, leb, length}
 use Rattle.prelude.specs.Names.{length-append, replicate, leb-true, eqb-true}
 use native.Mathlib.Nat.{mul-le-mul_left}
 use Rattle.formats.specs.Formats.{Format, Test, byte, pair, converted, tested, keyed, row_bytes, row, count, counted}

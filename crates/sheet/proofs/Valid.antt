@@ -1,5 +1,6 @@
 -- Which sheets may be written, part by part.
-use Rattle.prelude.specs.Names.{◌≡◌, refl, sym, ◌∙◌, Bool, true, false, ◌&&◌, and-true, and-false, and_assoc, and_comm, List, [], ◌∷◌, ℕ}
+use Rattle.std.specs.Prelude.{◌≡◌, ◌&&◌, ◌∷◌}
+use Rattle.prelude.specs.Names.{refl, sym, ◌∙◌, Bool, true, false, and-true, and-false, and_assoc, and_comm, List, [], ℕ}
 use Rattle.prelude.specs.Names.{leb, eqb, eqb-suc-zero, length}
 use lib.Dec.{leb-zero}
 use Rattle.formats.specs.Formats.{Format, Test, byte, tested, passes_all, keyed, row_valid, row, count, counted}

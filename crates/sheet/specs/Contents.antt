@@ -1,6 +1,7 @@
 -- What a sheet says, by its bytes and the places of its parts alone. This is a second account of the format, beside `Sheet`: that
 -- a sheet without a fault reads as it is a theorem (proofs/Faults).
-use Rattle.prelude.specs.Names.{ℕ, ◌+◌, cond, List}
+use Rattle.std.specs.Prelude.{◌+◌}
+use Rattle.prelude.specs.Names.{ℕ, cond, List}
 use Rattle.formats.specs.Fields.{is_set}
 use Rattle.formats.specs.Formats.{up_to}
 use Rattle.parts.specs.declared.Size.{Size}

@@ -1,6 +1,7 @@
 -- The table of refusals for reading (document 01, and numbers 11 and 12 of document 02), on the bytes of a sheet: each line with its number, its place and its
 -- condition. A line speaks of bytes that are there. It does not ask whether the bytes before are in order: which line is given is said by `FirstFault`.
-use Rattle.prelude.specs.Names.{ℕ, suc, ◌+◌, ◌≤◌, ◌<◌, true, List, ◌⊎◌, ◌≡◌, length}
+use Rattle.std.specs.Prelude.{◌+◌, ◌≤◌, ◌<◌, ◌⊎◌, ◌≡◌}
+use Rattle.prelude.specs.Names.{ℕ, suc, true, List, length}
 use Rattle.refusal.specs.declared.Refusal.{Refusal}
 use Rattle.refusal.specs.declared.Refusal.TheVariants.{EndsEarly, UnknownBit, WrittenDefault, BadCount, BadItem, NotRising, TrailingBytes, NoLag}
 use Rattle.refusal.specs.declared.Refusal.TheVariants.{TooLarge}

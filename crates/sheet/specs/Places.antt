@@ -1,5 +1,6 @@
 -- Where the parts of a sheet are, by its bytes alone (document 01, "Sheet bytes"). Bytes past the end count as 0.
-use Rattle.prelude.specs.Names.{ℕ, zero, suc, ◌+◌, ◌*◌, Bool, cond, List, get_or}
+use Rattle.std.specs.Prelude.{◌+◌, ◌*◌}
+use Rattle.prelude.specs.Names.{ℕ, zero, suc, Bool, cond, List, get_or}
 use Rattle.formats.specs.Fields.{is_set}
 use Rattle.parts.specs.Precedences.{Arc}
 

@@ -1,5 +1,6 @@
 -- The answers in numbers, 0 in place of what an answer does not hold.
-use Rattle.prelude.specs.Names.{cond, List, ◌⊎◌, inl, inr, ℕ, ltb, length, get_or, ℤ, pos}
+use Rattle.std.specs.Prelude.{◌⊎◌}
+use Rattle.prelude.specs.Names.{cond, List, inl, inr, ℕ, ltb, length, get_or, ℤ, pos}
 use Rattle.instance.specs.declared.Instance.{Instance}
 use Rattle.instance.specs.Answers.{read_result, read_values}
 use Rattle.instance.specs.Sheets.{decode}

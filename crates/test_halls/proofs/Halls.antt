@@ -1,5 +1,6 @@
 -- The small halls of document 01, by computation.
-use Rattle.prelude.specs.Names.{true, ◌≡◌, refl}
+use Rattle.std.specs.Prelude.{◌≡◌}
+use Rattle.prelude.specs.Names.{true, refl}
 use Rattle.model.specs.Below.{all_in}
 use Rattle.test_halls.specs.Halls.{case_right, cases}
 

@@ -1,6 +1,7 @@
 -- The starred rows of document 01's "Small halls" as one table: bytes, calls, and what they have to give; and rows for the lags of document 02, #101,
 -- its walkway, #105, and pieces that may be turned, #106. proofs/Halls shows it as a whole.
-use Rattle.prelude.specs.Names.{Bool, false, ◌&&◌, List, [], ◌∷◌, ℕ, eqb}
+use Rattle.std.specs.Prelude.{◌&&◌, ◌∷◌}
+use Rattle.prelude.specs.Names.{Bool, false, List, [], ℕ, eqb}
 use Rattle.model.specs.Calls.{Answer, budget_spent, no_packing, packing}
 use Rattle.model.specs.Computing.{search_computing}
 use Rattle.model.specs.Trials.{Triple, TrialCall, right_problem, xyt, with_budget}

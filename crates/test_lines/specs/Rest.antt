@@ -1,5 +1,6 @@
 -- Whether the entries past an instance's counts are 0, and no item among them may be turned.
-use Rattle.prelude.specs.Names.{Bool, not, ◌&&◌, eqb, drop}
+use Rattle.std.specs.Prelude.{◌&&◌}
+use Rattle.prelude.specs.Names.{Bool, not, eqb, drop}
 use Rattle.model.specs.Below.{all_in}
 use Rattle.parts.specs.declared.Size.{Size}
 use Rattle.parts.specs.declared.Item.{Item}

@@ -1,5 +1,6 @@
 -- Laws of an array that is filled entry by entry.
-use Rattle.prelude.specs.Names.{◌≡◌, refl, sym, ◌∙◌, List, ℕ, ◌+◌, ◌≤◌, ◌<◌, le_of_eq, add-one, arith, length, take, set, length-set, take_all}
+use Rattle.std.specs.Prelude.{◌≡◌, ◌+◌, ◌≤◌, ◌<◌}
+use Rattle.prelude.specs.Names.{refl, sym, ◌∙◌, List, ℕ, le_of_eq, add-one, arith, length, take, set, length-set, take_all}
 use lib.Seq.{take-suc-set}
 use Rattle.test_values.specs.Values.{tabulate}
 

@@ -1,5 +1,6 @@
 -- Instances and packings from bytes at fixed places. The low byte is first; a byte past the end counts as 0.
-use Rattle.prelude.specs.Names.{List, [], ◌∷◌, ◌++◌, ℕ, zero, suc, ◌+◌, ◌*◌, not, eqb}
+use Rattle.std.specs.Prelude.{◌∷◌, ◌++◌, ◌+◌, ◌*◌}
+use Rattle.prelude.specs.Names.{List, [], ℕ, zero, suc, not, eqb}
 use Rattle.parts.specs.declared.Size.{Size}
 use Rattle.parts.specs.declared.Item.{Item}
 use Rattle.parts.specs.declared.Precedence.{Precedence}

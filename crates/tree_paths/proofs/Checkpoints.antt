@@ -1,5 +1,6 @@
 -- Laws of a path's branches in an array, and of checkpoints as values.
-use Rattle.prelude.specs.Names.{true, false, List, [], ◌∷◌, ◌≡◌, refl, sym, ap, ◌∙◌, subst, ℕ, zero, suc, ◌+◌, ◌-◌, ◌≤◌, ◌<◌, ℕ_discrete, dec_lt}
+use Rattle.std.specs.Prelude.{◌∷◌, ◌≡◌, ◌+◌, ◌-◌, ◌≤◌, ◌<◌}
+use Rattle.prelude.specs.Names.{true, false, List, [], refl, sym, ap, ◌∙◌, subst, ℕ, zero, suc, ℕ_discrete, dec_lt}
 use Rattle.prelude.specs.Names.{add-one, arith, leb, length, get_or, set, length-set, length-replicate, ext_get_or, get_or-set_same}
 use Rattle.prelude.specs.Names.{get_or-set_other, set-get_or, eqb-true, le-leb, lt-ltb, le-ltb, leb-true, ltb-true}
 use lib.Seq.{set-set}

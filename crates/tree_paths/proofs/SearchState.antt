@@ -1,6 +1,7 @@
 -- The state of a search between two looks: a path, its domains ready to be looked at, and the snapshots to go back to.
-use Rattle.prelude.specs.Names.{true, not, List, [], ◌∷◌, ◌++◌, ◌⊎◌, inl, inr, ◌≢◌, ◌≡◌, refl, sym, ap, ◌∙◌, subst, ℕ, zero, suc, ◌+◌, ◌*◌, ◌-◌, ◌/◌}
-use Rattle.prelude.specs.Names.{◌%◌, ◌≤◌, ◌<◌, arith, eqb, eqb-suc-zero, length, get_or, set, take, drop, length-set, length-drop, ext_get_or, take_all}
+use Rattle.std.specs.Prelude.{◌∷◌, ◌++◌, ◌⊎◌, ◌≢◌, ◌≡◌, ◌+◌, ◌*◌, ◌-◌, ◌/◌, ◌%◌, ◌≤◌, ◌<◌}
+use Rattle.prelude.specs.Names.{true, not, List, [], inl, inr, refl, sym, ap, ◌∙◌, subst, ℕ, zero, suc}
+use Rattle.prelude.specs.Names.{arith, eqb, eqb-suc-zero, length, get_or, set, take, drop, length-set, length-drop, ext_get_or, take_all}
 use Rattle.prelude.specs.Names.{get_or-drop, get_or-set_same, get_or-set_other}
 use lib.ListN.{take-append-drop}
 use Rattle.model.proofs.Fork.{choice_numbered}

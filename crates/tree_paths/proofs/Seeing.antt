@@ -1,5 +1,6 @@
 -- What propagation and the branching place show of a path. Propagation in code is of the problem widened to ten items.
-use Rattle.prelude.specs.Names.{true, false, List, ◌≡◌, sym, ◌∙◌, subst, ℕ}
+use Rattle.std.specs.Prelude.{◌≡◌}
+use Rattle.prelude.specs.Names.{true, false, List, sym, ◌∙◌, subst, ℕ}
 use Rattle.model.proofs.Search.{look_by, look-inconsistent}
 use Rattle.model.proofs.Wide.{wide_propagates, wide-verdict}
 use Rattle.model.specs.Admits.{Sound}

@@ -1,6 +1,7 @@
 -- Checkpoints as values (document 01, "The search"; a note is a checkpoint, a turn a branch, a row of turns a path).
 -- The model keeps a path with its last branch first; a value has the first branch first.
-use Rattle.prelude.specs.Names.{Bool, true, ◌&&◌, List, [], ◌∷◌, ◌≡◌, ℕ, zero, suc, ◌≤◌, leb, ltb, eqb, length, get_or, set, replicate}
+use Rattle.std.specs.Prelude.{◌&&◌, ◌∷◌, ◌≡◌, ◌≤◌}
+use Rattle.prelude.specs.Names.{Bool, true, List, [], ℕ, zero, suc, leb, ltb, eqb, length, get_or, set, replicate}
 use Rattle.model.specs.Below.{all_below}
 use Rattle.model.specs.Branching.{Branch, first, second}
 use Rattle.model.specs.Run.{ChoiceCheckpoint, ChoiceFollows, choice_follows}

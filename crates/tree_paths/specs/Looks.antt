@@ -1,5 +1,6 @@
 -- What a look at a path shows: propagation of its domains, and where they branch.
-use Rattle.prelude.specs.Names.{List, ◌≡◌, ℕ}
+use Rattle.std.specs.Prelude.{◌≡◌}
+use Rattle.prelude.specs.Names.{List, ℕ}
 use Rattle.model.specs.Admits.{Sound}
 use Rattle.model.specs.Branching.{Branch, choice, path_domains}
 use Rattle.model.specs.Domains.{Domains}

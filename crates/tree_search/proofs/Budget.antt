@@ -1,5 +1,6 @@
 -- Steps within a budget: the rest from here is the whole from the start.
-use Rattle.prelude.specs.Names.{List, ◌≡◌, sym, ◌∙◌, subst, ℕ, suc, ◌+◌, ◌-◌, ◌≤◌, ◌<◌, sub-zero, arith}
+use Rattle.std.specs.Prelude.{◌≡◌, ◌+◌, ◌-◌, ◌≤◌, ◌<◌}
+use Rattle.prelude.specs.Names.{List, sym, ◌∙◌, subst, ℕ, suc, sub-zero, arith}
 use Rattle.model.proofs.Machine.{finished_stays, finished-takes-none}
 use Rattle.model.specs.Branching.{Branch}
 use Rattle.model.specs.Machine.{steps, taken, Finished}

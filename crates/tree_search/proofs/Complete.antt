@@ -1,5 +1,6 @@
 -- The positions of a complete path.
-use Rattle.prelude.specs.Names.{List, ◌≡◌, sym, ◌∙◌, ℕ, ◌+◌, ◌≤◌, ◌<◌, arith, length}
+use Rattle.std.specs.Prelude.{◌≡◌, ◌+◌, ◌≤◌, ◌<◌}
+use Rattle.prelude.specs.Names.{List, sym, ◌∙◌, ℕ, arith, length}
 use Rattle.model.proofs.GreatestChains.{greatest_ending-size}
 use Rattle.model.proofs.Wide.{wide-size, wide-ending}
 use Rattle.model.proofs.Outside.{path_untouched}

@@ -1,5 +1,6 @@
 -- The results of a call as values.
-use Rattle.prelude.specs.Names.{Bool, true, false, List, [], ◌∷◌, ◌⊎◌, inl, inr, ◌≡◌, refl, sym, ap, ◌∙◌, ℕ, zero, suc, ◌<◌, ℕ_discrete, arith}
+use Rattle.std.specs.Prelude.{◌∷◌, ◌⊎◌, ◌≡◌, ◌<◌}
+use Rattle.prelude.specs.Names.{Bool, true, false, List, [], inl, inr, refl, sym, ap, ◌∙◌, ℕ, zero, suc, ℕ_discrete, arith}
 use Rattle.prelude.specs.Names.{length}
 use Rattle.model.proofs.Below.{clash, test_false}
 use Rattle.model.proofs.Run.{forking_exactly}

@@ -1,5 +1,6 @@
 -- Positions as values.
-use Rattle.prelude.specs.Names.{List, ◌⊎◌, inl, inr, ◌≡◌, refl, sym, ◌∙◌, ℕ, ◌≤◌, ◌<◌, dec_lt, arith, length, get_or, ext_get_or, lt-ltb}
+use Rattle.std.specs.Prelude.{◌⊎◌, ◌≡◌, ◌≤◌, ◌<◌}
+use Rattle.prelude.specs.Names.{List, inl, inr, refl, sym, ◌∙◌, ℕ, dec_lt, arith, length, get_or, ext_get_or, lt-ltb}
 use Rattle.prelude.specs.Names.{le-ltb}
 use Rattle.model.proofs.Below.{below_three}
 use Rattle.model.specs.Admits.{Sound}

@@ -1,5 +1,6 @@
 -- How far a call has come: along the path given, or some steps on from it; and what the call comes to from there.
-use Rattle.prelude.specs.Names.{true, false, List, [], ◌∷◌, ◌≡◌, refl, sym, ap, ◌∙◌, ℕ, ◌+◌, ◌-◌, ◌≤◌, ◌<◌, dec_lt, arith, length, get_or}
+use Rattle.std.specs.Prelude.{◌∷◌, ◌≡◌, ◌+◌, ◌-◌, ◌≤◌, ◌<◌}
+use Rattle.prelude.specs.Names.{true, false, List, [], refl, sym, ap, ◌∙◌, ℕ, dec_lt, arith, length, get_or}
 use Rattle.model.proofs.Run.{forking_exactly}
 use Rattle.model.specs.Branching.{Branch, second, plan}
 use Rattle.model.specs.Problem.{Problem}

@@ -1,5 +1,6 @@
 -- One call of the search of a problem as a value (document 01, "The search").
-use Rattle.prelude.specs.Names.{Bool, true, false, List, [], ◌∷◌, map, ℕ, ltb, length, replicate}
+use Rattle.std.specs.Prelude.{◌∷◌}
+use Rattle.prelude.specs.Names.{Bool, true, false, List, [], map, ℕ, ltb, length, replicate}
 use Rattle.model.specs.Problem.{Problem, Positions}
 use Rattle.instance.specs.Values.{origin}
 use Rattle.instance.specs.declared.Position.{Position}

@@ -1,5 +1,6 @@
 -- How many choices there are, and the digits of a choice.
-use Rattle.prelude.specs.Names.{Bool, true, false, cond, ◌&&◌, List, ◌≡◌, refl, ap, ◌∙◌, ℕ, zero, suc, ◌+◌, ◌-◌, ◌*◌, ◌%◌, ◌^◌, ◌≤◌, ◌<◌, arith}
+use Rattle.std.specs.Prelude.{◌&&◌, ◌≡◌, ◌+◌, ◌-◌, ◌*◌, ◌%◌, ◌^◌, ◌≤◌, ◌<◌}
+use Rattle.prelude.specs.Names.{Bool, true, false, cond, List, refl, ap, ◌∙◌, ℕ, zero, suc, arith}
 use Rattle.prelude.specs.Names.{eqb, get_or}
 use Rattle.prelude.specs.Names.{le_trans, pow_mono, lt-ltb, le-ltb, add-one}
 use Rattle.model.specs.Below.{all_below}

@@ -1,5 +1,6 @@
 -- The test of the marks says whether they may stand on the items, and they may in a plan that fits.
-use Rattle.prelude.specs.Names.{Bool, true, ◌&&◌, ◌⊎◌, inl, inr, ◌↔◌, List, ◌≡◌, refl, sym, ◌∙◌, ℕ, zero, suc, ◌≤◌, ◌<◌, arith, eqb, get_or, eq-eqb, eqb-true}
+use Rattle.std.specs.Prelude.{◌&&◌, ◌⊎◌, ◌↔◌, ◌≡◌, ◌≤◌, ◌<◌}
+use Rattle.prelude.specs.Names.{Bool, true, inl, inr, List, refl, sym, ◌∙◌, ℕ, zero, suc, arith, eqb, get_or, eq-eqb, eqb-true}
 use Rattle.model.specs.Problem.{Feasible}
 use Rattle.model.specs.Turning.{turned, Fits}
 use Rattle.model.proofs.Below.{and_both, or_case, all-at, all_of}

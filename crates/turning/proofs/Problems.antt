@@ -1,5 +1,6 @@
 -- The instance with its marked items turned is the problem with them turned, and it is valid where it was.
-use Rattle.prelude.specs.Names.{Bool, true, false, List, ◌≡◌, refl, sym, ap, ◌∙◌, ℕ, zero, suc, ◌≤◌, ◌<◌, dec_lt, arith, length, get_or, take}
+use Rattle.std.specs.Prelude.{◌≡◌, ◌≤◌, ◌<◌}
+use Rattle.prelude.specs.Names.{Bool, true, false, List, refl, sym, ap, ◌∙◌, ℕ, zero, suc, dec_lt, arith, length, get_or, take}
 use Rattle.prelude.specs.Names.{length-take-le, get_or-take, le-leb, get_or-eq_default}
 use Rattle.model.proofs.Below.{and_intro, and_both}
 use Rattle.model.specs.Turning.{measured_on, turned, marks_of, choice_problem}

@@ -1,5 +1,6 @@
 -- Arrays of ten entries that are filled one by one.
-use Rattle.prelude.specs.Names.{List, ◌≡◌, refl, sym, ◌∙◌, ℕ, zero, suc, ◌+◌, ◌≤◌, ◌<◌, arith, length, get_or, set, length-set, ext_get_or, get_or-set_same}
+use Rattle.std.specs.Prelude.{◌≡◌, ◌+◌, ◌≤◌, ◌<◌}
+use Rattle.prelude.specs.Names.{List, refl, sym, ◌∙◌, ℕ, zero, suc, arith, length, get_or, set, length-set, ext_get_or, get_or-set_same}
 use Rattle.prelude.specs.Names.{get_or-set_other}
 use Rattle.prelude.specs.Names.{ℕ_discrete, dec_lt, replicate}
 use Rattle.instance.proofs.Positions.{ten-at}

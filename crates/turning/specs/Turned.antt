@@ -1,5 +1,6 @@
 -- An instance whose items may be turned, and the marks of a plan (document 02, #106).
-use Rattle.prelude.specs.Names.{Bool, true, false, cond, ◌&&◌, ◌||◌, ◌⊎◌, List, [], ◌∷◌, map, ◌≡◌, ℕ, ◌*◌, ◌/◌, ◌%◌, ◌<◌, ltb, eqb, get_or}
+use Rattle.std.specs.Prelude.{◌&&◌, ◌||◌, ◌⊎◌, ◌∷◌, ◌≡◌, ◌*◌, ◌/◌, ◌%◌, ◌<◌}
+use Rattle.prelude.specs.Names.{Bool, true, false, cond, List, [], map, ℕ, ltb, eqb, get_or}
 use Rattle.model.specs.Below.{all_below}
 use Rattle.model.specs.Turning.{Turnable, Plan, marks_of}
 use Rattle.parts.specs.declared.Size.{Size}

@@ -1,5 +1,6 @@
 -- The lags of the first precedences: as many bytes as there are precedences, or none.
-use Rattle.prelude.specs.Names.{◌≡◌, refl, ◌∙◌, List, [], ◌∷◌, map, cond, ℕ, zero, suc, ◌≤◌, ◌<◌, arith, length, get_or, take, length-take-le, eq-eqb, get_or-take}
+use Rattle.std.specs.Prelude.{◌≡◌, ◌∷◌, ◌≤◌, ◌<◌}
+use Rattle.prelude.specs.Names.{refl, ◌∙◌, List, [], map, cond, ℕ, zero, suc, arith, length, get_or, take, length-take-le, eq-eqb, get_or-take}
 use lib.ListN.{length-map}
 use Rattle.formats.specs.Fields.{flag}
 use Rattle.parts.specs.declared.Precedence.{Precedence}

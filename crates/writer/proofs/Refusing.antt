@@ -1,5 +1,6 @@
 -- Writing a sheet is refused exactly for the table's conditions; what it leaves in the room, and that reading undoes it.
-use Rattle.prelude.specs.Names.{Bool, true, false, List, ◌++◌, ◌↔◌, ◌⊎◌, inl, inr, ◌≡◌, refl, subst, ℕ, ◌≤◌, ◌<◌, dec_lt, arith, length, take, drop}
+use Rattle.std.specs.Prelude.{◌++◌, ◌↔◌, ◌⊎◌, ◌≡◌, ◌≤◌, ◌<◌}
+use Rattle.prelude.specs.Names.{Bool, true, false, List, inl, inr, refl, subst, ℕ, dec_lt, arith, length, take, drop}
 use Rattle.prelude.specs.Names.{take-append_seam, lt-ltb, le-ltb, lt-leb, le-leb}
 use Rattle.formats.specs.Reading.{Bytes}
 use Rattle.instance.specs.declared.Instance.{Instance}

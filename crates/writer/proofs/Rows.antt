@@ -1,5 +1,6 @@
 -- A row of parts that is being written: the loops of the two writers of a counted row.
-use Rattle.prelude.specs.Names.{List, [], ◌∷◌, ◌++◌, map, ◌≡◌, refl, sym, ◌∙◌, ℕ, ◌+◌, ◌*◌, ◌≤◌, ◌<◌, add-zero, arith, length, get_or, take, length-append, sets}
+use Rattle.std.specs.Prelude.{◌∷◌, ◌++◌, ◌≡◌, ◌+◌, ◌*◌, ◌≤◌, ◌<◌}
+use Rattle.prelude.specs.Names.{List, [], map, refl, sym, ◌∙◌, ℕ, add-zero, arith, length, get_or, take, length-append, sets}
 use Rattle.prelude.specs.Names.{length-take-le}
 use lib.ListN.{length-map}
 use Rattle.formats.specs.Formats.{row_bytes}

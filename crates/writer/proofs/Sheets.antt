@@ -1,5 +1,6 @@
 -- The bytes of an instance's sheet, part by part.
-use Rattle.prelude.specs.Names.{◌≡◌, refl, ◌∙◌, true, List, [], ◌∷◌, ◌++◌, append-nil, append_assoc, ℕ, suc, ◌+◌, ◌*◌, arith, length, set}
+use Rattle.std.specs.Prelude.{◌≡◌, ◌∷◌, ◌++◌, ◌+◌, ◌*◌}
+use Rattle.prelude.specs.Names.{refl, ◌∙◌, true, List, [], append-nil, append_assoc, ℕ, suc, arith, length, set}
 use Rattle.prelude.specs.Names.{length-append, map, sets, ne_eqb}
 use lib.ListN.{length-map}
 use Rattle.formats.specs.Formats.{Format, Test, byte, tested, keyed, row_bytes, row, count, counted}

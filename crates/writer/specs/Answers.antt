@@ -1,5 +1,6 @@
 -- What writing answers, and what it leaves in the lent room.
-use Rattle.prelude.specs.Names.{cond, not, ◌&&◌, List, ◌++◌, ◌⊎◌, inl, inr, ℕ, leb, ltb, length, drop}
+use Rattle.std.specs.Prelude.{◌&&◌, ◌++◌, ◌⊎◌}
+use Rattle.prelude.specs.Names.{cond, not, List, inl, inr, ℕ, leb, ltb, length, drop}
 use Rattle.refusal.specs.declared.Refusal.TheVariants.{BadArgument, InvalidInstance}
 use Rattle.refusal.specs.Numbers.{number_of, place_of}
 use Rattle.instance.specs.declared.Instance.{Instance}

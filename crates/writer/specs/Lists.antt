@@ -1,5 +1,6 @@
 -- Rows of parts with their count, and the lags, as they are written.
-use Rattle.prelude.specs.Names.{List, map, ◌++◌, ℕ, take}
+use Rattle.std.specs.Prelude.{◌++◌}
+use Rattle.prelude.specs.Names.{List, map, ℕ, take}
 use Rattle.formats.specs.Formats.{row_bytes}
 use Rattle.formats.specs.Fields.{optional_bytes}
 use Rattle.parts.specs.declared.Item.{Item}

@@ -1,5 +1,6 @@
 -- Document 01's table for writing a sheet, in the order of the tests.
-use Rattle.prelude.specs.Names.{true, false, ◌≡◌, ℕ, ◌<◌, length}
+use Rattle.std.specs.Prelude.{◌≡◌, ◌<◌}
+use Rattle.prelude.specs.Names.{true, false, ℕ, length}
 use Rattle.instance.specs.declared.Instance.{Instance}
 use Rattle.instance.specs.Valid.{valid}
 use Rattle.instance.specs.Sheets.{encode}

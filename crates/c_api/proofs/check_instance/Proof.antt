@@ -1,5 +1,6 @@
 -- `c_api::check_instance` meets its contract.
-use Rattle.prelude.specs.Names.{◌≡◌, arith, sym, ap, ◌∙◌, ne_eqb, rules}
+use Rattle.std.specs.Prelude.{◌≡◌}
+use Rattle.prelude.specs.Names.{arith, sym, ap, ◌∙◌, ne_eqb, rules}
 use Rattle.instance.proofs.Sheets.{valid-says}
 use Rattle.packing.specs.Check.{check_number}
 use Rattle.c_api.specs.Calls.{instance_checked}

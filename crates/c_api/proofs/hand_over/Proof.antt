@@ -1,5 +1,6 @@
 -- `c_api::hand_over` meets its contract.
-use Rattle.prelude.specs.Names.{◌≡◌, sym, ◌∙◌, ◌≤◌, ◌<◌, arith, rules}
+use Rattle.std.specs.Prelude.{◌≡◌, ◌≤◌, ◌<◌}
+use Rattle.prelude.specs.Names.{sym, ◌∙◌, arith, rules}
 use Rattle.search.specs.Results.{answer_number}
 use Rattle.c_api.proofs.Outcomes.{not_refused, path_room, refused-keeps}
 use Rattle.c_api.proofs.hand_over.Tie as tie

@@ -1,5 +1,6 @@
 -- `c_api::put_answer` meets its contract.
-use Rattle.prelude.specs.Names.{◌≡◌, sym, ◌∙◌, rules}
+use Rattle.std.specs.Prelude.{◌≡◌}
+use Rattle.prelude.specs.Names.{sym, ◌∙◌, rules}
 use Rattle.search.specs.Results.{answer_number}
 use Rattle.buffers.specs.Bytes.{packing_bytes}
 use Rattle.c_api.proofs.Outcomes.{plan-placed, plan-kept}

@@ -1,5 +1,6 @@
 -- `c_api::search_instance` meets its contract.
-use Rattle.prelude.specs.Names.{◌≡◌, refl, sym, ap, ◌∙◌, length, not-true, not-false, true, rules}
+use Rattle.std.specs.Prelude.{◌≡◌}
+use Rattle.prelude.specs.Names.{refl, sym, ap, ◌∙◌, length, not-true, not-false, true, rules}
 use Rattle.instance.proofs.Sheets.{valid-says}
 use Rattle.instance.proofs.Arrays.{length_mapped}
 use Rattle.search.specs.Results.{result_refused, search_result}

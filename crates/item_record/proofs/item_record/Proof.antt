@@ -1,5 +1,6 @@
 -- `item_record::item_record` meets its contract.
-use Rattle.prelude.specs.Names.{rules, arith, ◌≡◌, sym, ◌∙◌, ◌≤◌, length}
+use Rattle.std.specs.Prelude.{◌≡◌, ◌≤◌}
+use Rattle.prelude.specs.Names.{rules, arith, sym, ◌∙◌, length}
 use Rattle.instance.specs.Sheets.{decode}
 use Rattle.sheet.specs.Places.{after_item, item_place}
 use Rattle.item_record.specs.declared.Lookup.TheVariants.{There}

@@ -1,5 +1,6 @@
 -- `item_record::place_of` meets its contract. Invariant: `place` is that of item i. Measure: the items left up to item k.
-use Rattle.prelude.specs.Names.{rules, add-one, arith, ◌≡◌, ◌≤◌, ◌-◌}
+use Rattle.std.specs.Prelude.{◌≡◌, ◌≤◌, ◌-◌}
+use Rattle.prelude.specs.Names.{rules, add-one, arith}
 use Rattle.sheet.specs.Places.{container_end, item_place}
 use Rattle.sheet.proofs.Faults.{item-before}
 use Rattle.item_record.proofs.Records.{place-positive}

@@ -1,6 +1,7 @@
 -- `lists::all_in_order` meets its contract. Invariant: the first m precedences are allowed exactly where those from i on are, after the last one
 -- tested. Measure: the precedences left.
-use Rattle.prelude.specs.Names.{rules, not-true, not-false, arith, ◌&&◌, List, [], ◌∷◌, map, ℕ, ◌+◌, ◌-◌, ◌≤◌, ◌≡◌, refl, ap, ◌∙◌, length, get_or, take, drop}
+use Rattle.std.specs.Prelude.{◌&&◌, ◌∷◌, ◌+◌, ◌-◌, ◌≤◌, ◌≡◌}
+use Rattle.prelude.specs.Names.{rules, not-true, not-false, arith, List, [], map, ℕ, refl, ap, ◌∙◌, length, get_or, take, drop}
 use Rattle.formats.proofs.Entries.{part_next, part_done}
 use Rattle.parts.specs.declared.Previous.TheVariants.{Nothing, Was}
 use Rattle.parts.specs.Sizes.{no_precedence}

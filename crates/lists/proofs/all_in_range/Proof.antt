@@ -1,5 +1,6 @@
 -- `lists::all_in_range` meets its contract. Invariant: the first n items are in range exactly where those from i on are. Measure: the items left.
-use Rattle.prelude.specs.Names.{rules, not-true, not-false, arith, ◌&&◌, ◌+◌, ◌-◌, ◌≤◌, ◌≡◌, refl, length, take, drop}
+use Rattle.std.specs.Prelude.{◌&&◌, ◌+◌, ◌-◌, ◌≤◌, ◌≡◌}
+use Rattle.prelude.specs.Names.{rules, not-true, not-false, arith, refl, length, take, drop}
 use Rattle.formats.proofs.Entries.{part_next, part_done}
 use Rattle.parts.specs.Sizes.{all_in_range, no_item}
 use Rattle.lists.proofs.all_in_range.Tie as tie

@@ -1,5 +1,6 @@
 -- `lists::all_zero` meets its contract. Invariant: the lags are all 0 exactly where those from i on are. Measure: the lags left.
-use Rattle.prelude.specs.Names.{rules, arith, ◌&&◌, eqb, ◌+◌, ◌-◌, ◌≤◌, ◌≡◌, refl, ◌∙◌, length, get_or, drop, drop-cons, add-one, drop_of_length-le}
+use Rattle.std.specs.Prelude.{◌&&◌, ◌+◌, ◌-◌, ◌≤◌, ◌≡◌}
+use Rattle.prelude.specs.Names.{rules, arith, eqb, refl, ◌∙◌, length, get_or, drop, drop-cons, add-one, drop_of_length-le}
 use Rattle.prelude.specs.Names.{eq-eqb, ne_eqb}
 use Rattle.parts.specs.Parts.{lags_zero}
 use Rattle.lists.proofs.all_zero.Tie as tie

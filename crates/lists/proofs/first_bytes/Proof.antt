@@ -1,5 +1,6 @@
 -- `lists::first_bytes` meets its contract. Invariant: the first i bytes are stored, before blanks. Measure: the bytes left.
-use Rattle.prelude.specs.Names.{rules, arith, ◌-◌, ◌≤◌, ◌≡◌, refl, ◌∙◌, take}
+use Rattle.std.specs.Prelude.{◌-◌, ◌≤◌, ◌≡◌}
+use Rattle.prelude.specs.Names.{rules, arith, refl, ◌∙◌, take}
 use Rattle.lists.specs.Lists.{padded}
 use Rattle.lists.proofs.Lags.{byte_next}
 use Rattle.lists.proofs.first_bytes.Tie as tie

@@ -1,6 +1,7 @@
 -- `lists::read_item_row` meets its contract. Invariant: i items are read and stored, and the row reads as they do, followed by what is left of it
 -- after `used` bytes. Measure: the items left.
-use Rattle.prelude.specs.Names.{rules, arith, ◌-◌, length-drop, ◌∙◌, []}
+use Rattle.std.specs.Prelude.{◌-◌}
+use Rattle.prelude.specs.Names.{rules, arith, length-drop, ◌∙◌, []}
 use Rattle.formats.proofs.Entries.{rest_of}
 use Rattle.formats.proofs.Laws.{untested}
 use Rattle.parts.specs.Parts.{item}

@@ -1,5 +1,6 @@
 -- `lists::read_lags` meets its contract.
-use Rattle.prelude.specs.Names.{rules, arith, ◌≤◌, ◌≡◌, ap, subst, sym, ◌∙◌, Bool, false, not, cond, ◌+◌, ℕ, List}
+use Rattle.std.specs.Prelude.{◌≤◌, ◌≡◌, ◌+◌}
+use Rattle.prelude.specs.Names.{rules, arith, ap, subst, sym, ◌∙◌, Bool, false, not, cond, ℕ, List}
 use Rattle.prelude.specs.Names.{length, drop, take, replicate, add-zero, length-replicate, length-take-le, lt-ltb, le-ltb}
 use Rattle.refusal.specs.declared.Refusal.TheVariants.{NoLag}
 use Rattle.formats.specs.Reading.{run, got, refused}

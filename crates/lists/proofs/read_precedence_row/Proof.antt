@@ -1,6 +1,7 @@
 -- `lists::read_precedence_row` meets its contract. Invariant: i precedences are read and stored, and the row reads as they do, followed by what is
 -- left of it after `used` bytes and the precedence `last`. Measure: the precedences left.
-use Rattle.prelude.specs.Names.{rules, arith, ◌-◌, length-drop}
+use Rattle.std.specs.Prelude.{◌-◌}
+use Rattle.prelude.specs.Names.{rules, arith, length-drop}
 use Rattle.formats.proofs.Entries.{rest_of}
 use Rattle.formats.specs.Formats.{tested}
 use Rattle.parts.specs.Precedences.{unlagged}

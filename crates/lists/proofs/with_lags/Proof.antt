@@ -1,6 +1,7 @@
 -- `lists::with_lags` meets its contract. Invariant: the first i precedences have their lags, and the precedences with their lags are those followed by
 -- the others with theirs. Measure: the precedences left.
-use Rattle.prelude.specs.Names.{rules, arith, ◌++◌, map, append-nil, ◌-◌, ◌≤◌, ◌≡◌, refl, sym, ◌∙◌, length, take, drop, drop_of_length-le, take_all, length-set}
+use Rattle.std.specs.Prelude.{◌++◌, ◌-◌, ◌≤◌, ◌≡◌}
+use Rattle.prelude.specs.Names.{rules, arith, map, append-nil, refl, sym, ◌∙◌, length, take, drop, drop_of_length-le, take_all, length-set}
 use Rattle.parts.specs.Precedences.{arc_of}
 use Rattle.lists.specs.Lists.{with_lags}
 use Rattle.lists.proofs.Lags.{lag-next}

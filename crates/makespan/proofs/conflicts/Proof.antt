@@ -1,6 +1,7 @@
 -- `makespan::conflicts` meets its contract, by bisection. The invariant: the lengths up to `low` have inconsistent opening domains, and the one past `high` has
 -- not; `shortened` is the instance but for its shifts. `high - low` falls.
-use Rattle.prelude.specs.Names.{Bool, true, ◌⊎◌, inl, inr, ◌≡◌, refl, sym, ap, ◌∙◌, subst, ℕ, suc, ◌-◌, ◌/◌, ◌≤◌, arith}
+use Rattle.std.specs.Prelude.{◌⊎◌, ◌≡◌, ◌-◌, ◌/◌, ◌≤◌}
+use Rattle.prelude.specs.Names.{Bool, true, inl, inr, refl, sym, ap, ◌∙◌, subst, ℕ, suc, arith}
 use Rattle.model.proofs.Shorter.{conflict_shorter}
 use Rattle.model.specs.Earliest.{shortened}
 use Rattle.model.specs.Turning.{Turnable, choice_problem, last_choice}

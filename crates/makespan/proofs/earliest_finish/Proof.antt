@@ -1,5 +1,6 @@
 -- `makespan::earliest_finish` meets its contract.
-use Rattle.prelude.specs.Names.{true, ◌≡◌, sym, ap, ◌∙◌, ℕ, ◌+◌, ◌*◌, ◌/◌, ◌≤◌, arith, rules, not-true, not-false}
+use Rattle.std.specs.Prelude.{◌≡◌, ◌+◌, ◌*◌, ◌/◌, ◌≤◌}
+use Rattle.prelude.specs.Names.{true, sym, ap, ◌∙◌, ℕ, arith, rules, not-true, not-false}
 use Rattle.model.specs.Earliest.{earliest_finish}
 use Rattle.instance.proofs.Arrays.{length_mapped}
 use Rattle.instance.proofs.Sheets.{valid-says}

@@ -1,5 +1,6 @@
 -- `makespan::in_conflict` meets its contract: by what the first steps answer.
-use Rattle.prelude.specs.Names.{◌≡◌, subst, rules}
+use Rattle.std.specs.Prelude.{◌≡◌}
+use Rattle.prelude.specs.Names.{subst, rules}
 use Rattle.turning.specs.Turned.{turnable_of}
 use Rattle.instance.specs.Values.{opening_checkpoint}
 use Rattle.search.specs.declared.answer.Answer.{Answer}

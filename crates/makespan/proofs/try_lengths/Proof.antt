@@ -1,6 +1,7 @@
 -- `makespan::try_lengths` meets its contract. The invariant: what is asked for is what the lengths left come to under the rest of the budget, after the
 -- steps taken; `shortened` is the instance but for its shifts. `most - length` falls.
-use Rattle.prelude.specs.Names.{◌≡◌, refl, sym, ap, ◌∙◌, subst, ℕ, suc, ◌+◌, ◌-◌, ◌≤◌, ◌<◌, arith, rules}
+use Rattle.std.specs.Prelude.{◌≡◌, ◌+◌, ◌-◌, ◌≤◌, ◌<◌}
+use Rattle.prelude.specs.Names.{refl, sym, ap, ◌∙◌, subst, ℕ, suc, arith, rules}
 use Rattle.model.specs.Earliest.{steps_before, finish_from, earliest_finish}
 use Rattle.model.specs.Turning.{Turnable}
 use Rattle.refusal.specs.declared.Refusal.{Refusal}

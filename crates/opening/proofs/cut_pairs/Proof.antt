@@ -1,6 +1,7 @@
 -- `opening::cut_pairs` meets its contract. Invariant: of the first i places of axis and item all pairs too long are cut,
 -- and nothing past the items. Measure: the places left.
-use Rattle.prelude.specs.Names.{refl, ◌-◌, ◌≤◌, arith, not-true, not-false}
+use Rattle.std.specs.Prelude.{◌-◌, ◌≤◌}
+use Rattle.prelude.specs.Names.{refl, arith, not-true, not-false}
 use Rattle.domains.specs.Narrowed.{Narrowed}
 use Rattle.opening.specs.Openings.{PairsAsked, Outside}
 use Rattle.opening.proofs.PairCuts.{CutTo, cut-start, cut-end, pairs_askable, pairs_refuted, pairs_next}

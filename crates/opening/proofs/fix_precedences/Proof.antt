@@ -1,6 +1,7 @@
 -- `opening::fix_precedences` meets its contract. Invariant: the first i precedences are fixed, and fixing the rest comes to fixing all.
 -- Measure: the precedences left.
-use Rattle.prelude.specs.Names.{rules, not-true, not-false, arith, ◌≡◌, ◌-◌, length}
+use Rattle.std.specs.Prelude.{◌≡◌, ◌-◌}
+use Rattle.prelude.specs.Names.{rules, not-true, not-false, arith, length}
 use Rattle.opening.proofs.Openings.{Fixing, fixing_none, next-proper, fixable, fixing_next, fixing_fails, fixing_done}
 use Rattle.opening.proofs.fix_precedences.Tie as tie
 

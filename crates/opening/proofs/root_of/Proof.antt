@@ -1,5 +1,6 @@
 -- `opening::root_of` meets its contract.
-use Rattle.prelude.specs.Names.{rules, not-true, not-false, true, subst, ◌≡◌}
+use Rattle.std.specs.Prelude.{◌≡◌}
+use Rattle.prelude.specs.Names.{rules, not-true, not-false, true, subst}
 use Rattle.model.specs.Domains.{full_domains}
 use Rattle.model.specs.Branching.{opening_domains}
 use Rattle.instance.proofs.Arrays.{length_mapped}

@@ -1,5 +1,6 @@
 -- `packing::check` meets its contract.
-use Rattle.prelude.specs.Names.{Bool, true, ◌≡◌, ap, ◌∙◌, length, rules}
+use Rattle.std.specs.Prelude.{◌≡◌}
+use Rattle.prelude.specs.Names.{Bool, true, ap, ◌∙◌, length, rules}
 use Rattle.model.specs.Problem.{Problem, Positions, inside_test, apart_test, ordered_test, feasible}
 use Rattle.instance.specs.Valid.{valid}
 use Rattle.instance.specs.Meaning.{problem_of, positions_of}

@@ -1,5 +1,6 @@
 -- `packing::clearance` meets its contract.
-use Rattle.prelude.specs.Names.{true, ◌≡◌, ap, ◌∙◌, arith, lt-ltb, le-ltb, length, rules}
+use Rattle.std.specs.Prelude.{◌≡◌}
+use Rattle.prelude.specs.Names.{true, ap, ◌∙◌, arith, lt-ltb, le-ltb, length, rules}
 use Rattle.model.specs.Problem.{Problem}
 use Rattle.instance.specs.Valid.{valid}
 use Rattle.instance.specs.Meaning.{problem_of, positions_of}

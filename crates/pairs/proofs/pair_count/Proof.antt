@@ -1,5 +1,6 @@
 -- `pairs::pair_count` meets its contract.
-use Rattle.prelude.specs.Names.{arith, ℕ, ◌*◌, ◌≤◌}
+use Rattle.std.specs.Prelude.{◌*◌, ◌≤◌}
+use Rattle.prelude.specs.Names.{arith, ℕ}
 use native.Mathlib.Nat.{mul-le-mul}
 use Rattle.model.specs.Pairs.{pair_number}
 use Rattle.model.proofs.Pairs.{square_split}

@@ -1,5 +1,6 @@
 -- `pairs::pair_number` meets its contract.
-use Rattle.prelude.specs.Names.{arith, ◌≡◌, ℕ, ◌+◌, ◌≤◌, ◌<◌}
+use Rattle.std.specs.Prelude.{◌≡◌, ◌+◌, ◌≤◌, ◌<◌}
+use Rattle.prelude.specs.Names.{arith, ℕ}
 use mir.Syntax.{w64}
 use mir.Val.{Fits}
 use Rattle.model.specs.Pairs.{pair_number}

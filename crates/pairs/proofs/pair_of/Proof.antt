@@ -1,5 +1,6 @@
 -- `pairs::pair_of` meets its contract. Invariant: u and the number of (0, v) come to the number. Measure: u.
-use Rattle.prelude.specs.Names.{arith, ◌≡◌, sym, ◌∙◌, ap, add-one, ◌+◌, ◌≤◌}
+use Rattle.std.specs.Prelude.{◌≡◌, ◌+◌, ◌≤◌}
+use Rattle.prelude.specs.Names.{arith, sym, ◌∙◌, ap, add-one}
 use Rattle.model.specs.Pairs.{pair_number, pair_of}
 use Rattle.model.proofs.Pairs.{number_split, first_next, first-least, pair-at-number}
 use Rattle.pairs.proofs.pair_of.Tie as tie

@@ -1,6 +1,7 @@
 -- `propagation::propagate` meets its contract. Invariant: the queue is worked off up to the head, and what is still to be done is of pairs from
 -- there on. Measure: the places of the queue from the head on.
-use Rattle.prelude.specs.Names.{◌-◌, arith, rules, not-true, not-false}
+use Rattle.std.specs.Prelude.{◌-◌}
+use Rattle.prelude.specs.Names.{arith, rules, not-true, not-false}
 use Rattle.domains.proofs.Narrowed.{good-long}
 use Rattle.chains.proofs.Linking.{same_then}
 use Rattle.propagation.proofs.Settling.{Settling, settling_start, pair-coded, settling_next, settling_none, settling_done}

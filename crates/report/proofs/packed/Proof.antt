@@ -1,5 +1,6 @@
 -- `report::packed` meets its contract.
-use Rattle.prelude.specs.Names.{arith, ◌∙◌, ◌++◌, length-append}
+use Rattle.std.specs.Prelude.{◌++◌}
+use Rattle.prelude.specs.Names.{arith, ◌∙◌, length-append}
 use Rattle.report.specs.Text.{placed_word, answer_line, item_lines}
 use Rattle.formats.proofs.Stores.{sets-front}
 use Rattle.report.proofs.Puts.{sets-joined}

@@ -1,5 +1,6 @@
 -- `report::refused` meets its contract.
-use Rattle.prelude.specs.Names.{rules, arith, [], ◌∷◌}
+use Rattle.std.specs.Prelude.{◌∷◌}
+use Rattle.prelude.specs.Names.{rules, arith, []}
 use Rattle.report.proofs.Puts.{fields_short, line-front}
 use Rattle.report.specs.Text.{refused_word}
 use Rattle.report.proofs.refused.Tie as tie

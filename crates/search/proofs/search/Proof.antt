@@ -1,5 +1,6 @@
 -- `search::search` meets its contract.
-use Rattle.prelude.specs.Names.{true, ◌≡◌, sym, ◌∙◌, ◌≤◌, arith, rules, not-true, not-false}
+use Rattle.std.specs.Prelude.{◌≡◌, ◌≤◌}
+use Rattle.prelude.specs.Names.{true, sym, ◌∙◌, arith, rules, not-true, not-false}
 use Rattle.model.specs.Turning.{last_choice}
 use Rattle.model.specs.Series.{stage}
 use Rattle.instance.proofs.Arrays.{length_mapped}

@@ -1,5 +1,6 @@
 -- `test_exports::exports_record_byte` meets its contract: within the record its byte, past its end 256.
-use Rattle.prelude.specs.Names.{◌≡◌, sym, ap, ◌∙◌, Bool, cond, List, ℕ, ◌<◌, ◌≤◌, length, get_or, lt-ltb, le-ltb, rules}
+use Rattle.std.specs.Prelude.{◌≡◌, ◌<◌, ◌≤◌}
+use Rattle.prelude.specs.Names.{sym, ap, ◌∙◌, Bool, cond, List, ℕ, length, get_or, lt-ltb, le-ltb, rules}
 use Rattle.test_exports.specs.Exports.{record_byte}
 use Rattle.test_exports.proofs.exports_record_byte.Tie as tie
 

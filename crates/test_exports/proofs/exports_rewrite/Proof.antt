@@ -1,5 +1,6 @@
 -- `test_exports::exports_rewrite` meets its contract: where the sheet reads, what writing returns and leaves; else nothing.
-use Rattle.prelude.specs.Names.{◌≡◌, refl, sym, inl, inr, rules}
+use Rattle.std.specs.Prelude.{◌≡◌}
+use Rattle.prelude.specs.Names.{refl, sym, inl, inr, rules}
 use Rattle.refusal.specs.declared.Refusal.{Refusal}
 use Rattle.refusal.specs.Numbers.{number_of, place_of}
 use Rattle.instance.specs.declared.ReadResult.{ReadResult}

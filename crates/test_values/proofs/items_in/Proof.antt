@@ -1,5 +1,6 @@
 -- `test_values::items_in` meets its contract. Invariant: the first i items are filled. Measure: the items left.
-use Rattle.prelude.specs.Names.{◌+◌, ◌*◌, ◌-◌, arith, rules}
+use Rattle.std.specs.Prelude.{◌+◌, ◌*◌, ◌-◌}
+use Rattle.prelude.specs.Names.{arith, rules}
 use Rattle.test_values.specs.Values.{item_in}
 use Rattle.test_values.proofs.Tables.{Filled, fill_none, fill_next, fill_all}
 use Rattle.test_values.proofs.items_in.Tie as tie

@@ -1,5 +1,6 @@
 -- `test_values::marks_at` meets its contract. Invariant: the first u marks are filled. Measure: the marks left.
-use Rattle.prelude.specs.Names.{refl, ◌+◌, ◌-◌, arith, rules}
+use Rattle.std.specs.Prelude.{◌+◌, ◌-◌}
+use Rattle.prelude.specs.Names.{refl, arith, rules}
 use Rattle.sheet.specs.Places.{byte_at}
 use Rattle.test_values.proofs.Tables.{Filled, fill_none, fill_next, fill_all}
 use Rattle.test_values.proofs.marks_at.Tie as tie

@@ -1,5 +1,6 @@
 -- `test_values::positions_at` meets its contract. Invariant: the first u positions are filled. Measure: the positions left.
-use Rattle.prelude.specs.Names.{refl, ◌+◌, ◌*◌, ◌-◌, arith, rules}
+use Rattle.std.specs.Prelude.{◌+◌, ◌*◌, ◌-◌}
+use Rattle.prelude.specs.Names.{refl, arith, rules}
 use Rattle.test_values.specs.Values.{position_in}
 use Rattle.test_values.proofs.Tables.{Filled, fill_none, fill_next, fill_all}
 use Rattle.test_values.proofs.positions_at.Tie as tie

@@ -1,5 +1,6 @@
 -- `test_values::precedences_in` meets its contract. Invariant: the first i precedences are filled. Measure: the precedences left.
-use Rattle.prelude.specs.Names.{◌+◌, ◌*◌, ◌-◌, arith, rules}
+use Rattle.std.specs.Prelude.{◌+◌, ◌*◌, ◌-◌}
+use Rattle.prelude.specs.Names.{arith, rules}
 use Rattle.test_values.specs.Values.{precedence_in}
 use Rattle.test_values.proofs.Tables.{Filled, fill_none, fill_next, fill_all}
 use Rattle.test_values.proofs.precedences_in.Tie as tie

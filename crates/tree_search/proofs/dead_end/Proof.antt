@@ -1,5 +1,6 @@
 -- `tree_search::dead_end` meets its contract: no look is behind it.
-use Rattle.prelude.specs.Names.{[], ◌≡◌, refl, sym, ap, ◌∙◌, ℕ, ◌+◌, ◌-◌, arith, rules}
+use Rattle.std.specs.Prelude.{◌≡◌, ◌+◌, ◌-◌}
+use Rattle.prelude.specs.Names.{[], refl, sym, ap, ◌∙◌, ℕ, arith, rules}
 use Rattle.tree_paths.specs.Checkpoints.{branches_of}
 use Rattle.tree_search.specs.Results.{infeasible_after, spent_after}
 use Rattle.tree_search.proofs.Stepping.{progress_root, result_not_following, result_infeasible, result_spent}

@@ -1,5 +1,6 @@
 -- `tree_search::repeat` meets its contract.
-use Rattle.prelude.specs.Names.{◌≡◌, ◌∙◌, ℕ, arith, rules}
+use Rattle.std.specs.Prelude.{◌≡◌}
+use Rattle.prelude.specs.Names.{◌∙◌, ℕ, arith, rules}
 use Rattle.instance.specs.Meaning.{problem_of}
 use Rattle.tree_paths.specs.Checkpoints.{path_of}
 use Rattle.tree_search.proofs.Outcomes.{again_packed, again_not}

@@ -1,6 +1,7 @@
 -- `tree_search::run` meets its contract. Invariant: so many looks have led, along the path given and on by steps, to the path whose
 -- domains are in the arrays, with a snapshot of each branching point at which it takes the first branch. Measure: the looks left.
-use Rattle.prelude.specs.Names.{List, [], ◌≡◌, refl, sym, ap, ◌∙◌, subst, ℕ, ◌+◌, ◌-◌, ◌≤◌, ◌<◌, arith, get_or, length-replicate, rules, not-true, not-false}
+use Rattle.std.specs.Prelude.{◌≡◌, ◌+◌, ◌-◌, ◌≤◌, ◌<◌}
+use Rattle.prelude.specs.Names.{List, [], refl, sym, ap, ◌∙◌, subst, ℕ, arith, get_or, length-replicate, rules, not-true, not-false}
 use Rattle.model.proofs.Slots.{proper-up, proper-wide}
 use Rattle.model.proofs.Theorems.{path_270}
 use Rattle.model.specs.Admits.{Sound}

@@ -1,5 +1,6 @@
 -- `turning::last_choice` meets its contract. Invariant: so many choices are there for the items from u on. Measure: the items left.
-use Rattle.prelude.specs.Names.{◌≡◌, sym, ap, ◌∙◌, ℕ, suc, ◌-◌, ◌≤◌, arith, rules}
+use Rattle.std.specs.Prelude.{◌≡◌, ◌-◌, ◌≤◌}
+use Rattle.prelude.specs.Names.{sym, ap, ◌∙◌, ℕ, suc, arith, rules}
 use Rattle.model.specs.Turning.{choice_count}
 use Rattle.turning.specs.Turned.{may_turn_of}
 use Rattle.turning.proofs.Counts.{count_512, count_1024, count_some, may_turn-at, count_next, last_choice-is}

@@ -1,5 +1,6 @@
 -- `turning::marks_allowed` meets its contract. Invariant: the marks of all items are allowed exactly where those of the first u are. Measure: the items left.
-use Rattle.prelude.specs.Names.{Bool, ◌&&◌, ◌≡◌, refl, sym, ◌∙◌, ℕ, ◌-◌, ◌≤◌, arith, rules, get_or, not-true, not-false}
+use Rattle.std.specs.Prelude.{◌&&◌, ◌≡◌, ◌-◌, ◌≤◌}
+use Rattle.prelude.specs.Names.{Bool, refl, sym, ◌∙◌, ℕ, arith, rules, get_or, not-true, not-false}
 use Rattle.model.specs.Below.{all_below}
 use Rattle.parts.specs.Sizes.{no_item}
 use Rattle.turning.specs.Turned.{mark_allowed, marks_allowed}

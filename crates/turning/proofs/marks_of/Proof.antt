@@ -1,6 +1,7 @@
 -- `turning::marks_of` meets its contract. Invariant: the first u marks are the choice's, the others 0, and its digits from u on are left. Measure: the items
 -- left.
-use Rattle.prelude.specs.Names.{◌≡◌, refl, sym, ap, ◌∙◌, ℕ, ◌-◌, ◌≤◌, arith, rules, get_or, replicate}
+use Rattle.std.specs.Prelude.{◌≡◌, ◌-◌, ◌≤◌}
+use Rattle.prelude.specs.Names.{refl, sym, ap, ◌∙◌, ℕ, arith, rules, get_or, replicate}
 use Rattle.model.specs.Turning.{marks_of, digits_from}
 use Rattle.parts.specs.Sizes.{no_item}
 use Rattle.turning.specs.Turned.{may_turn_of, turnable_of, mark_of, choice_marks, digit_of, digits_after}

@@ -1,5 +1,6 @@
 -- `turning::turned_items` meets its contract. Invariant: the first u items are turned or not, by their marks. Measure: the items left.
-use Rattle.prelude.specs.Names.{◌-◌, arith, rules, get_or}
+use Rattle.std.specs.Prelude.{◌-◌}
+use Rattle.prelude.specs.Names.{arith, rules, get_or}
 use Rattle.instance.proofs.Arrays.{length_mapped}
 use Rattle.parts.specs.Sizes.{no_item}
 use Rattle.turning.specs.Turned.{marks_in, turned_item, turned_items}

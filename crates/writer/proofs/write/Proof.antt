@@ -1,5 +1,6 @@
 -- `writer::write` meets its contract.
-use Rattle.prelude.specs.Names.{arith, true, ◌≡◌, sym, ◌∙◌, ◌≤◌, ◌<◌, length, lt-ltb, le-ltb, le-leb, lt-leb, not-true, not-false, rules}
+use Rattle.std.specs.Prelude.{◌≡◌, ◌≤◌, ◌<◌}
+use Rattle.prelude.specs.Names.{arith, true, sym, ◌∙◌, length, lt-ltb, le-ltb, le-leb, lt-leb, not-true, not-false, rules}
 use Rattle.formats.proofs.Stores.{sets-front}
 use Rattle.instance.specs.Valid.{valid}
 use Rattle.instance.specs.Sheets.{encode}

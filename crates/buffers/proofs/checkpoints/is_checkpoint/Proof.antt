@@ -1,5 +1,6 @@
 -- `buffers::checkpoints::is_checkpoint` meets its contract.
-use Rattle.prelude.specs.Names.{◌≤◌, ◌<◌, arith, get_or, lt-ltb, le-ltb, rules}
+use Rattle.std.specs.Prelude.{◌≤◌, ◌<◌}
+use Rattle.prelude.specs.Names.{arith, get_or, lt-ltb, le-ltb, rules}
 use Rattle.buffers.specs.Checkpoints.{is_checkpoint}
 use Rattle.buffers.proofs.checkpoints.is_checkpoint.Tie as tie
 

@@ -1,5 +1,6 @@
 -- `buffers::checkpoints::read_branches` meets its contract. Invariant: the first i branches are read. Measure: the branches left.
-use Rattle.prelude.specs.Names.{◌≡◌, refl, ◌∙◌, ◌-◌, ◌≤◌, arith, length, take, replicate, length-set, sets}
+use Rattle.std.specs.Prelude.{◌≡◌, ◌-◌, ◌≤◌}
+use Rattle.prelude.specs.Names.{refl, ◌∙◌, arith, length, take, replicate, length-set, sets}
 use Rattle.buffers.specs.Checkpoints.{branches_in}
 use Rattle.buffers.proofs.CheckpointBytes.{branches_next, branches_read}
 use Rattle.buffers.proofs.checkpoints.read_branches.Tie as tie

@@ -1,5 +1,6 @@
 -- `buffers::checkpoints::write_branches` meets its contract. Invariant: the first i branches are written. Measure: the branches left.
-use Rattle.prelude.specs.Names.{◌≡◌, refl, ◌-◌, ◌≤◌, arith, length, take, length-set, sets, take_all, rules}
+use Rattle.std.specs.Prelude.{◌≡◌, ◌-◌, ◌≤◌}
+use Rattle.prelude.specs.Names.{refl, arith, length, take, length-set, sets, take_all, rules}
 use Rattle.formats.proofs.Stores.{sets-next}
 use Rattle.buffers.proofs.checkpoints.write_branches.Tie as tie
 

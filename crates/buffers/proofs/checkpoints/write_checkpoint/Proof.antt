@@ -1,5 +1,6 @@
 -- `buffers::checkpoints::write_checkpoint` meets its contract.
-use Rattle.prelude.specs.Names.{◌≡◌, arith, length, length-set, rules}
+use Rattle.std.specs.Prelude.{◌≡◌}
+use Rattle.prelude.specs.Names.{arith, length, length-set, rules}
 use Rattle.buffers.proofs.CheckpointBytes.{checkpoint_fills}
 use Rattle.buffers.proofs.checkpoints.write_checkpoint.Tie as tie
 

@@ -1,6 +1,7 @@
 -- `buffers::checkpoints::zero_from` meets its contract. Invariant: all bytes from i on are 0 exactly if all from `from` on are.
 -- Measure: the bytes left.
-use Rattle.prelude.specs.Names.{◌≡◌, refl, sym, ◌∙◌, ◌-◌, arith, length, drop}
+use Rattle.std.specs.Prelude.{◌≡◌, ◌-◌}
+use Rattle.prelude.specs.Names.{refl, sym, ◌∙◌, arith, length, drop}
 use Rattle.buffers.specs.Checkpoints.{all_zero}
 use Rattle.buffers.proofs.CheckpointBytes.{zero-pass, zero_fail, zero-done}
 use Rattle.buffers.proofs.checkpoints.zero_from.Tie as tie

@@ -1,5 +1,6 @@
 -- `buffers::plans::read_packing` meets its contract. Invariant: the first u positions and marks are read, the others 0. Measure: the items left.
-use Rattle.prelude.specs.Names.{◌≡◌, refl, ◌-◌, ◌≤◌, arith, rules}
+use Rattle.std.specs.Prelude.{◌≡◌, ◌-◌, ◌≤◌}
+use Rattle.prelude.specs.Names.{refl, arith, rules}
 use Rattle.instance.specs.Values.{origin}
 use Rattle.buffers.specs.Bytes.{plan_position, plan_mark}
 use Rattle.buffers.proofs.Bytes.{ReadTo, read_none, read_next, read_all}

@@ -1,5 +1,6 @@
 -- `buffers::plans::write_packing` meets its contract. Invariant: the first u pieces are written. Measure: the items left.
-use Rattle.prelude.specs.Names.{◌≡◌, refl, ◌∙◌, ◌-◌, ◌≤◌, arith, length, sets, rules}
+use Rattle.std.specs.Prelude.{◌≡◌, ◌-◌, ◌≤◌}
+use Rattle.prelude.specs.Names.{refl, ◌∙◌, arith, length, sets, rules}
 use Rattle.buffers.specs.Bytes.{packing_bytes}
 use Rattle.buffers.proofs.Bytes.{pieces_next, packing_fills}
 use Rattle.buffers.proofs.plans.write_packing.Tie as tie

@@ -1,5 +1,6 @@
 -- `c_api::finish::finish_instance` meets its contract.
-use Rattle.prelude.specs.Names.{true, arith, ◌≡◌, refl, sym, subst, ◌∙◌, ◌<◌, length, not-true, not-false, rules}
+use Rattle.std.specs.Prelude.{◌≡◌, ◌<◌}
+use Rattle.prelude.specs.Names.{true, arith, refl, sym, subst, ◌∙◌, length, not-true, not-false, rules}
 use Rattle.instance.proofs.Sheets.{valid-says}
 use Rattle.search.specs.Results.{answer_number}
 use Rattle.buffers.proofs.Bytes.{fills}

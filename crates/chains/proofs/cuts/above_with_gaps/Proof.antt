@@ -1,6 +1,7 @@
 -- `chains::cuts::above_with_gaps` meets its contract. Invariant: the set has, of the items below v, those above the limit with what lies between. Measure: the
 -- items from v on.
-use Rattle.prelude.specs.Names.{◌≡◌, ◌+◌, ◌-◌, ◌≤◌, rules, arith, ltb, get_or, pow_mono, lt-ltb, le-ltb}
+use Rattle.std.specs.Prelude.{◌≡◌, ◌+◌, ◌-◌, ◌≤◌}
+use Rattle.prelude.specs.Names.{rules, arith, ltb, get_or, pow_mono, lt-ltb, le-ltb}
 use Rattle.domains.specs.Bits.{Gives}
 use Rattle.chains.proofs.Cutting.{gives_none, gives_shifted, gives_skip}
 use Rattle.chains.proofs.cuts.above_with_gaps.Tie as tie

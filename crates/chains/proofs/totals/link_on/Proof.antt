@@ -1,6 +1,7 @@
 -- `chains::totals::link_on` meets its contract. Invariant: totals are raised along links alone, and go on along that from u to v and those
 -- from every item that grew, but from the items of `todo`. Measure: how much the totals may still grow, and then `todo` as a number.
-use Rattle.prelude.specs.Names.{◌+◌, ◌*◌, arith, rules, not-true, not-false}
+use Rattle.std.specs.Prelude.{◌+◌, ◌*◌}
+use Rattle.prelude.specs.Names.{arith, rules, not-true, not-false}
 use Rattle.chains.proofs.ChainMeasure.{room}
 use Rattle.chains.proofs.Relaxing.{link-given, first_bursts, Progress, progress_start, progress_item, progress_given, progress_bursts}
 use Rattle.chains.proofs.Relaxing.{progress_next, progress_falls, progress_end}

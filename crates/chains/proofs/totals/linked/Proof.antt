@@ -1,5 +1,6 @@
 -- `chains::totals::linked` meets its contract.
-use Rattle.prelude.specs.Names.{and-true, ◌/◌, ◌*◌, ◌^◌, arith, bit_and, rules}
+use Rattle.std.specs.Prelude.{◌/◌, ◌*◌, ◌^◌}
+use Rattle.prelude.specs.Names.{and-true, arith, bit_and, rules}
 use Rattle.domains.proofs.BitLaws.{bit-and, bit_shr, bit_ones, and_small-right}
 use Rattle.chains.proofs.totals.linked.Tie as tie
 

@@ -1,5 +1,6 @@
 -- `domains::access::index` meets its contract.
-use Rattle.prelude.specs.Names.{rules, arith, ap, ℕ, ◌+◌, ◌*◌}
+use Rattle.std.specs.Prelude.{◌+◌, ◌*◌}
+use Rattle.prelude.specs.Names.{rules, arith, ap, ℕ}
 use Rattle.model.specs.Domains.{index}
 use Rattle.model.proofs.Slots.{index-small}
 use Rattle.domains.proofs.access.index.Tie as tie

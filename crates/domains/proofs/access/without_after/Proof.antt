@@ -1,5 +1,6 @@
 -- `domains::access::without_after` meets its contract.
-use Rattle.prelude.specs.Names.{arith, ◌/◌, rules}
+use Rattle.std.specs.Prelude.{◌/◌}
+use Rattle.prelude.specs.Names.{arith, rules}
 use Rattle.model.specs.Domains.{domain, overlap_bit, before_bit, after_bit}
 use Rattle.domains.proofs.BitLaws.{weigh}
 use Rattle.domains.proofs.access.without_after.Tie as tie

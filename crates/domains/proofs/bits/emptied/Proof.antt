@@ -1,5 +1,6 @@
 -- `domains::bits::emptied` meets its contract.
-use Rattle.prelude.specs.Names.{and_assoc, ◌/◌, ◌^◌, arith, bit_and}
+use Rattle.std.specs.Prelude.{◌/◌, ◌^◌}
+use Rattle.prelude.specs.Names.{and_assoc, arith, bit_and}
 use Rattle.domains.proofs.BitLaws.{bit-and, bit_shr, and_small-right}
 use Rattle.domains.proofs.bits.emptied.Tie as tie
 

@@ -1,5 +1,6 @@
 -- `domains::bits::following` meets its contract.
-use Rattle.prelude.specs.Names.{◌/◌, ◌^◌, arith}
+use Rattle.std.specs.Prelude.{◌/◌, ◌^◌}
+use Rattle.prelude.specs.Names.{arith}
 use Rattle.domains.proofs.BitLaws.{bit-and, bit_shr, and_small-right}
 use Rattle.domains.proofs.bits.following.Tie as tie
 

@@ -1,5 +1,6 @@
 -- `domains::bits::leading` meets its contract.
-use Rattle.prelude.specs.Names.{and-true, ◌/◌, ◌^◌, arith, bit_and}
+use Rattle.std.specs.Prelude.{◌/◌, ◌^◌}
+use Rattle.prelude.specs.Names.{and-true, arith, bit_and}
 use Rattle.domains.proofs.BitLaws.{bit-and, bit_shr, bit_ones, and_small-right}
 use Rattle.domains.proofs.bits.leading.Tie as tie
 

@@ -1,5 +1,6 @@
 -- `domains::removal::remove_from` meets its contract.
-use Rattle.prelude.specs.Names.{◌≡◌, arith, rules}
+use Rattle.std.specs.Prelude.{◌≡◌}
+use Rattle.prelude.specs.Names.{arith, rules}
 use Rattle.model.specs.Relations.{without}
 use Rattle.domains.proofs.removal.remove_from.Tie as tie
 

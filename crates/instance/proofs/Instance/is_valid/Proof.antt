@@ -1,5 +1,6 @@
 -- `instance::Instance::is_valid` meets its contract.
-use Rattle.prelude.specs.Names.{◌≡◌, sym, ◌∙◌, map, ◌&&◌, le-leb, lt-leb, not-true, not-false, rules}
+use Rattle.std.specs.Prelude.{◌≡◌, ◌&&◌}
+use Rattle.prelude.specs.Names.{sym, ◌∙◌, map, le-leb, lt-leb, not-true, not-false, rules}
 use Rattle.parts.specs.declared.Previous.TheVariants.{Nothing}
 use Rattle.parts.specs.Precedences.{arc_of, all_allowed}
 use Rattle.parts.specs.Sizes.{size_in_range, all_in_range}

@@ -1,5 +1,6 @@
 -- `instance::Instance::read` meets its contract.
-use Rattle.prelude.specs.Names.{◌-◌, ◌≤◌, arith, refl, ◌∙◌, length, length-drop, drop-drop, rules}
+use Rattle.std.specs.Prelude.{◌-◌, ◌≤◌}
+use Rattle.prelude.specs.Names.{arith, refl, ◌∙◌, length, length-drop, drop-drop, rules}
 use Rattle.formats.proofs.Entries.{rest_of}
 use Rattle.formats.proofs.Run.{run_took}
 use Rattle.instance.specs.Answers.{empty_instance}

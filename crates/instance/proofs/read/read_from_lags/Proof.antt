@@ -1,5 +1,6 @@
 -- `instance::read::read_from_lags` meets its contract.
-use Rattle.prelude.specs.Names.{◌≤◌, arith, ◌∙◌, length, length-drop, rules}
+use Rattle.std.specs.Prelude.{◌≤◌}
+use Rattle.prelude.specs.Names.{arith, ◌∙◌, length, length-drop, rules}
 use Rattle.formats.proofs.Entries.{rest_of}
 use Rattle.formats.proofs.Run.{run_took}
 use Rattle.instance.proofs.Readers.{lags-run, precedences-count, lagged_padding, lagged_orders, lagged-lags_are}

@@ -1,5 +1,6 @@
 -- `instance::read::read_from_walkway` meets its contract.
-use Rattle.prelude.specs.Names.{◌<◌, length, drop, length-drop, arith, ◌≡◌, ◌∙◌, rules}
+use Rattle.std.specs.Prelude.{◌<◌, ◌≡◌}
+use Rattle.prelude.specs.Names.{length, drop, length-drop, arith, ◌∙◌, rules}
 use Rattle.formats.proofs.Run.{run_took}
 use Rattle.sheet.specs.Sheet.{walkway}
 use Rattle.instance.proofs.Readers.{walkway-run, draft_is, bytes_left, no-bytes-left}

@@ -1,6 +1,7 @@
 -- `nodes::branching::choose` meets its contract. Outer invariant: every pair from `from` on and before `number` has a known "before".
 -- Measure: the pairs left. Inner invariant: no axis of the pair before `a` has more than one relation left. Measure: the axes left.
-use Rattle.prelude.specs.Names.{arith, true, false, ◌≡◌, refl, sym, ◌∙◌, ℕ, ◌+◌, ◌*◌, ◌-◌, ◌≤◌, ◌<◌, get_or, not-true, not-false}
+use Rattle.std.specs.Prelude.{◌≡◌, ◌+◌, ◌*◌, ◌-◌, ◌≤◌, ◌<◌}
+use Rattle.prelude.specs.Names.{arith, true, false, refl, sym, ◌∙◌, ℕ, get_or, not-true, not-false}
 use Rattle.model.specs.FirstBranches.{Passed}
 use Rattle.model.proofs.Pairs.{pair-count-small}
 use Rattle.nodes.specs.declared.branching.Branching.TheVariants.{Packed}

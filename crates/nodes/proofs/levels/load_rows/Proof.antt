@@ -1,5 +1,6 @@
 -- `nodes::levels::load_rows` meets its contract. Invariant: the first i elements are copied, all else stays. Measure: the elements left.
-use Rattle.prelude.specs.Names.{arith, ◌*◌, ◌-◌}
+use Rattle.std.specs.Prelude.{◌*◌, ◌-◌}
+use Rattle.prelude.specs.Names.{arith}
 use Rattle.nodes.proofs.Snapshots.{Copying, copying_none, copying_next, loaded}
 use Rattle.nodes.proofs.levels.load_rows.Tie as tie
 

@@ -1,5 +1,6 @@
 -- `nodes::levels::save_domains` meets its contract. Invariant: the first i elements are copied, all else stays. Measure: the elements left.
-use Rattle.prelude.specs.Names.{arith, ◌*◌, ◌-◌}
+use Rattle.std.specs.Prelude.{◌*◌, ◌-◌}
+use Rattle.prelude.specs.Names.{arith}
 use Rattle.nodes.proofs.Snapshots.{Copying, copying_none, copying_next, stored}
 use Rattle.nodes.proofs.levels.save_domains.Tie as tie
 

@@ -1,5 +1,6 @@
 -- `nodes::starts::starts_of` meets its contract. Invariant: the positions below u are placed, the others 0. Measure: the items left.
-use Rattle.prelude.specs.Names.{arith, ◌≡◌, refl, ◌∙◌, ℕ, ◌+◌, ◌-◌, ◌≤◌, ◌<◌, List, get_or, length, length-set}
+use Rattle.std.specs.Prelude.{◌≡◌, ◌+◌, ◌-◌, ◌≤◌, ◌<◌}
+use Rattle.prelude.specs.Names.{arith, refl, ◌∙◌, ℕ, List, get_or, length, length-set}
 use Rattle.model.proofs.Below.{below_three}
 use Rattle.instance.specs.declared.Position.{Position}
 use Rattle.instance.specs.Meaning.{start}

@@ -1,6 +1,7 @@
 -- `opening::layout::any_large` meets its contract. Invariant: no item at a place below i is above the container's measure.
 -- Measure: the places left.
-use Rattle.prelude.specs.Names.{◌≡◌, ℕ, ◌+◌, ◌*◌, ◌/◌, ◌%◌, ◌-◌, ◌≤◌, ◌<◌, arith, get_or}
+use Rattle.std.specs.Prelude.{◌≡◌, ◌+◌, ◌*◌, ◌/◌, ◌%◌, ◌-◌, ◌≤◌, ◌<◌}
+use Rattle.prelude.specs.Names.{ℕ, arith, get_or}
 use Rattle.nodes.proofs.Loops.{below_more}
 use Rattle.opening.proofs.layout.any_large.Tie as tie
 

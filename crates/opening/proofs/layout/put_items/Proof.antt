@@ -1,6 +1,7 @@
 -- `opening::layout::put_items` meets its contract. Invariant: the first u items are laid out, and nothing is above the greatest measure with its walkway.
 -- Measure: the items left.
-use Rattle.prelude.specs.Names.{rules, arith, ℕ, ◌-◌, ◌≤◌, ◌<◌, get_or, set}
+use Rattle.std.specs.Prelude.{◌-◌, ◌≤◌, ◌<◌}
+use Rattle.prelude.specs.Names.{rules, arith, ℕ, get_or, set}
 use Rattle.parts.specs.Sizes.{max_measure, no_item}
 use Rattle.parts.specs.declared.Size.{Size}
 use Rattle.instance.specs.Meaning.{measure_on}

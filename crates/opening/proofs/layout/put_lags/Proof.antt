@@ -1,5 +1,6 @@
 -- `opening::layout::put_lags` meets its contract. Invariant: the lags of the first i precedences are put, and the measures stay. Measure: the precedences left.
-use Rattle.prelude.specs.Names.{rules, arith, List, refl, ◌≡◌, ℕ, ◌∙◌, ◌+◌, ◌-◌, ◌≤◌, ◌<◌, get_or, length, take}
+use Rattle.std.specs.Prelude.{◌≡◌, ◌+◌, ◌-◌, ◌≤◌, ◌<◌}
+use Rattle.prelude.specs.Names.{rules, arith, List, refl, ℕ, ◌∙◌, get_or, length, take}
 use Rattle.model.specs.Order.{Proper}
 use Rattle.parts.specs.declared.Precedence.{Precedence}
 use Rattle.parts.specs.Sizes.{no_precedence}

@@ -1,5 +1,6 @@
 -- `opening::layout::put_row` meets its contract. Invariant: the first z steps of the row are put, and all else stays. Measure: the steps left.
-use Rattle.prelude.specs.Names.{rules, ◌-◌}
+use Rattle.std.specs.Prelude.{◌-◌}
+use Rattle.prelude.specs.Names.{rules}
 use Rattle.opening.proofs.Lags.{Rowing, rowing_none, rowing_next, rowing_done}
 use Rattle.opening.proofs.layout.put_row.Tie as tie
 

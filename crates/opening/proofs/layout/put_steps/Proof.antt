@@ -1,5 +1,6 @@
 -- `opening::layout::put_steps` meets its contract. Invariant: the first i rows are put. Measure: the rows left.
-use Rattle.prelude.specs.Names.{rules, arith, ◌≡◌, ◌-◌, ◌≤◌}
+use Rattle.std.specs.Prelude.{◌≡◌, ◌-◌, ◌≤◌}
+use Rattle.prelude.specs.Names.{rules, arith}
 use Rattle.opening.specs.Layout.{Stepped}
 use Rattle.opening.proofs.Lags.{steps-none, steps_next}
 use Rattle.opening.proofs.layout.put_steps.Tie as tie

@@ -1,5 +1,6 @@
 -- `packing::axes::ends_ahead` meets its contract.
-use Rattle.prelude.specs.Names.{ap, ap₂, ◌+◌, leb, rules}
+use Rattle.std.specs.Prelude.{◌+◌}
+use Rattle.prelude.specs.Names.{ap, ap₂, leb, rules}
 use Rattle.packing.proofs.axes.ends_ahead.Tie as tie
 
 pub ends_ahead_spec : {M : Type 1} → Rattle.packing.proofs.axes.ends_ahead.Statement.statement M

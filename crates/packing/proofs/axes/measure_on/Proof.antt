@@ -1,5 +1,6 @@
 -- `packing::axes::measure_on` meets its contract.
-use Rattle.prelude.specs.Names.{◌≡◌, refl, rules}
+use Rattle.std.specs.Prelude.{◌≡◌}
+use Rattle.prelude.specs.Names.{refl, rules}
 use Rattle.instance.specs.Meaning.{measure_on}
 use Rattle.packing.proofs.Loops.{last_axis}
 use Rattle.packing.proofs.axes.measure_on.Tie as tie

@@ -1,5 +1,6 @@
 -- `packing::axes::start_on` meets its contract.
-use Rattle.prelude.specs.Names.{◌≡◌, refl, rules}
+use Rattle.std.specs.Prelude.{◌≡◌}
+use Rattle.prelude.specs.Names.{refl, rules}
 use Rattle.instance.specs.Meaning.{start}
 use Rattle.packing.proofs.Loops.{last_axis}
 use Rattle.packing.proofs.axes.start_on.Tie as tie

@@ -1,5 +1,6 @@
 -- `packing::feasible::all_are_kept` meets its contract. Invariant: the first i precedences are kept. Measure: the precedences left.
-use Rattle.prelude.specs.Names.{rules, not-true, not-false, arith, ◌≡◌, ◌-◌, ◌≤◌, length, get_or}
+use Rattle.std.specs.Prelude.{◌≡◌, ◌-◌, ◌≤◌}
+use Rattle.prelude.specs.Names.{rules, not-true, not-false, arith, length, get_or}
 use Rattle.parts.specs.Sizes.{no_precedence}
 use Rattle.packing.specs.Parts.{precedence_kept}
 use Rattle.packing.proofs.Loops.{Passed, all_more, all_fails, all_done, kept-is, kept_loop}

@@ -1,5 +1,6 @@
 -- `packing::feasible::apart` meets its contract. Invariant: each item below u is apart from every item of a lower number. Measure: the items left.
-use Rattle.prelude.specs.Names.{rules, not-true, not-false, ◌-◌}
+use Rattle.std.specs.Prelude.{◌-◌}
+use Rattle.prelude.specs.Names.{rules, not-true, not-false}
 use Rattle.instance.specs.Meaning.{problem_of, positions_of}
 use Rattle.packing.specs.Parts.{apart_from_lower}
 use Rattle.packing.proofs.Loops.{Passed, all_more, all_fails, all_done, apart_by}

@@ -1,6 +1,7 @@
 -- `packing::feasible::apart_from_lower_items` meets its contract. Invariant: item u is apart from each item below v. Measure: the lower items
 -- left.
-use Rattle.prelude.specs.Names.{rules, not-true, not-false, ◌-◌}
+use Rattle.std.specs.Prelude.{◌-◌}
+use Rattle.prelude.specs.Names.{rules, not-true, not-false}
 use Rattle.instance.specs.Meaning.{problem_of, positions_of}
 use Rattle.model.specs.Problem.{apart_on_some_axis}
 use Rattle.packing.specs.Parts.{apart_from_lower}

@@ -1,5 +1,6 @@
 -- `packing::feasible::apart_on_some_axis` meets its contract. Invariant: on no axis so far are the two items parted. Measure: the axes left.
-use Rattle.prelude.specs.Names.{rules, ◌-◌}
+use Rattle.std.specs.Prelude.{◌-◌}
+use Rattle.prelude.specs.Names.{rules}
 use Rattle.packing.proofs.Loops.{Failed, parted_on, parted_left, parted_right, parted_more, parted, not_parted}
 use Rattle.packing.proofs.feasible.apart_on_some_axis.Tie as tie
 

@@ -1,5 +1,6 @@
 -- `packing::feasible::inside` meets its contract. Invariant: on the axes so far every item is inside. Measure: the axes left.
-use Rattle.prelude.specs.Names.{rules, not-true, not-false, ◌-◌}
+use Rattle.std.specs.Prelude.{◌-◌}
+use Rattle.prelude.specs.Names.{rules, not-true, not-false}
 use Rattle.instance.specs.Meaning.{problem_of, positions_of}
 use Rattle.packing.specs.Parts.{inside_on}
 use Rattle.packing.proofs.Loops.{Passed, all_more, all_fails, all_done, inside_loop}

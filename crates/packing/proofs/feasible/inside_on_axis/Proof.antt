@@ -1,5 +1,6 @@
 -- `packing::feasible::inside_on_axis` meets its contract. Invariant: on the axis the first u items are inside. Measure: the items left.
-use Rattle.prelude.specs.Names.{rules, le-leb, lt-leb, ◌-◌}
+use Rattle.std.specs.Prelude.{◌-◌}
+use Rattle.prelude.specs.Names.{rules, le-leb, lt-leb}
 use Rattle.packing.proofs.Loops.{Passed, all_more, all_fails, all_done, within_limit, within_limit_is, inside_by}
 use Rattle.packing.proofs.feasible.inside_on_axis.Tie as tie
 

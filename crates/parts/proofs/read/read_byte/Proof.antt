@@ -1,5 +1,6 @@
 -- `parts::read::read_byte` meets its contract.
-use Rattle.prelude.specs.Names.{◌≡◌, arith, get_or, add-zero, lt-leb, le-ltb}
+use Rattle.std.specs.Prelude.{◌≡◌}
+use Rattle.prelude.specs.Names.{arith, get_or, add-zero, lt-leb, le-ltb}
 use Rattle.parts.proofs.Readers.{byte_number-run}
 use Rattle.parts.proofs.Answers.{answers}
 use Rattle.parts.proofs.read.read_byte.Tie as tie

@@ -1,5 +1,6 @@
 -- `parts::read::read_measure` meets its contract.
-use Rattle.prelude.specs.Names.{◌≡◌, cond, ℕ, ◌+◌, ◌*◌, arith, leb, ltb, drop, lt-ltb, le-ltb, le-leb, lt-leb, add-zero}
+use Rattle.std.specs.Prelude.{◌≡◌, ◌+◌, ◌*◌}
+use Rattle.prelude.specs.Names.{cond, ℕ, arith, leb, ltb, drop, lt-ltb, le-ltb, le-leb, lt-leb, add-zero}
 use Rattle.refusal.specs.declared.Refusal.TheVariants.{WrittenDefault, TooLarge}
 use Rattle.formats.specs.Reading.{got, refused, run}
 use Rattle.formats.specs.Fields.{optional_reading}

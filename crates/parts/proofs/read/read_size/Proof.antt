@@ -1,5 +1,6 @@
 -- `parts::read::read_size` meets its contract.
-use Rattle.prelude.specs.Names.{◌≡◌, ◌∙◌, ◌+◌, ◌≤◌, arith, add_assoc, length, drop, length-drop, drop-drop}
+use Rattle.std.specs.Prelude.{◌≡◌, ◌+◌, ◌≤◌}
+use Rattle.prelude.specs.Names.{◌∙◌, arith, add_assoc, length, drop, length-drop, drop-drop}
 use Rattle.formats.specs.Reading.{run}
 use Rattle.formats.specs.Fields.{fields_reading}
 use Rattle.formats.proofs.Entries.{rest_of}

@@ -1,5 +1,6 @@
 -- `parts::valid::size_in_range` meets its contract.
-use Rattle.prelude.specs.Names.{◌≡◌, sym, ◌∙◌, ◌&&◌, not-true, not-false}
+use Rattle.std.specs.Prelude.{◌≡◌, ◌&&◌}
+use Rattle.prelude.specs.Names.{sym, ◌∙◌, not-true, not-false}
 use Rattle.parts.specs.Sizes.{in_range, size_in_range}
 use Rattle.parts.proofs.Answers.{answers}
 use Rattle.parts.proofs.valid.size_in_range.Tie as tie

@@ -1,5 +1,6 @@
 -- `report::put::put_decimal` meets its contract. Measure of the recursion: the number.
-use Rattle.prelude.specs.Names.{rules, arith, div-lt_self, ◌≡◌, [], ◌∷◌, ℕ, ◌+◌, ◌/◌, ◌%◌, ◌<◌, ◌≤◌, length, length-set, length-append}
+use Rattle.std.specs.Prelude.{◌≡◌, ◌∷◌, ◌+◌, ◌/◌, ◌%◌, ◌<◌, ◌≤◌}
+use Rattle.prelude.specs.Names.{rules, arith, div-lt_self, [], ℕ, length, length-set, length-append}
 use Rattle.formats.proofs.Stores.{sets_append}
 use Rattle.report.specs.Decimal.{decimal}
 use Rattle.report.proofs.Decimals.{decimal_one, decimal-more}

@@ -1,5 +1,6 @@
 -- `report::put::put_answer` meets its contract.
-use Rattle.prelude.specs.Names.{arith, [], ◌∷◌}
+use Rattle.std.specs.Prelude.{◌∷◌}
+use Rattle.prelude.specs.Names.{arith, []}
 use Rattle.report.proofs.Puts.{fields_short, line-front}
 use Rattle.report.proofs.put.put_answer.Tie as tie
 

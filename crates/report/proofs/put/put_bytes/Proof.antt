@@ -1,5 +1,6 @@
 -- `report::put::put_bytes` meets its contract. Invariant: the first i bytes are put, and nothing else. Measure: the bytes left.
-use Rattle.prelude.specs.Names.{rules, arith, ◌≡◌, refl, ◌∙◌, ◌-◌, ◌≤◌, length, take, length-set, sets}
+use Rattle.std.specs.Prelude.{◌≡◌, ◌-◌, ◌≤◌}
+use Rattle.prelude.specs.Names.{rules, arith, refl, ◌∙◌, length, take, length-set, sets}
 use lib.Seq.{take-length}
 use Rattle.formats.proofs.Stores.{sets-next}
 use Rattle.report.proofs.put.put_bytes.Tie as tie

@@ -1,5 +1,6 @@
 -- `report::put::put_fields` meets its contract. Invariant: the fields from the i-th on, put at k, complete the text. Measure: the fields left.
-use Rattle.prelude.specs.Names.{rules, arith, ◌-◌, length-set}
+use Rattle.std.specs.Prelude.{◌-◌}
+use Rattle.prelude.specs.Names.{rules, arith, length-set}
 use Rattle.report.proofs.Puts.{Putting, putting_none, putting_room, putting_next, putting_done}
 use Rattle.report.proofs.put.put_fields.Tie as tie
 

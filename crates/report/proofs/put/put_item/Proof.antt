@@ -1,5 +1,6 @@
 -- `report::put::put_item` meets its contract.
-use Rattle.prelude.specs.Names.{rules, arith, [], ◌∷◌}
+use Rattle.std.specs.Prelude.{◌∷◌}
+use Rattle.prelude.specs.Names.{rules, arith, []}
 use Rattle.report.proofs.Puts.{item_short, line-put}
 use Rattle.report.specs.Decimal.{decimal}
 use Rattle.report.specs.Text.{item_line}

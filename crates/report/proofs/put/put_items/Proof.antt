@@ -1,5 +1,6 @@
 -- `report::put::put_items` meets its contract. Invariant: the lines of the first u items are put, and the next goes to k. Measure: the items left.
-use Rattle.prelude.specs.Names.{rules, arith, add-zero, ◌≡◌, refl, sym, ◌+◌, ◌-◌, ◌*◌, ◌≤◌, length, length-append, sets}
+use Rattle.std.specs.Prelude.{◌≡◌, ◌+◌, ◌-◌, ◌*◌, ◌≤◌}
+use Rattle.prelude.specs.Names.{rules, arith, add-zero, refl, sym, length, length-append, sets}
 use Rattle.formats.proofs.Stores.{sets_append}
 use Rattle.report.specs.Text.{item_lines}
 use Rattle.report.proofs.Puts.{items-none, items-next}

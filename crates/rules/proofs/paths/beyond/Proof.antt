@@ -1,5 +1,6 @@
 -- `rules::paths::beyond` meets its contract.
-use Rattle.prelude.specs.Names.{◌&&◌, sym, ◌∙◌, ◌+◌, arith, or_zero_r, rules}
+use Rattle.std.specs.Prelude.{◌&&◌, ◌+◌}
+use Rattle.prelude.specs.Names.{sym, ◌∙◌, arith, or_zero_r, rules}
 use Rattle.domains.specs.Bits.{bit_at}
 use Rattle.rules.proofs.Triangles.{Only, only_none, only_shift, reached_known, reached-none, reached-left}
 use Rattle.rules.proofs.paths.beyond.Tie as tie

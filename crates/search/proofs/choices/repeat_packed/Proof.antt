@@ -1,5 +1,6 @@
 -- `search::choices::repeat_packed` meets its contract.
-use Rattle.prelude.specs.Names.{◌≡◌, ap, ◌∙◌, ℕ, ◌≤◌, arith, length, rules}
+use Rattle.std.specs.Prelude.{◌≡◌, ◌≤◌}
+use Rattle.prelude.specs.Names.{ap, ◌∙◌, ℕ, arith, length, rules}
 use Rattle.model.specs.Problem.{Problem}
 use Rattle.model.specs.Turning.{choice_problem}
 use Rattle.instance.proofs.Arrays.{length_mapped}

@@ -1,6 +1,7 @@
 -- `search::choices::run` meets its contract. Invariant: the whole call is the one that is left, from the choice and its path, after the steps so far.
 -- Measure: the choices left.
-use Rattle.prelude.specs.Names.{◌≡◌, refl, sym, ◌∙◌, subst, List, ℕ, ◌+◌, ◌-◌, ◌≤◌, ◌<◌, add-one, arith, rules, not-true, not-false}
+use Rattle.std.specs.Prelude.{◌≡◌, ◌+◌, ◌-◌, ◌≤◌, ◌<◌}
+use Rattle.prelude.specs.Names.{refl, sym, ◌∙◌, subst, List, ℕ, add-one, arith, rules, not-true, not-false}
 use Rattle.model.specs.Series.{stage}
 use Rattle.model.specs.Turning.{choice_problem, last_choice}
 use Rattle.instance.proofs.Sheets.{valid-says}

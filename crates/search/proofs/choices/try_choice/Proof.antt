@@ -1,5 +1,6 @@
 -- `search::choices::try_choice` meets its contract: the instance with the choice's items turned is the choice's problem.
-use Rattle.prelude.specs.Names.{◌≡◌, ap, ◌∙◌, ℕ, length, rules}
+use Rattle.std.specs.Prelude.{◌≡◌}
+use Rattle.prelude.specs.Names.{ap, ◌∙◌, ℕ, length, rules}
 use Rattle.model.specs.Problem.{Problem}
 use Rattle.instance.proofs.Arrays.{length_mapped}
 use Rattle.instance.proofs.Sheets.{valid-says}

@@ -1,5 +1,6 @@
 -- `tree_paths::path::all_branches` meets its contract. Invariant: the test of the first n is the test of the first i. Measure: i, which falls from n.
-use Rattle.prelude.specs.Names.{◌≡◌, refl, sym, ◌∙◌, ◌≤◌, arith}
+use Rattle.std.specs.Prelude.{◌≡◌, ◌≤◌}
+use Rattle.prelude.specs.Names.{refl, sym, ◌∙◌, arith}
 use Rattle.tree_paths.specs.Checkpoints.{all_branches}
 use Rattle.tree_paths.proofs.Checkpoints.{branches_fail, branches_pass}
 use Rattle.tree_paths.proofs.path.all_branches.Tie as tie

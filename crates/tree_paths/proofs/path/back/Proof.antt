@@ -1,6 +1,7 @@
 -- `tree_paths::path::back` meets its contract. Invariant: whatever path the array held, it holds that path without some of its trailing
 -- second branches, and the step back from both is the same. Measure: the branches left.
-use Rattle.prelude.specs.Names.{List, ◌≡◌, refl, ◌∙◌, ◌≤◌, arith, length-set}
+use Rattle.std.specs.Prelude.{◌≡◌, ◌≤◌}
+use Rattle.prelude.specs.Names.{List, refl, ◌∙◌, arith, length-set}
 use Rattle.model.specs.Branching.{Branch}
 use Rattle.tree_paths.specs.Checkpoints.{PathIn}
 use Rattle.tree_paths.proofs.Checkpoints.{back-at-first, back-at_second, back-at_root}

@@ -1,5 +1,6 @@
 -- `tree_paths::path::path_branches` meets its contract. Invariant: the array holds the path of the first i branches. Measure: the branches left.
-use Rattle.prelude.specs.Names.{◌≡◌, ◌-◌, ◌≤◌, arith, get_or}
+use Rattle.std.specs.Prelude.{◌≡◌, ◌-◌, ◌≤◌}
+use Rattle.prelude.specs.Names.{arith, get_or}
 use Rattle.tree_paths.specs.Checkpoints.{branch_of, path_of, branches_of, PathIn}
 use Rattle.tree_paths.proofs.Checkpoints.{path_in_root, path_in_next, bits-next, path_next}
 use Rattle.tree_paths.proofs.path.path_branches.Tie as tie

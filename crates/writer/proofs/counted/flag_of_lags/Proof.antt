@@ -1,5 +1,6 @@
 -- `writer::counted::flag_of_lags` meets its contract.
-use Rattle.prelude.specs.Names.{rules, arith, ◌≡◌, cond, map, length, take}
+use Rattle.std.specs.Prelude.{◌≡◌}
+use Rattle.prelude.specs.Names.{rules, arith, cond, map, length, take}
 use Rattle.formats.specs.Fields.{flag}
 use Rattle.parts.specs.Precedences.{lag_of}
 use Rattle.parts.specs.Parts.{lag_list}

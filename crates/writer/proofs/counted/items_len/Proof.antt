@@ -1,6 +1,7 @@
 -- `writer::counted::items_len` meets its contract. Invariant: the sum is the length of the count and the first i items, of at
 -- most 7 bytes each. Measure: the items left.
-use Rattle.prelude.specs.Names.{arith, ◌+◌, ◌-◌, ◌*◌, ◌≤◌, ◌≡◌, length, take, length-append, rules}
+use Rattle.std.specs.Prelude.{◌+◌, ◌-◌, ◌*◌, ◌≤◌, ◌≡◌}
+use Rattle.prelude.specs.Names.{arith, length, take, length-append, rules}
 use Rattle.formats.specs.Formats.{row_bytes}
 use Rattle.formats.proofs.Stores.{row-none, row_next}
 use Rattle.parts.specs.Parts.{count_bytes, item}

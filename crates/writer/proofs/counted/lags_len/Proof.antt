@@ -1,5 +1,6 @@
 -- `writer::counted::lags_len` meets its contract.
-use Rattle.prelude.specs.Names.{rules, arith, ◌≡◌, ◌≤◌, cond, [], map, length, take}
+use Rattle.std.specs.Prelude.{◌≡◌, ◌≤◌}
+use Rattle.prelude.specs.Names.{rules, arith, cond, [], map, length, take}
 use Rattle.parts.specs.Precedences.{lag_of}
 use Rattle.instance.proofs.Arrays.{length_mapped}
 use Rattle.writer.specs.Lists.{lags_bytes}

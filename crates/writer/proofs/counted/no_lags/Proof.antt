@@ -1,6 +1,7 @@
 -- `writer::counted::no_lags` meets its contract. Invariant: the lags of the first m precedences are all 0 exactly where those from i on are. Measure: the
 -- precedences left.
-use Rattle.prelude.specs.Names.{rules, arith, ◌&&◌, map, eqb, ◌+◌, ◌-◌, ◌≤◌, ◌≡◌, refl, ◌∙◌, length, get_or, take, drop, eq-eqb, ne_eqb}
+use Rattle.std.specs.Prelude.{◌&&◌, ◌+◌, ◌-◌, ◌≤◌, ◌≡◌}
+use Rattle.prelude.specs.Names.{rules, arith, map, eqb, refl, ◌∙◌, length, get_or, take, drop, eq-eqb, ne_eqb}
 use Rattle.formats.proofs.Entries.{part_next, part_done}
 use Rattle.parts.specs.Precedences.{lag_of}
 use Rattle.parts.specs.Parts.{lags_zero}

@@ -1,5 +1,6 @@
 -- `writer::counted::write_items` meets its contract. Invariant: after the count the first i items are written. Measure: the items left.
-use Rattle.prelude.specs.Names.{arith, ◌≡◌, ◌∙◌, ◌-◌, length, length-append, rules}
+use Rattle.std.specs.Prelude.{◌≡◌, ◌-◌}
+use Rattle.prelude.specs.Names.{arith, ◌∙◌, length, length-append, rules}
 use Rattle.parts.specs.Parts.{item}
 use Rattle.parts.specs.Sizes.{no_item}
 use Rattle.writer.proofs.Rows.{Row, row-start, row_fits, row_more, row_written}

@@ -1,5 +1,6 @@
 -- `writer::counted::write_lags` meets its contract. Invariant: the first i lags are written. Measure: the lags left.
-use Rattle.prelude.specs.Names.{rules, arith, ◌≡◌, refl, ◌∙◌, [], map, ◌+◌, ◌-◌, ◌≤◌, ◌<◌, length, take, take_all, length-set, sets, add-zero}
+use Rattle.std.specs.Prelude.{◌≡◌, ◌+◌, ◌-◌, ◌≤◌, ◌<◌}
+use Rattle.prelude.specs.Names.{rules, arith, refl, ◌∙◌, [], map, length, take, take_all, length-set, sets, add-zero}
 use Rattle.formats.proofs.Stores.{sets-next}
 use Rattle.parts.specs.Precedences.{lag_of}
 use Rattle.writer.specs.Lists.{lags_bytes}

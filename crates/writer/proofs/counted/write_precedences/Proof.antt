@@ -1,6 +1,7 @@
 -- `writer::counted::write_precedences` meets its contract. Invariant: after the count the first i precedences are written. Measure: the
 -- precedences left.
-use Rattle.prelude.specs.Names.{arith, ◌≡◌, ◌∙◌, ◌-◌, ◌≤◌, length, length-append, rules}
+use Rattle.std.specs.Prelude.{◌≡◌, ◌-◌, ◌≤◌}
+use Rattle.prelude.specs.Names.{arith, ◌∙◌, length, length-append, rules}
 use Rattle.parts.specs.Precedences.{arc_of}
 use Rattle.parts.specs.Parts.{precedence}
 use Rattle.parts.specs.Sizes.{no_precedence}

@@ -1,5 +1,6 @@
 -- `search::answer::Answer::number` meets its contract.
-use Rattle.prelude.specs.Names.{ap, ℕ, ◌+◌, arith, rules}
+use Rattle.std.specs.Prelude.{◌+◌}
+use Rattle.prelude.specs.Names.{ap, ℕ, arith, rules}
 use Rattle.refusal.proofs.Numbers.{number-most}
 use Rattle.search.proofs.answer.Answer.number.Tie as tie
 
