@@ -1,16 +1,24 @@
 -- Laws of words, plans and steps as bytes.
 use Rattle.std.specs.Prelude.{◌∷◌, ◌++◌, ◌≡◌, ◌+◌, ◌*◌, ◌/◌, ◌%◌, ◌≤◌, ◌<◌}
-use Rattle.prelude.specs.Names.{List, [], append-nil, map, refl, sym, ◌∙◌, ℕ, zero, suc, ℕ_discrete, dec_lt}
+use Rattle.prelude.specs.Names.{List, [], append-nil, append_assoc, drop-drop, map, refl, sym, ◌∙◌, ℕ, zero, suc, ℕ_discrete, dec_lt}
 use Rattle.prelude.specs.Names.{arith, add-zero, add-one, length, get_or, set, replicate, length-append, length-set, drop_of_length-le, get_or-eq_default}
 use Rattle.prelude.specs.Names.{sets, ext_get_or, get_or-set_same, get_or-set_other, get_or-append-add}
 use lib.ListN.{get_or-append}
-use Rattle.formats.proofs.Stores.{sets-front, sets_append, stores_joined}
+use lib.Seq.{sets-eq}
+use borrow.Rule.Slice.PartMut.{put_mid}
+use Rattle.formats.proofs.Stores.{sets-front, sets_append}
 use Rattle.instance.proofs.Positions.{ten-at}
 use Rattle.instance.specs.declared.Packing.{Packing}
 use Rattle.instance.specs.declared.Position.{Position}
 use Rattle.instance.specs.Values.{origin}
 use Rattle.sheet.specs.Places.{word_at}
-use Rattle.buffers.specs.Bytes.{word_bytes, piece_bytes, packing_bytes, plan_position, plan_mark, packing_in, step_bytes, steps_in}
+use Rattle.buffers.specs.Bytes.{piece_bytes, packing_bytes, plan_position, plan_mark, packing_in, step_bytes, steps_in}
+
+-- a part of a list that is replaced as a whole
+pub part_stored : (l part : List ℕ) (at k : ℕ) → length part ≡ k → at + k ≤ length l → put_mid at k l part ≡ sets l at part
+part_stored l part at k e h =
+    let r : at + length part ≤ length l = omega arith in
+    rw (sets-eq part l at r, append_assoc, drop-drop, e)
 
 -- a word and the steps come back from their bytes
 pub word_back : (v : ℕ) → v % 256 + 256 * (v / 256) ≡ v
@@ -26,22 +34,11 @@ fills bs out h =
     let l : length out ≤ length bs = omega arith in
     sets-front bs out (omega arith) ∙ rw (drop_of_length-le out l) (append-nil bs)
 
-pub steps_fill : (m : ℕ) (out : List ℕ) → length out ≡ 4 → sets out 0 (m % 256 ∷ m / 256 % 256 ∷ m / 65536 % 256 ∷ m / 16777216 ∷ []) ≡ step_bytes m
-unfolding step_bytes
-steps_fill m out h = fills (m % 256 ∷ m / 256 % 256 ∷ m / 65536 % 256 ∷ m / 16777216 ∷ []) out h
-
 -- pieces one after the other
 pub packing-length : (n : ℕ) (q : Packing) → length (packing_bytes n q) ≡ 7 * n
 unfolding packing_bytes
 packing-length zero q = refl
 packing-length (suc n) q = simp length-append (omega (arith, packing-length n q))
-
-pub piece_run : (p : Position) (mark : ℕ) (l : List ℕ) (at : ℕ)
-    → set (sets (sets (sets l at (word_bytes p.x)) (at + 2) (word_bytes p.y)) (at + 4) (word_bytes p.t)) (at + 6) mark ≡ sets l at (piece_bytes p mark)
-piece_run p mark l at =
-    let e : at + 4 ≡ at + 2 + 2 = omega arith in
-    let f : at + 6 ≡ at + 2 + 2 + 2 = omega arith in
-    rw (e, f) (stores_joined l at (word_bytes p.x ∷ word_bytes p.y ∷ word_bytes p.t ∷ (mark ∷ []) ∷ []))
 
 -- one piece more
 pub pieces_next : (q : Packing) (l : List ℕ) (u : ℕ)

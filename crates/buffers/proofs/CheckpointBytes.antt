@@ -1,13 +1,14 @@
 -- Laws of checkpoints as bytes.
-use Rattle.std.specs.Prelude.{◌&&◌, ◌∷◌, ◌++◌, ◌≡◌, ◌+◌, ◌*◌, ◌/◌, ◌%◌, ◌≤◌, ◌<◌}
-use Rattle.prelude.specs.Names.{true, false, List, [], refl, sym, ◌∙◌, ℕ, zero, suc, arith, add-one}
-use Rattle.prelude.specs.Names.{eq-eqb, ne_eqb, eqb-true, ltb, eqb, length, get_or, take, drop, set, length-append, length-drop, drop_of_length-le, sets}
-use Rattle.prelude.specs.Names.{drop-cons, get_or-drop, get_or-take, get_or-append-add, length-take-le, take_all, take_at}
+use Rattle.std.specs.Prelude.{◌∷◌, ◌++◌, ◌≡◌, ◌+◌, ◌*◌, ◌/◌, ◌%◌, ◌≤◌, ◌<◌}
+use Rattle.prelude.specs.Names.{true, List, [], refl, sym, ◌∙◌, ℕ, zero, suc, arith}
+use Rattle.prelude.specs.Names.{eqb-true, ltb, eqb, length, get_or, take, drop, set, length-append, drop_of_length-le, sets}
+use Rattle.prelude.specs.Names.{drop-cons, get_or-drop, get_or-append-add, take_at}
 use lib.ListN.{take-append-drop}
+use Rattle.std.specs.List.{list_all}
 use lib.Seq.{get_or_at}
 use Rattle.model.proofs.Below.{and_both}
 use Rattle.formats.specs.Reading.{Bytes}
-use Rattle.formats.proofs.Stores.{sets-next, stores_joined}
+use Rattle.formats.proofs.Stores.{stores_joined}
 use Rattle.sheet.specs.Places.{word_at}
 use Rattle.instance.specs.declared.Checkpoint.{Checkpoint}
 use Rattle.instance.specs.declared.Status.{Status}
@@ -16,31 +17,16 @@ use Rattle.buffers.specs.Bytes.{word_bytes}
 use Rattle.buffers.specs.Checkpoints.{status_byte, status_of, checkpoint_bytes, branches_in, checkpoint_in, all_zero, is_checkpoint}
 use Rattle.buffers.proofs.Bytes.{word_back, fills}
 
--- 0 from a place on
-zero-next : (s : List ℕ) (i : ℕ) → i < length s → all_zero (drop i s) ≡ (eqb (get_or s i 0) 0 && all_zero (drop (i + 1) s))
+-- all are 0: by a test of each
+pub zero_each : (s : List ℕ) → list_all (λ b. eqb b 0) s ≡ all_zero s
 unfolding all_zero
-zero-next s i h = rw (drop-cons s i 0 h, add-one)
-
-pub zero-pass : (s : List ℕ) (i : ℕ) → i < length s → get_or s i 0 ≡ 0 → all_zero (drop i s) ≡ all_zero (drop (i + 1) s)
-zero-pass s i h e = zero-next s i h ∙ rw (eq-eqb _ _ e)
-
-pub zero_fail : (s : List ℕ) (i : ℕ) → i < length s → (get_or s i 0 ≡ 0 → ⊥) → all_zero (drop i s) ≡ false
-zero_fail s i h e = zero-next s i h ∙ rw (ne_eqb _ _ e)
-
-pub zero-done : (s : List ℕ) (i : ℕ) → length s ≤ i → all_zero (drop i s) ≡ true
-unfolding all_zero
-zero-done s i h = rw (drop_of_length-le s h)
+zero_each [] = refl
+zero_each (b ∷ s) = rw (zero_each s)
 
 pub zero-all : (s : List ℕ) → ((i : ℕ) → get_or s i 0 ≡ 0) → all_zero s ≡ true
 unfolding all_zero
 zero-all [] h = refl
 zero-all (b ∷ s) h = rw (h 0) (zero-all s (λ i. h (suc i)))
-
--- any byte above 1 is taken for packed
-pub status-other : (b : ℕ) → (b ≡ 0 → ⊥) → (b ≡ 1 → ⊥) → Packed ≡ status_of b
-status-other zero h k = absurd (h refl)
-status-other (suc zero) h k = absurd (k refl)
-status-other (suc (suc b)) h k = refl
 
 -- a status comes back from its byte
 pub status-back : (s : Status) → status_of (status_byte s) ≡ s
@@ -93,20 +79,6 @@ module _ (c : Checkpoint) (long : length c.branches ≡ 270) where
       at k e =
           rw e (stores_joined out 0 ((status_byte c.status ∷ []) ∷ word_bytes c.length ∷ c.branches ∷ word_bytes c.choice ∷ [])
           ∙ fills (checkpoint_bytes c) out (h ∙ sym checkpoint-length))
-
--- the branches, read one by one
-module _ (note bs : List ℕ) (whole : length note ≡ 275) where
-  branches_length : length (branches_in note) ≡ 270
-  branches_length = length-take-le 270 (drop 3 note) (simp length-drop (omega arith))
-
-  pub branches_next : (i : ℕ) → i < 270 → set (sets bs 0 (take i (branches_in note))) i (get_or note (3 + i) 0) ≡ sets bs 0 (take (i + 1) (branches_in note))
-  branches_next i l =
-      let d : i < length (branches_in note) = omega (arith, branches_length) in
-      let z : 0 + i ≡ i = omega arith in
-      rw z at (rw (get_or-take 270 (drop 3 note) i 0 l, get_or-drop) at (sets-next bs (branches_in note) 0 i d))
-
-  pub branches_read : length bs ≡ 270 → sets bs 0 (take 270 (branches_in note)) ≡ branches_in note
-  branches_read l = rw (take_all 270 (branches_in note) (omega (arith, branches_length))) (fills (branches_in note) bs (l ∙ sym branches_length))
 
 -- Bytes that hold a checkpoint are its bytes
 

@@ -6,7 +6,7 @@ ghost use Rattle.std.proofs.lemmas.List.Edits.{sets};
 ghost use Rattle.buffers.specs.Bytes.{piece_bytes, plan_position, packing_bytes, packing_in};
 
 use crate::words;
-use instance::{Instance, Packing, Position};
+use instance::{Packing, Position};
 
 // The position of item u.
 fn read_position(s: &[u8], u: usize) -> Position
@@ -14,10 +14,11 @@ fn read_position(s: &[u8], u: usize) -> Position
     ensures { result ≡ plan_position s.now u }
 {
     let at = crate::PIECE_BYTES * u;
-    let x = words::word_at(s, at);
-    let y = words::word_at(s, at + 2);
-    let t = words::word_at(s, at + 4);
-    Position { x, y, t }
+    Position {
+        x: words::word_at(s, at),
+        y: words::word_at(s, at + 2),
+        t: words::word_at(s, at + 4),
+    }
 }
 
 // The positions and the marks of n items.
@@ -25,15 +26,12 @@ pub fn read_packing(s: &[u8], n: usize) -> Packing
     requires { (n ≤ max_items) × (length s.now ≡ piece_length * n) }
     ensures { result ≡ packing_in s.now }
 {
-    let mut positions = [Position { x: 0, y: 0, t: 0 }; Instance::MAX_ITEMS];
-    let mut marks = [0u8; Instance::MAX_ITEMS];
-    let mut u: usize = 0;
-    while u < n {
-        positions[u] = read_position(s, u);
-        marks[u] = s[crate::PIECE_BYTES * u + 6];
-        u = u + 1;
+    let mut packing = Packing::origin();
+    for u in 0..n {
+        packing.positions[u] = read_position(s, u);
+        packing.marks[u] = s[crate::PIECE_BYTES * u + 6];
     }
-    Packing { positions, marks }
+    packing
 }
 
 fn write_piece(out: &mut [u8], at: usize, p: Position, mark: u8)
@@ -51,11 +49,12 @@ pub fn write_packing(out: &mut [u8], packing: Packing, n: usize)
     requires { (n ≤ max_items) × (length out.old ≡ piece_length * n) }
     ensures { out.new ≡ packing_bytes n packing }
 {
-    let positions = packing.positions;
-    let marks = packing.marks;
-    let mut u: usize = 0;
-    while u < n {
-        write_piece(out, crate::PIECE_BYTES * u, positions[u], marks[u]);
-        u = u + 1;
+    for u in 0..n {
+        write_piece(
+            out,
+            crate::PIECE_BYTES * u,
+            packing.positions[u],
+            packing.marks[u],
+        );
     }
 }

@@ -1,5 +1,6 @@
 pub mod Tables
 pub mod Notes
+pub mod Sheets
 pub mod Outcomes
 pub mod Plans
 pub mod Pieces

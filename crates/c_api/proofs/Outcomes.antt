@@ -1,11 +1,12 @@
 -- What a call comes to, case by case, and that a path that is to be written has room in a note.
-use Rattle.std.specs.Prelude.{◌↔◌, ◌≡◌, ◌*◌, ◌≤◌, ◌<◌}
-use Rattle.prelude.specs.Names.{true, false, List, refl, sym, subst, ℕ, arith, eqb, length, eqb-true, eq-eqb}
+use Rattle.std.specs.Prelude.{◌↔◌, ◌≡◌, ◌*◌, ◌≤◌, ◌<◌, Result}
+use Rattle.prelude.specs.Names.{Bool, true, false, List, refl, sym, subst, ℕ, arith, eqb, length, eqb-true, eq-eqb}
 use Rattle.model.proofs.Below.{and_both}
 use Rattle.model.specs.Admits.{Sound}
 use Rattle.model.specs.Machine.{steps}
 use Rattle.model.specs.Run.{machine, plan_at}
 use Rattle.model.specs.Turning.{Turnable, Plan}
+use Rattle.refusal.specs.declared.Refusal.{Refusal}
 use Rattle.refusal.specs.declared.Refusal.TheVariants.{BadArgument, NotFollowing}
 use Rattle.instance.specs.Valid.{valid}
 use Rattle.instance.specs.declared.Checkpoint.{Checkpoint}
@@ -13,7 +14,6 @@ use Rattle.instance.specs.declared.Instance.{Instance}
 use Rattle.instance.specs.declared.Packing.{Packing}
 use Rattle.turning.specs.Turned.{turnable_of}
 use Rattle.packing.specs.Check.{check_answer, check_number}
-use Rattle.packing.specs.declared.CheckAnswer.{CheckAnswer}
 use Rattle.tree_paths.proofs.Checkpoints.{value_short}
 use Rattle.search.proofs.Claim.{short, CallIs, invalid, not_following, searched, call-is}
 use Rattle.opening.proofs.Sound.{valid-sound}
@@ -87,7 +87,7 @@ module _ (i : Instance) (v : valid i ≡ true) (long : length i.items ≡ 10) wh
           subst Fit (sym r) (fits (C.answer_at (machine t) (plan_at t) end) (value_of end).length s)
 
 -- the check of a plan of the right length
-pub checked-is : (i : Instance) (plan : List ℕ) (q : Packing) (r : CheckAnswer) → length plan ≡ 7 * i.item_count
+pub checked-is : (i : Instance) (plan : List ℕ) (q : Packing) (r : Result Bool Refusal) → length plan ≡ 7 * i.item_count
     → q ≡ packing_in plan → r ≡ check_answer i q → check_number r ≡ check_number (instance_checked i plan)
 checked-is i plan q r h e k = rw (eq-eqb _ _ h, ← e, k)
 

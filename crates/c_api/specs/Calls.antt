@@ -1,15 +1,15 @@
 -- What check, pieces and search return and leave in the lent buffers (document 01, "Refusals": "The planning screen, written in C, ..").
-use Rattle.std.specs.Prelude.{◌&&◌, ◌+◌, ◌*◌, ◌≤◌}
+use Rattle.std.specs.Prelude.{◌&&◌, ◌+◌, ◌*◌, ◌≤◌, Result, Ok, Err}
 use Rattle.prelude.specs.Names.{Bool, true, false, List, ℕ, eqb, length}
 use Rattle.model.specs.Turning.{Turnable}
 use Rattle.refusal.specs.Numbers.{number_of}
+use Rattle.refusal.specs.declared.Refusal.{Refusal}
 use Rattle.refusal.specs.declared.Refusal.TheVariants.{BadArgument}
 use Rattle.formats.specs.Reading.{Read, got, refused}
 use Rattle.instance.specs.Sheets.{decode}
 use Rattle.instance.specs.declared.Instance.{Instance}
 use Rattle.turning.specs.Turned.{turnable_of}
 use Rattle.packing.specs.Check.{check_answer, check_number}
-use Rattle.packing.specs.declared.CheckAnswer.{CheckAnswer}
 use Rattle.tree_paths.specs.Checkpoints.{checkpoint_of, following}
 use Rattle.search.specs.declared.answer.Answer.{Answer}
 use Rattle.search.specs.declared.answer.Answer.TheVariants.{Packed, Infeasible, BudgetSpent, Refused}
@@ -18,8 +18,12 @@ use Rattle.buffers.specs.Bytes.{packing_bytes, packing_in, step_bytes}
 use Rattle.buffers.specs.Checkpoints.{checkpoint_bytes, checkpoint_in, is_checkpoint}
 use Rattle.sheet.specs.Sheet.{max_branches}
 use Rattle.buffers.specs.Lengths.{note_length, steps_length, piece_length}
-use Rattle.packing.specs.declared.CheckAnswer.TheVariants as K
 use Rattle.search.specs.Results as R
+
+-- the number that is returned for an answer, and "100 plus the number for a refusal"
+abbrev pub code_of : Result ℕ Refusal → ℕ
+code_of (Ok n) = n
+code_of (Err e) = 100 + number_of e
 
 -- "8 asks for 7 plan bytes a piece and 275 note bytes" (document 02, #106)
 abbrev pub plan_fits : Instance → ℕ → Bool
@@ -39,17 +43,17 @@ buffers_fit i note steps plan = lengths_fit i (length note) (length steps) (leng
 
 -- Check
 
-abbrev pub checked_if : Bool → Instance → List ℕ → CheckAnswer
+abbrev pub checked_if : Bool → Instance → List ℕ → Result Bool Refusal
 checked_if true i plan = check_answer i (packing_in plan)
-checked_if false i plan = K.Refused BadArgument
+checked_if false i plan = Err BadArgument
 
 -- the check on a sheet that reads as i
-abbrev pub instance_checked : Instance → List ℕ → CheckAnswer
+abbrev pub instance_checked : Instance → List ℕ → Result Bool Refusal
 instance_checked i plan = checked_if (plan_fits i (length plan)) i plan
 
 -- "the sheet's refusals come first"
-abbrev pub checked : Read Instance → List ℕ → CheckAnswer
-checked (refused e) plan = K.Refused e
+abbrev pub checked : Read Instance → List ℕ → Result Bool Refusal
+checked (refused e) plan = Err e
 checked (got i at rest) plan = instance_checked i plan
 
 -- "Check returns 0 no, 1 yes, 100 plus the number for a refusal"

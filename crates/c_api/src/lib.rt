@@ -4,19 +4,16 @@
 ghost use Rattle.sheet.specs.Sheet.{max_items};
 ghost use Rattle.buffers.specs.Bytes.{packing_bytes, step_bytes};
 ghost use Rattle.buffers.specs.Lengths.{note_length, steps_length, piece_length};
-ghost use Rattle.std.specs.Prelude.{◌≡◌, true, ◌+◌, ◌*◌, ◌≤◌, length};
-ghost use Rattle.refusal.specs.Numbers.{number_of};
+ghost use Rattle.std.specs.Prelude.{◌≡◌, true, ◌*◌, ◌≤◌, length};
 ghost use Rattle.formats.specs.Reading.{Bytes};
 ghost use Rattle.instance.specs.Valid.{valid};
-ghost use Rattle.packing.specs.Check.{check_number};
 ghost use Rattle.search.specs.Results.{answer_number};
 ghost use Rattle.c_api.specs.Calls.{check_code, pieces_code, search_code, note_after, steps_after, plan_after};
-ghost use Rattle.c_api.specs.Calls.{instance_checked, outputs_fit, lengths_fit, instance_code, instance_note, instance_steps, instance_plan};
+ghost use Rattle.c_api.specs.Calls.{code_of, outputs_fit, lengths_fit};
 ghost use Rattle.c_api.specs.Calls.{PathFits, when_packed, note_left, steps_left, plan_left};
 
 use buffers::{checkpoints, plans, words};
-use instance::{Instance, Packing, ReadAnswer};
-use packing::CheckAnswer;
+use instance::{Instance, Packing};
 use refusal::Refusal;
 use search::answer::{Answer, SearchResult};
 
@@ -27,13 +24,7 @@ pub fn hallplan_check(sheet: &[u8], plan: &[u8]) -> u32
     ensures value { result ≡ check_code sheet.now plan.now }
     ensures bytes { Bytes sheet.now }
 {
-    let read = Instance::read(sheet);
-    let answer = read.answer;
-    let instance = read.instance;
-    match answer {
-        ReadAnswer::Refused(e) => refusal_code(e),
-        ReadAnswer::Read => check_instance(instance, plan),
-    }
+    code_of(check_plan(sheet, plan))
 }
 
 // How many pieces the sheet has; 100 plus the number of a refusal.
@@ -41,13 +32,7 @@ pub fn hallplan_pieces(sheet: &[u8]) -> u32
     ensures value { result ≡ pieces_code sheet.now }
     ensures bytes { Bytes sheet.now }
 {
-    let read = Instance::read(sheet);
-    let answer = read.answer;
-    let instance = read.instance;
-    match answer {
-        ReadAnswer::Refused(fault) => refusal_code(fault),
-        ReadAnswer::Read => instance.item_count as u32,
-    }
+    code_of(count_pieces(sheet))
 }
 
 // One call of the search: 0 spent, 1 placed, 2 none, 100 plus the number of a refusal.
@@ -64,47 +49,46 @@ pub fn hallplan_search(
     ensures plan_after { plan.new ≡ plan_after sheet.now note.old allowance steps.old plan.old }
     ensures bytes { Bytes sheet.now × Bytes note.old }
 {
-    let read = Instance::read(sheet);
-    let answer = read.answer;
-    let instance = read.instance;
-    match answer {
-        ReadAnswer::Refused(e) => refusal_code(e),
-        ReadAnswer::Read => search_instance(instance, note, allowance, steps, plan),
-    }
+    code_of(search_sheet(sheet, note, allowance, steps, plan))
 }
 
-fn refusal_code(e: Refusal) -> u32
-    ensures { result ≡ 100 + number_of e }
+// The number that C is handed for an answer or a refusal.
+fn code_of(answer: Result<u32, Refusal>) -> u32
+    ensures { result ≡ code_of answer }
 {
-    100 + words::code(e.number())
+    answer.unwrap_or_else(|e| 100 + u32::from(e.number()))
 }
 
-// The check on a sheet that reads as the instance.
-fn check_instance(instance: Instance, plan: &[u8]) -> u32
-    requires { valid instance ≡ true }
-    ensures { result ≡ check_number (instance_checked instance plan.now) }
+// The number of the check of the plan on the sheet.
+fn check_plan(sheet: &[u8], plan: &[u8]) -> Result<u32, Refusal>
+    ensures { code_of result ≡ check_code sheet.now plan.now }
 {
+    let instance = Instance::read(sheet)?;
     let n = instance.item_count;
     if plan.len() != buffers::PIECE_BYTES * n {
-        return refusal_code(Refusal::BadArgument);
+        return Err(Refusal::BadArgument);
     }
     let packing = plans::read_packing(plan, n);
-    match packing::check(instance, packing) {
-        CheckAnswer::NotFeasible => 0,
-        CheckAnswer::Feasible => 1,
-        CheckAnswer::Refused(e) => refusal_code(e),
-    }
+    let fits = packing::check(instance, packing)?;
+    Ok(u32::from(fits))
 }
 
-// Whether the step bytes and the plan bytes are as many as they must be.
+// The number of the sheet's pieces.
+fn count_pieces(sheet: &[u8]) -> Result<u32, Refusal>
+    ensures { code_of result ≡ pieces_code sheet.now }
+{
+    let instance = Instance::read(sheet)?;
+    Ok(instance.item_count as u32)
+}
+
+// Whether the step bytes and the plan bytes are as many as they must be. They stay two slices, and no struct of both, since C hands each over by itself, and
+// each contract would have to say of such a struct what it borrows.
+#[tactic(auto, using(crate::proofs::Sheets::few_items))]
 fn outputs_fit(instance: Instance, steps: usize, plan: usize) -> bool
     requires { valid instance ≡ true }
     ensures { result ≡ outputs_fit instance steps plan }
 {
-    if steps != buffers::STEP_BYTES {
-        return false;
-    }
-    plan == buffers::PIECE_BYTES * instance.item_count
+    steps == buffers::STEP_BYTES && plan == buffers::PIECE_BYTES * instance.item_count
 }
 
 // Whether the buffers lent to the search are as long as they must be.
@@ -112,31 +96,28 @@ fn lengths_fit(instance: Instance, note: usize, steps: usize, plan: usize) -> bo
     requires { valid instance ≡ true }
     ensures { result ≡ lengths_fit instance note steps plan }
 {
-    if note != buffers::NOTE_BYTES {
-        return false;
-    }
-    outputs_fit(instance, steps, plan)
+    note == buffers::NOTE_BYTES && outputs_fit(instance, steps, plan)
 }
 
-// The search on a sheet that reads as the instance.
-fn search_instance(
-    instance: Instance,
+// The number of the search's call on the sheet; what it leaves in the lent buffers.
+fn search_sheet(
+    sheet: &[u8],
     note: &mut [u8],
     allowance: u32,
     steps: &mut [u8],
     plan: &mut [u8],
-) -> u32
-    requires { valid instance ≡ true }
-    ensures value { result ≡ instance_code instance note.old allowance steps.old plan.old }
-    ensures note_after { note.new ≡ instance_note instance note.old allowance steps.old plan.old }
-    ensures steps_after { steps.new ≡ instance_steps instance note.old allowance steps.old plan.old }
-    ensures plan_after { plan.new ≡ instance_plan instance note.old allowance steps.old plan.old }
+) -> Result<u32, Refusal>
+    ensures value { code_of result ≡ search_code sheet.now note.old allowance steps.old plan.old }
+    ensures note_after { note.new ≡ note_after sheet.now note.old allowance steps.old plan.old }
+    ensures steps_after { steps.new ≡ steps_after sheet.now note.old allowance steps.old plan.old }
+    ensures plan_after { plan.new ≡ plan_after sheet.now note.old allowance steps.old plan.old }
 {
+    let instance = Instance::read(sheet)?;
     if !lengths_fit(instance, note.len(), steps.len(), plan.len()) {
-        return refusal_code(Refusal::BadArgument);
+        return Err(Refusal::BadArgument);
     }
     if !checkpoints::is_checkpoint(note) {
-        return refusal_code(Refusal::NotFollowing);
+        return Err(Refusal::NotFollowing);
     }
     let checkpoint = checkpoints::read_checkpoint(note);
     let result = search::search(instance, checkpoint, allowance);
@@ -144,26 +125,28 @@ fn search_instance(
 }
 
 // The result's number; its bytes in the lent buffers, where it is not refused.
-fn hand_over(res: SearchResult, n: usize, note: &mut [u8], steps: &mut [u8], plan: &mut [u8]) -> u32
+fn hand_over(
+    res: SearchResult,
+    n: usize,
+    note: &mut [u8],
+    steps: &mut [u8],
+    plan: &mut [u8],
+) -> Result<u32, Refusal>
     requires path_fits { PathFits res.answer res.checkpoint.length }
     requires note_len { (length note.old ≡ note_length) × (length steps.old ≡ steps_length) × (length plan.old ≡ piece_length * n) × (n ≤ max_items) }
-    ensures value { result ≡ answer_number res.answer }
+    ensures value { code_of result ≡ answer_number res.answer }
     ensures note_after { note.new ≡ note_left res note.old }
     ensures steps_after { steps.new ≡ steps_left res steps.old }
     ensures plan_after { plan.new ≡ plan_left n res plan.old }
 {
-    let answer = res.answer;
-    let code = words::code(answer.number());
-    if 100 <= code {
-        return code;
+    if let Answer::Refused(e) = res.answer {
+        return Err(e);
     }
-    let checkpoint = res.checkpoint;
-    let packing = res.packing;
-    checkpoints::write_checkpoint(note, checkpoint);
-    put_answer(answer, res.steps, packing, n, steps, plan)
+    checkpoints::write_checkpoint(note, res.checkpoint);
+    Ok(put_answer(res.answer, res.steps, res.packing, n, steps, plan))
 }
 
-// The number of an answer that is no refusal; its steps and, where it is placed, its plan in the lent buffers.
+// The number of an answer; its steps and, where it is placed, its plan in the lent buffers.
 fn put_answer(
     answer: Answer,
     taken: u32,
@@ -178,9 +161,8 @@ fn put_answer(
     ensures plan_after { plan.new ≡ when_packed answer plan.old (packing_bytes n packing) }
 {
     words::write_steps(steps, taken);
-    let code = words::code(answer.number());
-    if code == 1 {
+    if matches!(answer, Answer::Packed) {
         plans::write_packing(plan, packing, n);
     }
-    code
+    u32::from(answer.number())
 }

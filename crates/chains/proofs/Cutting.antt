@@ -1,8 +1,9 @@
 -- What the totals find too long: the set of items, and removing it for the items of a set.
 use Rattle.std.specs.Prelude.{◌&&◌, ◌≢◌, ◌≡◌, ◌+◌, ◌-◌, ◌*◌, ◌/◌, ◌%◌, ◌^◌, ◌≤◌, ◌<◌}
+use Rattle.std.specs.Prelude.{Result}
 use Rattle.prelude.specs.Names.{Bool, true, false, not, or-false, and-false, List, ⊎_elim, refl, sym, ◌∙◌, ap, ℕ}
 use Rattle.prelude.specs.Names.{ℕ_discrete, eq-or-lt_of_le, arith, bit_and, bit_or, bit_xor, or_lt, eqb, ltb, pow-lt, eqb-true, lt-ltb, le-ltb}
-use Rattle.prelude.specs.Names.{ltb-true, ltb-false, eq-eqb, ne_eqb, eqb-false, not-true, not-false}
+use Rattle.prelude.specs.Names.{ltb-true, ltb-false, eq-eqb, ne_eqb, eqb-false, not-true}
 use Rattle.model.specs.Domains.{Domains}
 use Rattle.model.specs.Order.{◌⊑◌}
 use Rattle.model.specs.Relations.{gone, converse}
@@ -11,10 +12,11 @@ use Rattle.model.proofs.Below.{and_both, and_intro, clash, fails, stays}
 use Rattle.model.proofs.Facts.{gone_mono}
 use Rattle.model.proofs.Order.{below_refl}
 use Rattle.model.proofs.Toward.{by_direction}
-use Rattle.domains.specs.Bits.{bit_at, Gives, lowest_bit, Lowest, TakenOut}
+use Rattle.domains.specs.Bits.{bit_at, Gives, Lowest, TakenOut}
 use Rattle.domains.specs.Rows.{row_at}
-use Rattle.domains.specs.Queue.{queue_end, Good, Long}
-use Rattle.domains.specs.Narrowed.{Narrowed, Refuted, NarrowedIf, FilledWith, RemovedOnly, RemovedIf, Each, Spares, All, Askable}
+use Rattle.domains.specs.Queue.{queue_end, Good}
+use Rattle.domains.specs.declared.store.Conflict.{Conflict}
+use Rattle.domains.specs.Narrowed.{Narrowed, Refuted, NarrowedIf, FilledWith, RemovedOnly, Each, Spares, All, Askable}
 use Rattle.chains.specs.Totals.{table_start, measure_at, capacity_at, gapped_at, step_at, gap_at, Tabled}
 use Rattle.chains.specs.Links.{total_at}
 use Rattle.chains.specs.Cuts.{above_both, exceeds, Stepping, Comparable, CutFrom, CutAll, CutBoth, CutOf, CutAround}
@@ -51,45 +53,45 @@ module _ (f : ℕ → Bool) (n m : ℕ) (g : Gives n m f) where
   gives_skip e = next m (omega (arith, g.small, up_one)) (bit-above n m n g.small (omega arith) ∙ sym e) (λ i l. refl)
 
 -- the items too long with u
-pub compared : {t : List ℕ} {o r a u : ℕ} → Comparable t o r a u → total_at t o a u ≤ capacity_at t a
-compared {t} {o} {r} {a} {u} c =
-    total-within {t = t} {o = o} {a = a} (record { tabled = c.tabled; aligned = c.aligned; most = omega (arith, c.other); axis = c.axis }) u c.item
+pub compared : {t : List ℕ} {o r a u : ℕ} → Tabled t → Comparable o r a u → total_at t o a u ≤ capacity_at t a
+compared {t} {o} {r} {a} {u} tabled c =
+    total-within {t = t} {o = o} {a = a} (record { tabled = tabled; aligned = c.aligned; most = omega (arith, c.other); axis = c.axis }) u c.item
 
-pub too_long : {t : List ℕ} {o r a u m : ℕ} → Comparable t o r a u
+pub too_long : {t : List ℕ} {o r a u m : ℕ} → Tabled t → Comparable o r a u
     → Gives 10 m (λ v. ltb (capacity_at t a - total_at t o a u) (gap_at t o a u v + total_at t r a v))
     → Gives 10 (bit_and m (bit_xor (2 ^ u) 1023)) (λ v. above_both t o r a u v && not (eqb v u))
-too_long {t} {o} {r} {a} {u} {m} c g = record {
+too_long {t} {o} {r} {a} {u} {m} tabled c g = record {
   small = and_small 10 m (bit_xor (2 ^ u) 1023) g.small;
   is = λ v h. simp (bit-and, g.is v h, moved v (above_both t o r a u v) refl, bit_not 10 (2 ^ u) v h, bit_power);
 }
   where
     moved : (v : ℕ) (b : Bool) → above_both t o r a u v ≡ b → ltb (capacity_at t a - total_at t o a u) (gap_at t o a u v + total_at t r a v) ≡ b
-    moved v true e = lt-ltb (capacity_at t a - total_at t o a u) _ (omega (arith, compared c, ltb-true (capacity_at t a) _ e))
-    moved v false e = le-ltb (capacity_at t a - total_at t o a u) _ (omega (arith, compared c, ltb-false (capacity_at t a) _ e))
+    moved v true e = lt-ltb (capacity_at t a - total_at t o a u) _ (omega (arith, compared tabled c, ltb-true (capacity_at t a) _ e))
+    moved v false e = le-ltb (capacity_at t a - total_at t o a u) _ (omega (arith, compared tabled c, ltb-false (capacity_at t a) _ e))
 
 -- the steps of u in the table at o are no less than the measures, and just these where nothing lies between items
-step_of : {t : List ℕ} {o r a u : ℕ} → Comparable t o r a u → (v : ℕ) → v < 10
+step_of : {t : List ℕ} {o r a u : ℕ} → Tabled t → Comparable o r a u → (v : ℕ) → v < 10
     → (measure_at t a v ≤ step_at t o a u v) × (gapped_at t a ≡ 0 → step_at t o a u v ≡ measure_at t a v)
-step_of {t} {o} {r} {a} {u} c v h = elim (ℕ_discrete o 0) [
-  | yes z ↦ rw z (c.tabled.least 2 a u v (omega arith) c.axis c.item h, c.tabled.plain 2 a u v (omega arith) c.axis c.item h)
+step_of {t} {o} {r} {a} {u} tabled c v h = elim (ℕ_discrete o 0) [
+  | yes z ↦ rw z (tabled.least 2 a u v (omega arith) c.axis c.item h, tabled.plain 2 a u v (omega arith) c.axis c.item h)
   | no z ↦ let q : o ≡ 30 = omega (arith, c.aligned, c.other) in
-      rw q (c.tabled.least 1 a u v (omega arith) c.axis c.item h, c.tabled.plain 1 a u v (omega arith) c.axis c.item h)
+      rw q (tabled.least 1 a u v (omega arith) c.axis c.item h, tabled.plain 1 a u v (omega arith) c.axis c.item h)
 ]
 
-pub stepping : {t : List ℕ} {o r a u : ℕ} → Comparable t o r a u → Stepping t (r + a * 10) (96 + (o + a * 10 + u) * 10) (60 + a * 10)
-stepping c = record {
+pub stepping : {t : List ℕ} {o r a u : ℕ} → Tabled t → Comparable o r a u → Stepping t (r + a * 10) (96 + (o + a * 10 + u) * 10) (60 + a * 10)
+stepping tabled c = record {
   totals = omega (arith, c.axis, c.other);
   room = omega (arith, c.axis, c.item, c.other);
   measures = omega (arith, c.axis);
-  least = λ v h. (step_of c v h).0;
+  least = λ v h. (step_of tabled c v h).0;
 }
 
-pub too_long-plain : {t : List ℕ} {o r a u m : ℕ} → Comparable t o r a u → gapped_at t a ≡ 0
+pub too_long-plain : {t : List ℕ} {o r a u m : ℕ} → Tabled t → Comparable o r a u → gapped_at t a ≡ 0
     → Gives 10 m (λ v. ltb (capacity_at t a - total_at t o a u) (total_at t r a v))
     → Gives 10 (bit_and m (bit_xor (2 ^ u) 1023)) (λ v. above_both t o r a u v && not (eqb v u))
-too_long-plain {t} {o} {r} {a} {u} {m} c e g = too_long c (record {
+too_long-plain {t} {o} {r} {a} {u} {m} tabled c e g = too_long tabled c (record {
   small = g.small;
-  is = λ v h. g.is v h ∙ ap (ltb (capacity_at t a - total_at t o a u)) (omega (arith, (step_of c v h).1 e));
+  is = λ v h. g.is v h ∙ ap (ltb (capacity_at t a - total_at t o a u)) (omega (arith, (step_of tabled c v h).1 e));
 })
 
 -- The relation x of u is removed with the items of a set: with those that are left of it
@@ -155,6 +157,19 @@ module _ {k : Domains} {rows q : List ℕ} (g : Good k rows q) {x a u items : �
         (record { small = left-small; is = λ v hv. sym (asked_at x v hv ∙ rw (eq-eqb x x refl) refl) }) em z
         (λ y v hy hv i. let (s, l) = asked_in y v hv i in rw s (left_in v hv l).1)
 
+-- the tables of a direction, by where the code takes them to start
+abbrev own : ℕ → ℕ
+own x = 30 * (x - 1)
+
+module _ (t : List ℕ) (a u x : ℕ) (d : Direction x) where
+  compared_from : Comparable (table_start (converse x)) (table_start x) a u → Comparable (own x) (30 - own x) a u
+  compared_from = by_direction (λ x. Comparable (table_start (converse x)) (table_start x) a u → Comparable (own x) (30 - own x) a u) (λ h. h) (λ h. h) x d
+
+  exceeds-from : {m : ℕ} → Gives 10 m (λ v. above_both t (own x) (30 - own x) a u v && not (eqb v u))
+      → Gives 10 m (λ v. exceeds t x a u v && not (eqb v u))
+  exceeds-from {m} = by_direction (λ x. Gives 10 m (λ v. above_both t (own x) (30 - own x) a u v && not (eqb v u))
+      → Gives 10 m (λ v. exceeds t x a u v && not (eqb v u))) (λ h. h) (λ h. h) x d
+
 -- For the items of a set: those of `left` are still to be dealt with
 pub record Cutting (t : List ℕ) (x a items : ℕ) (k : Domains) (q : List ℕ) (j : Domains) (rows r : List ℕ) (left : ℕ) : Type 0 where
   pub tabled : Tabled t
@@ -164,8 +179,8 @@ pub record Cutting (t : List ℕ) (x a items : ℕ) (k : Domains) (q : List ℕ)
   pub narrowed : Narrowed (FilledWith (CutAll t x a)) (λ f. Through 10 items left (CutFrom t x a f)) k q j rows r
 
 module _ {t : List ℕ} {x a items : ℕ} {k : Domains} {q : List ℕ} where
-  pub cutting_start : {rows : List ℕ} → Direction x → Good k rows q × Tabled t × (a < 3) × (items < 2 ^ 10) → Cutting t x a items k q k rows q items
-  cutting_start d (g, s, ha, h) =
+  pub cutting_start : {rows : List ℕ} → Good k rows q → Tabled t → Direction x → (a < 3) × (items < 2 ^ 10) → Cutting t x a items k q k rows q items
+  cutting_start g s d (ha, h) =
       record { tabled = s; direction = d; axis = ha; first = g.least; narrowed = narrowed_none g (through_none h) }
 
   pub cutting_end : {j : Domains} {rows r : List ℕ} {left : ℕ} → Cutting t x a items k q j rows r left → left ≡ 0
@@ -178,18 +193,20 @@ module _ {t : List ℕ} {x a items : ℕ} {k : Domains} {q : List ℕ} where
     item : u < 10
     item = bit_below 10 left u h.narrowed.done.small low.2
 
-    pub cutting_compared : Comparable t (table_start (converse x)) (table_start x) a u
-    cutting_compared = record {
-      tabled = h.tabled;
+    pub cutting_compared : Comparable (own x) (30 - own x) a u
+    cutting_compared = compared_from t a u x h.direction (record {
       aligned = by_direction (λ x. table_start (converse x) % 30 ≡ 0) refl refl x h.direction;
       other = by_direction (λ x. table_start (converse x) + table_start x ≡ 30) refl refl x h.direction;
       axis = h.axis;
       item = item;
-    }
+    })
 
-    module _ {m : ℕ} (g : Gives 10 m (λ v. exceeds t x a u v && not (eqb v u))) where
-      pub cutting_given : (Good j rows r × Direction x) × ((a < 3) × (u < 10) × (m < 2 ^ 10) × (bit_at m u ≡ false))
-      cutting_given = ((h.narrowed.grown.good, h.direction), (h.axis, item, g.small, g.is u item ∙ rw (eq-eqb u u refl, and-false) refl))
+    module _ {m : ℕ} (given : Gives 10 m (λ v. above_both t (own x) (30 - own x) a u v && not (eqb v u))) where
+      g : Gives 10 m (λ v. exceeds t x a u v && not (eqb v u))
+      g = exceeds-from t a u x h.direction given
+
+      pub cutting_given : Direction x × (a < 3) × (u < 10) × (m < 2 ^ 10) × (bit_at m u ≡ false)
+      cutting_given = (h.direction, h.axis, item, g.small, g.is u item ∙ rw (eq-eqb u u refl, and-false) refl)
 
       asked : (f : Domains) → FilledWith (CutAll t x a) f → FilledWith (Each x a u m) f
       asked f w = record { all = each; filled = w.filled }
@@ -200,46 +217,28 @@ module _ {t : List ℕ} {x a items : ℕ} {k : Domains} {q : List ℕ} where
               let ne = eqb-false v u (not-true (eqb v u) c) in
               w.all u v (record { axis = h.axis; item_u = item; item_v = hv; distinct = λ e. ne (sym e) }) b
 
-      pub cutting_refuted : {l : Domains} {rows' s : List ℕ} (b : Bool) → not b ≡ true → RemovedIf (Each x a u m) j r l rows' s b
-          → Long l rows' s × Refuted (FilledWith (CutAll t x a)) k
-      cutting_refuted b e n = let (long, none) = rw (not-true b e) at n in (long, refuted_later h.narrowed (λ f w. none f (asked f w)))
+      pub cutting_refuted : Refuted (FilledWith (Each x a u m)) j → Refuted (FilledWith (CutAll t x a)) k
+      cutting_refuted none = refuted_later h.narrowed (λ f w. none f (asked f w))
 
-      pub cutting_next : {l : Domains} {rows' s : List ℕ} {rest : ℕ} → TakenOut left (lowest_bit left) rest → (b : Bool) → not b ≡ false
-          → RemovedIf (Each x a u m) j r l rows' s b → Cutting t x a items k q l rows' s rest
-      cutting_next {l} w b o n = record {
+      pub cutting_next : {l : Domains} {rows' s : List ℕ} {rest : ℕ} → TakenOut left u rest
+          → Narrowed (FilledWith (Each x a u m)) (Each x a u m) j r l rows' s → Cutting t x a items k q l rows' s rest
+      cutting_next {l} w n = record {
         tabled = h.tabled;
         direction = h.direction;
         axis = h.axis;
         first = h.first;
-        narrowed = narrowed-then {E = Each x a u m} h.first h.narrowed (narrowed_as (λ f y _. asked f y) (λ _ e. e) (rw (not-false b o) at n))
-            (λ less p each. through_one p (rw low.0 w) (λ v i p z y e. gone_mono l j less x a v z (p z y e))
+        narrowed = narrowed-then {E = Each x a u m} h.first h.narrowed (narrowed_as (λ f y _. asked f y) (λ _ e. e) n)
+            (λ less p each. through_one p w (λ v i p z y e. gone_mono l j less x a v z (p z y e))
             (λ v y e. each v y.item_v (g.is v y.item_v ∙ and_intro e (ap not (ne_eqb v u (λ b. y.distinct (sym b)))))));
       }
-
--- the tables of a direction, by where the code takes them to start
-module _ (t : List ℕ) (a u x : ℕ) (d : Direction x) where
-  abbrev own : ℕ → ℕ
-  own x = 30 * (x - 1)
-
-  pub compared_from : Comparable t (table_start (converse x)) (table_start x) a u → Comparable t (own x) (30 - own x) a u
-  compared_from = by_direction (λ x. Comparable t (table_start (converse x)) (table_start x) a u → Comparable t (own x) (30 - own x) a u) (λ h. h) (λ h. h) x d
-
-  pub exceeds-from : {m : ℕ} → Gives 10 m (λ v. above_both t (own x) (30 - own x) a u v && not (eqb v u))
-      → Gives 10 m (λ v. exceeds t x a u v && not (eqb v u))
-  exceeds-from {m} = by_direction (λ x. Gives 10 m (λ v. above_both t (own x) (30 - own x) a u v && not (eqb v u))
-      → Gives 10 m (λ v. exceeds t x a u v && not (eqb v u))) (λ h. h) (λ h. h) x d
 
 -- First around the items of one set, then around those of the other
 module _ (t : List ℕ) (a : ℕ) (k : Domains) where
   one_of : (f : Domains) → FilledWith (CutBoth t a) f → FilledWith (CutAll t 1 a) f × FilledWith (CutAll t 2 a) f
   one_of f h = (record { all = h.all.0; filled = h.filled }, record { all = h.all.1; filled = h.filled })
 
-  pub around_refused : {j : Domains} {rows r : List ℕ} → Long j rows r × Refuted (FilledWith (CutAll t 1 a)) k
-      → Long j rows r × Refuted (FilledWith (CutBoth t a)) k
-  around_refused (long, none) = (long, λ f h b. none f (one_of f h).0 b)
-
   pub around_answer : (ends starts : ℕ) {rows q : List ℕ} → Good k rows q → {i : Domains} {rows₁ q₁ : List ℕ}
-      → Narrowed (FilledWith (CutAll t 1 a)) (CutOf t 1 a ends) k q i rows₁ q₁ → (j : Domains) (rows₂ r : List ℕ) (b : Bool)
+      → Narrowed (FilledWith (CutAll t 1 a)) (CutOf t 1 a ends) k q i rows₁ q₁ → (j : Domains) (rows₂ r : List ℕ) (b : Result (Unit {0}) Conflict)
       → NarrowedIf (FilledWith (CutAll t 2 a)) (CutOf t 2 a starts) i q₁ j rows₂ r b
       → NarrowedIf (FilledWith (CutBoth t a)) (CutAround t a ends starts) k q j rows₂ r b
   around_answer ends starts g {i} n j rows₂ r b h =

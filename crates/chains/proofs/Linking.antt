@@ -1,7 +1,8 @@
 -- Rule 5 where a link is new: totals raised along the links of the domains stay under every goal's chains, and with the cuts around the items that
 -- grew nothing is left open but the links of pairs on the queue.
 use Rattle.std.specs.Prelude.{◌&&◌, ◌⊎◌, ◌≡◌, ◌+◌, ◌*◌, ◌^◌, ◌≤◌, ◌<◌}
-use Rattle.prelude.specs.Names.{Bool, true, false, List, inl, inr, ⊎_elim, ⊎_map, refl, sym, ◌∙◌, ap₂, ℕ}
+use Rattle.std.specs.Prelude.{Result, Ok, Err}
+use Rattle.prelude.specs.Names.{Bool, true, List, inl, inr, ⊎_elim, ⊎_map, refl, sym, ◌∙◌, ap₂, ℕ}
 use Rattle.prelude.specs.Names.{ℕ_discrete, arith, get_or, set, get_or-set_other, ltb, ltb-true, lt-ltb}
 use Rattle.model.specs.Problem.{Problem}
 use Rattle.model.specs.Domains.{Domains, fixed_before}
@@ -20,13 +21,14 @@ use Rattle.domains.specs.Bits.{bit_at}
 use Rattle.domains.specs.Rows.{row_at, Mirror}
 use Rattle.domains.specs.Queue.{SamePair, queue_end, Queued, Good}
 use Rattle.domains.specs.Narrowed.{Grown, Narrowed, Refuted, NarrowedIf, FilledWith}
+use Rattle.domains.specs.declared.store.Conflict.{Conflict}
 use Rattle.chains.specs.Totals.{table_start, table, measure_at, Tabled, Measured, SameMeasures, Fitting}
 use Rattle.chains.specs.Links.{onward, LinkSet, Raised, none, more, Raises, Bursts, Linkable, Only, InRows, On, Plain}
 use Rattle.chains.specs.Cuts.{exceeds, CutBoth, CutAround}
-use Rattle.chains.specs.NewLinks.{Charted, ExtendedAlong, KeptIf}
-use Rattle.domains.proofs.Narrowed.{good-long, queued_on}
+use Rattle.chains.specs.NewLinks.{Charted, ExtendedAlong}
+use Rattle.domains.proofs.Narrowed.{queued_on}
 use Rattle.domains.proofs.Mirror.{row_first}
-use Rattle.chains.proofs.Relaxing.{table_start-is, grows, grows_far, stored_same}
+use Rattle.chains.proofs.Relaxing.{Ready, ready_of, table_start-is, grows, grows_far, stored_same}
 
 -- The rows have the links of the domains
 module _ {k : Domains} {rows : List ℕ} (m : Mirror k rows) {x a v z : ℕ} (d : Direction x) (ha : a < 3) where
@@ -55,12 +57,12 @@ measured-same e m = record {
   step = λ x a v z d h i j. m.step x a v z d h i j ∙ sym (e.kept (96 + (table_start x + a * 10 + v) * 10 + z) (omega arith));
 }
 
-same-measures : {L : LinkSet} {o a : ℕ} {t s : List ℕ} {g : ℕ} → Linkable t o a → Raised L o a t s g → SameMeasures t s
-same-measures l r = let h = grows l r in record { long = h.linkable.tabled.long ∙ sym l.tabled.long; kept = grows_far h }
+same-measures : {L : LinkSet} {o a : ℕ} {t s : List ℕ} {g : ℕ} → Ready t o a → Raised L o a t s g → SameMeasures t s
+same-measures l r = let h = grows l r in record { long = h.ready.tabled.long ∙ sym l.tabled.long; kept = grows_far h }
 
 -- Totals under the chains of a goal stay so, and none of them bursts
 module _ {p : Problem} {k : Domains} {rows : List ℕ} (m : Mirror k rows) {x a : ℕ} (d : Direction x) (f : Domains) (goal : Goal p f) (b : f ⊑ k) where
-  link-under : {s : List ℕ} → Linkable s (table_start x) a → Measured p s → Under p (table s) f → (v z : ℕ) → InRows rows x a v z
+  link-under : {s : List ℕ} → Ready s (table_start x) a → Measured p s → Under p (table s) f → (v z : ℕ) → InRows rows x a v z
       → onward s (table_start x) a v z ≤ greatest x p f a z
   link-under {s} l w under v z t =
       let hz : z < p.items = omega (arith, w.ten, t.item_z) in
@@ -68,7 +70,7 @@ module _ {p : Problem} {k : Domains} {rows : List ℕ} (m : Mirror k rows) {x a 
       let most = under-link p f goal (table s) under k b x a v z d l.axis hv hz (in_rows_linked m d l.axis t) in
       omega (arith, most, extended-sum p a x v z (table s x a v) d, w.step x a v z d l.axis hv hz)
 
-  raised-under : {t s : List ℕ} {g : ℕ} → Linkable t (table_start x) a → Measured p t → Raised (InRows rows x a) (table_start x) a t s g
+  raised-under : {t s : List ℕ} {g : ℕ} → Ready t (table_start x) a → Measured p t → Raised (InRows rows x a) (table_start x) a t s g
       → Under p (table t) f → Under p (table s) f
   raised-under l w none under y c i e hc hi = under y c i e hc hi
   raised-under l w (more {s} v z r link longer) under y c i e hc hi =
@@ -80,16 +82,16 @@ module _ {p : Problem} {k : Domains} {rows : List ℕ} (m : Mirror k rows) {x a 
       go : Under p (table s) f → Dec (table_start y + c * 10 + i ≡ table_start x + a * 10 + z)
           → get_or (set s (table_start x + a * 10 + z) total) (table_start y + c * 10 + i) 0 ≤ greatest y p f c i
       go under (yes q) =
-          let lk = (grows l r).linkable in
+          let lk = (grows l r).ready in
           let same : (y ≡ x) × (c ≡ a) × (i ≡ z) = omega (arith, table_start-is x d, table_start-is y e, w.ten, longer.item_z) in
           rw (q, stored_same lk longer.item_z total, same.0, same.1, same.2)
           (link-under lk (measured-same (same-measures l r) w) under v z link)
       go under (no q) = rw (get_or-set_other s (table_start x + a * 10 + z) (table_start y + c * 10 + i) total 0 q) (under y c i e hc hi)
 
-  never_bursts : {t s : List ℕ} → Linkable t (table_start x) a → Measured p t → Under p (table t) f → Bursts (InRows rows x a) (table_start x) a t s → ⊥
+  never_bursts : {t s : List ℕ} → Ready t (table_start x) a → Measured p t → Under p (table t) f → Bursts (InRows rows x a) (table_start x) a t s → ⊥
   never_bursts l w under burst =
       let ws = measured-same (same-measures l burst.raised) w in
-      let most = link-under (grows l burst.raised).linkable ws (raised-under l w burst.raised under) burst.from burst.to burst.link in
+      let most = link-under (grows l burst.raised).ready ws (raised-under l w burst.raised under) burst.from burst.to burst.link in
       let fits = goal-fits p f goal x a burst.to d l.axis (omega (arith, w.ten, burst.item_to)) in
       omega (arith, most, fits, ws.capacity a l.axis, burst.over)
 
@@ -152,10 +154,13 @@ module _ {k : Domains} {rows q : List ℕ} (good : Good k rows q) {t : List ℕ}
   mirror : Mirror k rows
   mirror = good.laid.mirror
 
-  linkable : Linkable t (table_start x) a
-  linkable = record { tabled = tabled; aligned = omega (arith, table_start-is x d); most = omega (arith, table_start-is x d); axis = pair.axis }
+  linkable : Linkable (table_start x) a
+  linkable = record { aligned = omega (arith, table_start-is x d); most = omega (arith, table_start-is x d); axis = pair.axis }
 
-  link_asked : Plain rows × Linkable t (table_start x) a × Direction x × InRows rows x a u v
+  begun : Ready t (table_start x) a
+  begun = ready_of tabled linkable
+
+  link_asked : Plain rows × Linkable (table_start x) a × Direction x × InRows rows x a u v
   link_asked = (
     record { long = mirror.long; small = mirror.small; self = λ a u ha hu. row_first mirror ha hu hu ∙ gone-self k 0 a u },
     linkable,
@@ -163,16 +168,16 @@ module _ {k : Domains} {rows q : List ℕ} (good : Good k rows q) {t : List ℕ}
     linked_in_rows mirror d pair.axis pair.item_u pair.item_v link,
   )
 
-  link_refuted : {s : List ℕ} → Bursts (InRows rows x a) (table_start x) a t s → SameMeasures t s × ((p : Problem) → Measured p t → Refuted (Fitting p t) k)
-  link_refuted b =
-      (same-measures linkable b.raised, λ p w f fit h. never_bursts mirror d f fit.goal h linkable w fit.under b)
+  link_refuted : {s : List ℕ} → Bursts (InRows rows x a) (table_start x) a t s
+      → SameMeasures t s × ((p : Problem) → Measured p t → Refuted (Fitting p t) k)
+  link_refuted b = (same-measures begun b.raised, λ p w f fit h. never_bursts mirror d f fit.goal h begun w fit.under b)
 
   link_moved : {s : List ℕ} {g : ℕ} → Raises (InRows rows x a) (On (InRows rows x a) u v g) (table_start x) a t s g → Moved k x a u v g t s
-  link_moved {s} {g} r = let gr = grows linkable r.raised in record {
-    tabled = gr.linkable.tabled;
+  link_moved {s} {g} r = let gr = grows begun r.raised in record {
+    tabled = gr.ready.tabled;
     small = gr.small;
-    same = same-measures linkable r.raised;
-    fitting = λ p w f fit h. record { goal = fit.goal; under = raised-under mirror d f fit.goal h linkable w r.raised fit.under };
+    same = same-measures begun r.raised;
+    fitting = λ p w f fit h. record { goal = fit.goal; under = raised-under mirror d f fit.goal h begun w r.raised fit.under };
     closed = λ p w L M C out c.
         closed_wider (λ y b i z e h n o. settled p w y b i z h n (⊎_map (out y b i z e) (λ c. c) o)) (λ b i z h. h)
         (closed-grown L C p k (table t) c (Grew x a g) (table s) (λ y b i e hb hi. gr.up (table_start y + b * 10 + i)) (λ y b i e hb hi. ⊎_map (λ h. h)
@@ -184,7 +189,7 @@ module _ {k : Domains} {rows q : List ℕ} (good : Good k rows q) {t : List ℕ}
           → Only u v i z ⊎ (bit_at g i ≡ true) → extended y p b i z (table s y b i) ≤ table s y b z
       on p w y b i z e f h n c = rw (e, f)
           (let link = linked_in_rows mirror d pair.axis (omega (arith, w.ten, h.item_u)) (omega (arith, w.ten, h.item_v)) (rw (e, f) at n) in
-          let step = (measured-same (same-measures linkable r.raised) w).step x a i z d pair.axis h.item_u h.item_v in
+          let step = (measured-same (same-measures begun r.raised) w).step x a i z d pair.axis h.item_u h.item_v in
           omega (arith, r.on i z (link, c), extended-sum p a x i z (table s x a i) d, step))
 
       settled : (p : Problem) → Measured p t → {A : Type 0} (y b i z : ℕ) → Proper p.items b i z → Linked y k b i z
@@ -204,45 +209,46 @@ closed_on {k} {q} {j} {rows} {r} g {C} {p} {t} limited from first within c =
     (λ x a v z d w l. g.new (of (forced x) a v z) (omega arith) l))
 
 -- The function: the rows have the link, from either end
-module _ {k : Domains} {rows q t : List ℕ} {a u v : ℕ} (pre : (Good k rows q × Tabled t) × (Proper 10 a u v × (fixed_before k a u v ≡ true))) where
+module _ {k : Domains} {rows q t : List ℕ} {a u v : ℕ} (good : Good k rows q) (pair : Proper 10 a u v)
+    (tabled : Tabled t) (fixed : fixed_before k a u v ≡ true) where
   ends_link : Linked 2 k a u v
-  ends_link = forced_before-is k a u v ∙ pre.1.1
+  ends_link = forced_before-is k a u v ∙ fixed
 
   starts-link : Linked 1 k a v u
-  starts-link = forced_after_is k a v u ∙ pre.1.1
+  starts-link = forced_after_is k a v u ∙ fixed
 
-  pub ends_asked : Plain rows × Linkable t 0 a × Direction 2 × InRows rows 2 a u v
-  ends_asked = link_asked pre.0.0 pre.0.1 {x = 2} (omega arith) pre.1.0 ends_link
+  pub ends_asked : Plain rows × Linkable 0 a × Direction 2 × InRows rows 2 a u v
+  ends_asked = link_asked good tabled {x = 2} (omega arith) pair ends_link
 
   -- what it answers
-  abbrev pub Answer : Domains → List ℕ → List ℕ → List ℕ → Bool → Type 0
-  Answer j rows' r s b = KeptIf t j rows' r s b × ExtendedAlong a u v k q t j rows' r s b
+  abbrev pub Answer : Domains → List ℕ → List ℕ → List ℕ → Result (Unit {0}) Conflict → Type 0
+  Answer j rows' r s b = SameMeasures t s × ExtendedAlong a u v k q t j rows' r s b
 
-  pub ends_burst : {s : List ℕ} → Bursts (InRows rows 2 a) 0 a t s → Answer k rows q s false
-  ends_burst b =
-      let (same, nil) = link_refuted pre.0.0 pre.0.1 {x = 2} (omega arith) pre.1.0 ends_link b in
-      ((good-long pre.0.0, same, tt), λ p from c. nil p c.measured)
+  pub ends_burst : {s : List ℕ} → Bursts (InRows rows 2 a) 0 a t s → (e : Conflict) → Answer k rows q s (Err e)
+  ends_burst b e =
+      let (same, nil) = link_refuted good tabled {x = 2} (omega arith) pair ends_link b in
+      (same, λ p from c. nil p c.measured)
 
   module _ {t₁ : List ℕ} {ends : ℕ} (r : Raises (InRows rows 2 a) (On (InRows rows 2 a) u v ends) 0 a t t₁ ends) where
     ends_moved : Moved k 2 a u v ends t t₁
-    ends_moved = link_moved pre.0.0 pre.0.1 {x = 2} (omega arith) pre.1.0 ends_link r
+    ends_moved = link_moved good tabled {x = 2} (omega arith) pair ends_link r
 
-    pub starts_asked : Plain rows × Linkable t₁ 30 a × Direction 1 × InRows rows 1 a v u
-    starts_asked = link_asked pre.0.0 ends_moved.tabled {x = 1} (omega arith) (proper-sym pre.1.0) starts-link
+    pub starts_asked : Plain rows × Linkable 30 a × Direction 1 × InRows rows 1 a v u
+    starts_asked = link_asked good ends_moved.tabled {x = 1} (omega arith) (proper-sym pair) starts-link
 
-    pub starts_burst : {s : List ℕ} → Bursts (InRows rows 1 a) 30 a t₁ s → Answer k rows q s false
-    starts_burst b =
-        let (same, nil) = link_refuted pre.0.0 ends_moved.tabled {x = 1} (omega arith) (proper-sym pre.1.0) starts-link b in (
-          (good-long pre.0.0, same_then ends_moved.same same, tt),
+    pub starts_burst : {s : List ℕ} → Bursts (InRows rows 1 a) 30 a t₁ s → (e : Conflict) → Answer k rows q s (Err e)
+    starts_burst b e =
+        let (same, nil) = link_refuted good ends_moved.tabled {x = 1} (omega arith) (proper-sym pair) starts-link b in (
+          same_then ends_moved.same same,
           λ p from c f fit l. nil p (measured-same ends_moved.same c.measured) f (ends_moved.fitting p c.measured f fit l) l,
         )
 
     module _ {s : List ℕ} {starts : ℕ} (r₁ : Raises (InRows rows 1 a) (On (InRows rows 1 a) v u starts) 30 a t₁ s starts) where
       starts_moved : Moved k 1 a v u starts t₁ s
-      starts_moved = link_moved pre.0.0 ends_moved.tabled {x = 1} (omega arith) (proper-sym pre.1.0) starts-link r₁
+      starts_moved = link_moved good ends_moved.tabled {x = 1} (omega arith) (proper-sym pair) starts-link r₁
 
-      pub cut_asked : Good k rows q × Tabled s × (a < 3) × (ends < 2 ^ 10) × (starts < 2 ^ 10)
-      cut_asked = (pre.0.0, starts_moved.tabled, pre.1.0.axis, ends_moved.small, starts_moved.small)
+      pub cut_asked : (a < 3) × (ends < 2 ^ 10) × (starts < 2 ^ 10)
+      cut_asked = (pair.axis, ends_moved.small, starts_moved.small)
 
       same : SameMeasures t s
       same = same_then ends_moved.same starts_moved.same
@@ -251,7 +257,7 @@ module _ {k : Domains} {rows q t : List ℕ} {a u v : ℕ} (pre : (Good k rows q
       fitting p w f fit b = starts_moved.fitting p (measured-same ends_moved.same w) f (ends_moved.fitting p w f fit b) b
 
       cut : (p : Problem) → Measured p t → (f : Domains) → Fitting p t f → f ⊑ k → FilledWith (CutBoth s a) f
-      cut p w f fit b = fitting_cut (measured-same same w) a pre.1.0.axis f (fitting p w f fit b)
+      cut p w f fit b = fitting_cut (measured-same same w) a pair.axis f (fitting p w f fit b)
 
       -- both directions followed, and the cuts made around the items that grew
       all_closed : {j : Domains} {rows' r : List ℕ} → Narrowed (FilledWith (CutBoth s a)) (CutAround s a ends starts) k q j rows' r
@@ -291,11 +297,11 @@ module _ {k : Domains} {rows q t : List ℕ} {a u v : ℕ} (pre : (Good k rows q
               let f = rw e at ((exceeds-joined m b w z c).1 ∙ l) in
               inl (rw e (sym (gone-converse j 1 a w z (omega arith)) ∙ n.done.1 z h w (proper-sym (rw e at c)) f))
 
-      pub cut-answer : (j : Domains) (rows' r : List ℕ) (b : Bool)
+      pub cut-answer : (j : Domains) (rows' r : List ℕ) (b : Result (Unit {0}) Conflict)
           → NarrowedIf (FilledWith (CutBoth s a)) (CutAround s a ends starts) k q j rows' r b → Answer j rows' r s b
-      cut-answer j rows' r false (long, nil) = ((long, same, tt), λ p from c f fit l. nil f (cut p c.measured f fit l) l)
-      cut-answer j rows' r true n = (
-        (good-long n.grown.good, same, (n.grown.good, starts_moved.tabled)),
+      cut-answer j rows' r (Err _) nil = (same, λ p from c f fit l. nil f (cut p c.measured f fit l) l)
+      cut-answer j rows' r (Ok _) n = (
+        same,
         λ p from c. record {
           narrowed = record { grown = n.grown; low = λ f fit l. n.low f (cut p c.measured f fit l) l; done = all_closed n p from c };
           measured = measured-same same c.measured;

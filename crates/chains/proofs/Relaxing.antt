@@ -1,12 +1,12 @@
 -- Totals raised along links: what one link does, links one after another, all links from an item, and on from every item that grows.
-use Rattle.std.specs.Prelude.{◌&&◌, ◌⊎◌, ◌≢◌, ◌≡◌, ◌+◌, ◌-◌, ◌*◌, ◌/◌, ◌^◌, ◌≤◌, ◌<◌}
+use Rattle.std.specs.Prelude.{◌&&◌, ◌⊎◌, ◌≢◌, ◌≡◌, ◌+◌, ◌-◌, ◌*◌, ◌/◌, ◌%◌, ◌^◌, ◌≤◌, ◌<◌}
 use Rattle.prelude.specs.Names.{Bool, true, false, List, inl, inr, ⊎_elim, ⊎_map, refl, sym, ◌∙◌, ℕ}
 use Rattle.prelude.specs.Names.{le_refl, ℕ_discrete, arith, bit_or, or_step, or_zero_r, or_lt, get_or, set, length-set, pow-lt, get_or-set_same}
 use Rattle.prelude.specs.Names.{get_or-set_other, eq-eqb, eqb-true}
 use lib.Arith.{bin_ind}
 use Rattle.model.specs.Toward.{Direction}
 use Rattle.model.proofs.Toward.{by_direction}
-use Rattle.model.proofs.Below.{and_both, or_left, or_right, or_case, clash, fails}
+use Rattle.model.proofs.Below.{or_left, or_right, or_case, clash, fails}
 use Rattle.domains.specs.Bits.{bit_at, Gives, lowest_bit, Lowest, TakenOut}
 use Rattle.domains.specs.Rows.{row_at}
 use Rattle.chains.specs.Totals.{table_start, capacity_at, Tabled}
@@ -19,19 +19,28 @@ use Rattle.domains.proofs.Through.{Through, through_none, through_one, through_a
 pub table_start-is : (x : ℕ) → Direction x → table_start x ≡ 60 - 30 * x
 table_start-is = by_direction (λ x. table_start x ≡ 60 - 30 * x) refl refl
 
-pub total-within : {t : List ℕ} {o a : ℕ} → Linkable t o a → (u : ℕ) → u < 10 → total_at t o a u ≤ capacity_at t a
+-- totals, where one of the two tables starts, and an axis
+pub record Ready (t : List ℕ) (o a : ℕ) : Type 0 where
+  pub tabled : Tabled t
+  pub aligned : o % 30 ≡ 0
+  pub most : o ≤ 30
+  pub axis : a < 3
+
+pub ready_of : {t : List ℕ} {o a : ℕ} → Tabled t → Linkable o a → Ready t o a
+ready_of tabled l = record { tabled = tabled; aligned = l.aligned; most = l.most; axis = l.axis }
+
+able : {t : List ℕ} {o a : ℕ} → Ready t o a → Linkable o a
+able l = record { aligned = l.aligned; most = l.most; axis = l.axis }
+
+pub total-within : {t : List ℕ} {o a : ℕ} → Ready t o a → (u : ℕ) → u < 10 → total_at t o a u ≤ capacity_at t a
 total-within {t} {o} {a} l u h = go (ℕ_discrete o 0)
   where
     go : Dec (o ≡ 0) → total_at t o a u ≤ capacity_at t a
     go (yes z) = rw z (l.tabled.within 2 a u (omega arith) l.axis h)
     go (no z) = let e : o ≡ 30 = omega (arith, l.aligned, l.most) in rw e (l.tabled.within 1 a u (omega arith) l.axis h)
 
--- in 16 bits
-pub totals-small : {t : List ℕ} → Tabled t → (i j : ℕ) → get_or t i 0 + get_or t j 0 < 65536
-totals-small h i j = omega (arith, h.small i, h.small j)
-
 -- the total of z is stored
-module _ {s : List ℕ} {o a : ℕ} (l : Linkable s o a) {z : ℕ} (hz : z < 10) (y : ℕ) where
+module _ {s : List ℕ} {o a : ℕ} (l : Ready s o a) {z : ℕ} (hz : z < 10) (y : ℕ) where
   abbrev after : List ℕ
   after = set s (o + a * 10 + z) y
 
@@ -48,8 +57,8 @@ module _ {s : List ℕ} {o a : ℕ} (l : Linkable s o a) {z : ℕ} (hz : z < 10)
   stored_far : (i : ℕ) → 60 ≤ i → get_or after i 0 ≡ get_or s i 0
   stored_far i h = get_or-set_other s (o + a * 10 + z) i y 0 (λ e. omega (arith, l.axis, l.most))
 
-  stored_linkable : y ≤ capacity_at s a → Linkable after o a
-  stored_linkable fits = record { tabled = tabled; aligned = l.aligned; most = l.most; axis = l.axis }
+  pub stored_ready : y ≤ capacity_at s a → Ready after o a
+  stored_ready fits = record { tabled = tabled; aligned = l.aligned; most = l.most; axis = l.axis }
     where
       step : ℕ → ℕ → ℕ → ℕ → ℕ
       step x b v w = 96 + (table_start x + b * 10 + v) * 10 + w
@@ -71,7 +80,7 @@ module _ {s : List ℕ} {o a : ℕ} (l : Linkable s o a) {z : ℕ} (hz : z < 10)
 
 -- What raising totals comes to: numbers only grow, those of the set and no others, each by a link
 pub record Grows (L : LinkSet) (o a : ℕ) (t s : List ℕ) (g : ℕ) : Type 0 where
-  pub linkable : Linkable s o a
+  pub ready : Ready s o a
   pub small : g < 2 ^ 10
   pub up : (i : ℕ) → get_or t i 0 ≤ get_or s i 0
   pub kept : (i : ℕ) → (get_or s i 0 ≡ get_or t i 0) ⊎ ((z : ℕ) × (z < 10) × (i ≡ o + a * 10 + z) × (bit_at g z ≡ true))
@@ -84,36 +93,36 @@ in_or g h w e = or_case (bit_at g w) (bit_at h w) (sym (bit-or g h w) ∙ e)
 or_in : (g h w : ℕ) → (bit_at g w ≡ true) ⊎ (bit_at h w ≡ true) → bit_at (bit_or g h) w ≡ true
 or_in g h w e = bit-or g h w ∙ ⊎_elim (or_left (bit_at h w)) (or_right (bit_at g w)) e
 
-pub grows : {L : LinkSet} {o a : ℕ} {t s : List ℕ} {g : ℕ} → Linkable t o a → Raised L o a t s g → Grows L o a t s g
+pub grows : {L : LinkSet} {o a : ℕ} {t s : List ℕ} {g : ℕ} → Ready t o a → Raised L o a t s g → Grows L o a t s g
 grows l none =
-    record { linkable = l; small = omega arith; up = λ i. le_refl _; kept = λ i. inl refl; rises = λ z e. absurd (clash e (bit-zero z)) }
+    record { ready = l; small = omega arith; up = λ i. le_refl _; kept = λ i. inl refl; rises = λ z e. absurd (clash e (bit-zero z)) }
 grows {L} {o} {a} {t} l (more {s} {g} v z r link w) = one_more (grows l r)
   where
     total : ℕ
     total = onward s o a v z
 
-    up : Linkable s o a → (i : ℕ) → get_or s i 0 ≤ get_or (set s (o + a * 10 + z) total) i 0
+    up : Ready s o a → (i : ℕ) → get_or s i 0 ≤ get_or (set s (o + a * 10 + z) total) i 0
     up lk i = ⊎_elim (λ (e, f). let q : get_or s i 0 ≡ total_at s o a z = rw e refl in omega (arith, w.less)) (λ (e, f). omega arith)
         (stored lk w.item_z total i)
 
     -- one link more
     one_more : Grows L o a t s g → Grows L o a t (set s (o + a * 10 + z) total) (bit_or g (2 ^ z))
     one_more h = record {
-      linkable = stored_linkable h.linkable w.item_z total w.fits;
+      ready = stored_ready h.ready w.item_z total w.fits;
       small = or_lt 10 g (2 ^ z) h.small (pow-lt w.item_z);
-      up = λ i. omega (arith, h.up i, up h.linkable i);
+      up = λ i. omega (arith, h.up i, up h.ready i);
       kept = λ i. ⊎_elim (λ (e, f). inr (z, w.item_z, e, or_in g (2 ^ z) z (inr (bit_power z z ∙ eq-eqb z z refl))))
           (λ (e, f). ⊎_map (λ q. f ∙ q) (λ (u, hu, q, b). (u, hu, q, or_in g (2 ^ z) u (inl b))) (h.kept i))
-          (stored h.linkable w.item_z total i);
-      rises = λ u e. ⊎_elim (λ q. (omega (arith, (h.rises u q).0, up h.linkable (o + a * 10 + u)), (h.rises u q).1))
+          (stored h.ready w.item_z total i);
+      rises = λ u e. ⊎_elim (λ q. (omega (arith, (h.rises u q).0, up h.ready (o + a * 10 + u)), (h.rises u q).1))
           (λ q. rw (eqb-true u z (sym (bit_power z u) ∙ q))
-          (omega (arith, w.less, h.up (o + a * 10 + z), stored_same h.linkable w.item_z total), (v, link))) (in_or g (2 ^ z) u e);
+          (omega (arith, w.less, h.up (o + a * 10 + z), stored_same h.ready w.item_z total), (v, link))) (in_or g (2 ^ z) u e);
     }
 
 -- what follows for single numbers
 module _ {L : LinkSet} {o a : ℕ} {t s : List ℕ} {g : ℕ} (h : Grows L o a t s g) where
   pub grows_far : (i : ℕ) → 60 ≤ i → get_or s i 0 ≡ get_or t i 0
-  grows_far i far = ⊎_elim (λ e. e) (λ (z, hz, e, b). absurd (omega (arith, h.linkable.axis, h.linkable.most))) (h.kept i)
+  grows_far i far = ⊎_elim (λ e. e) (λ (z, hz, e, b). absurd (omega (arith, h.ready.axis, h.ready.most))) (h.kept i)
 
   -- a link that was followed still is, where its first item has not grown
   pub grows_on : (v z : ℕ) → bit_at g v ≡ false → onward t o a v z ≤ total_at t o a z → onward s o a v z ≤ total_at s o a z
@@ -155,7 +164,7 @@ bursts_after {g = g} p f b = record {
 pub link-kept : {o a v z : ℕ} {t : List ℕ} → onward t o a v z ≤ total_at t o a z → Raises (Only v z) (Only v z) o a t t 0
 link-kept h = record { raised = none; on = λ w y (e, f). rw (e, f) h }
 
-pub link_longer : {o a v z : ℕ} {t : List ℕ} → Linkable t o a → v ≢ z → Longer t o a v z
+pub link_longer : {o a v z : ℕ} {t : List ℕ} → Ready t o a → v ≢ z → Longer t o a v z
     → Raises (Only v z) (Only v z) o a t (set t (o + a * 10 + z) (onward t o a v z)) (2 ^ z)
 link_longer {o} {a} {v} {z} {t} l ne w =
     let total = onward t o a v z in
@@ -169,15 +178,15 @@ link_bursts {v = v} {z = z} hv hz h =
 
 -- All links from v to the items of a set; those of `left` are still to be followed
 pub record Partway (v items o a : ℕ) (t s : List ℕ) (left grown : ℕ) : Type 0 where
-  pub linkable : Linkable s o a
+  pub ready : Ready s o a
   pub item : v < 10
   pub self : bit_at items v ≡ false
   pub raised : Raised (From v items) o a t s grown
   pub through : Through 10 items left (λ z. onward s o a v z ≤ total_at s o a z)
 
 module _ {v items o a : ℕ} {t : List ℕ} where
-  pub partway_start : Linkable t o a × (v < 10) × (items < 2 ^ 10) × (bit_at items v ≡ false) → Partway v items o a t t items 0
-  partway_start (l, hv, small, self) = record { linkable = l; item = hv; self = self; raised = none; through = through_none small }
+  pub partway_start : Tabled t → Linkable o a × (v < 10) × (items < 2 ^ 10) × (bit_at items v ≡ false) → Partway v items o a t t items 0
+  partway_start tabled (l, hv, small, self) = record { ready = ready_of tabled l; item = hv; self = self; raised = none; through = through_none small }
 
   pub partway_end : {s : List ℕ} {left grown : ℕ} → Partway v items o a t s left grown → left ≡ 0
       → Raises (From v items) (From v items) o a t s grown
@@ -191,8 +200,8 @@ module _ {v items o a : ℕ} {t : List ℕ} where
     apart : v ≢ z
     apart e = clash among (rw (← e) h.self)
 
-    pub partway_given : Linkable s o a × (v < 10) × (z < 10) × (v ≢ z)
-    partway_given = (h.linkable, h.item, bit_below 10 left z h.through.small low.2, apart)
+    pub partway_given : Linkable o a × (v < 10) × (z < 10) × (v ≢ z)
+    partway_given = (able h.ready, h.item, bit_below 10 left z h.through.small low.2, apart)
 
     only_from : (w y : ℕ) → Only v z w y → From v items w y
     only_from w y (e, f) = (e, rw f among)
@@ -200,28 +209,21 @@ module _ {v items o a : ℕ} {t : List ℕ} where
     pub partway_bursts : {r : List ℕ} → Bursts (Only v z) o a s r → Bursts (From v items) o a t r
     partway_bursts = bursts_after h.raised only_from
 
-    pub partway_next : {rest : ℕ} {r : List ℕ} {g : ℕ} → TakenOut left (lowest_bit left) rest → Raises (Only v z) (Only v z) o a s r g
+    pub partway_next : {rest : ℕ} {r : List ℕ} {g : ℕ} → TakenOut left z rest → Raises (Only v z) (Only v z) o a s r g
         → Partway v items o a t r rest (bit_or grown g)
-    partway_next {rest} {r} {g} w q = let gr = grows h.linkable q.raised in record {
-      linkable = gr.linkable;
+    partway_next {rest} {r} {g} w q = let gr = grows h.ready q.raised in record {
+      ready = gr.ready;
       item = h.item;
       self = h.self;
       raised = raised-then h.raised (raised_as only_from q.raised);
-      through = through_one h.through (rw low.0 w)
+      through = through_one h.through w
           (λ y e f. grows_on gr v y (fails {c = false} (λ e. absurd (apart (gr.rises v e).1.1.1)) refl) f) (q.on v z (refl, refl));
     }
-
--- a link is of two items
-pub link-given : {rows t : List ℕ} {o x a u v : ℕ} → Plain rows × Linkable t o a × Direction x × InRows rows x a u v
-    → Linkable t o a × (u < 10) × (v < 10) × (u ≢ v)
-link-given {rows} {t} {o} {x} {a} {u} {v} (p, l, d, link) =
-    let linked = (and_both (bit_at (row_at rows a u) v) (bit_at (row_at rows a u) (x * 10 + v)) link.bits).0 in
-    (l, link.item_v, link.item_z, λ e. clash linked (rw (← e) (p.self a u l.axis link.item_v)))
 
 -- The link from u to v was followed, to t and the items of `first`, and so are those on from every item that grows, but from those of `todo`
 pub record Progress (rows : List ℕ) (x o a u v : ℕ) (t : List ℕ) (first : ℕ) (s : List ℕ) (todo grown : ℕ) : Type 0 where
   pub plain : Plain rows
-  pub linkable : Linkable s o a
+  pub ready : Ready s o a
   pub raised : (r : List ℕ) → Raises (Only u v) (Only u v) o a r t first → Raised (InRows rows x a) o a r s grown
   pub small : todo < 2 ^ 10
   pub on : (w z : ℕ) → On (InRows rows x a) u v grown w z → (onward s o a w z ≤ total_at s o a z) ⊎ (bit_at todo w ≡ true)
@@ -230,10 +232,10 @@ pub first_bursts : {L : LinkSet} {o a u v : ℕ} → L u v → {t s : List ℕ} 
 first_bursts link = bursts_after none (λ w z (e, f). rw (e, f) link)
 
 module _ {rows : List ℕ} {x o a u v : ℕ} {r t : List ℕ} {first : ℕ} (b : Raises (Only u v) (Only u v) o a r t first) where
-  pub progress_start : Plain rows × Linkable r o a × Direction x × InRows rows x a u v → Progress rows x o a u v t first t first first
-  progress_start (p, l, d, link) = let gr = grows l b.raised in record {
+  pub progress_start : Tabled r → Plain rows × Linkable o a × Direction x × InRows rows x a u v → Progress rows x o a u v t first t first first
+  progress_start tabled (p, l, d, link) = let gr = grows (ready_of tabled l) b.raised in record {
     plain = p;
-    linkable = gr.linkable;
+    ready = gr.ready;
     raised = λ q c. raised_as (λ w z (e, f). rw (e, f) link) c.raised;
     small = gr.small;
     on = λ w z (m, c). ⊎_elim (λ o. inl (b.on w z o)) inr c;
@@ -253,9 +255,9 @@ module _ {rows : List ℕ} {x o a u v : ℕ} {t : List ℕ} {first : ℕ} {s : L
   progress_item = bit_below 10 todo w h.small low.2
 
   module _ {items : ℕ} (linked : Gives 10 items (λ z. bit_at (row_at rows a w) z && bit_at (row_at rows a w) (x * 10 + z))) where
-    pub progress_given : Linkable s o a × (w < 10) × (items < 2 ^ 10) × (bit_at items w ≡ false)
+    pub progress_given : Linkable o a × (w < 10) × (items < 2 ^ 10) × (bit_at items w ≡ false)
     progress_given =
-        (h.linkable, progress_item, linked.small, linked.is w progress_item ∙ rw (h.plain.self a w h.linkable.axis progress_item) refl)
+        (able h.ready, progress_item, linked.small, linked.is w progress_item ∙ rw (h.plain.self a w h.ready.axis progress_item) refl)
 
     from_in_rows : (y z : ℕ) → From w items y z → InRows rows x a y z
     from_in_rows y z (e, b) = let (hz, c) = gives_in linked z b in rw e (record { item_v = progress_item; item_z = hz; bits = c })
@@ -266,7 +268,7 @@ module _ {rows : List ℕ} {x o a u v : ℕ} {t : List ℕ} {first : ℕ} {s : L
 
     module _ {rest : ℕ} (out : TakenOut todo (lowest_bit todo) rest) {r : List ℕ} {g : ℕ} (q : Raises (From w items) (From w items) o a s r g) where
       gr : Grows (From w items) o a s r g
-      gr = grows h.linkable q.raised
+      gr = grows h.ready q.raised
 
       next_small : bit_or rest g < 2 ^ 10
       next_small = or_lt 10 rest g (omega (arith, h.small, out.less)) gr.small
@@ -274,7 +276,7 @@ module _ {rows : List ℕ} {x o a u v : ℕ} {t : List ℕ} {first : ℕ} {s : L
       pub progress_next : Progress rows x o a u v t first r (bit_or rest g) (bit_or grown g)
       progress_next = record {
         plain = h.plain;
-        linkable = gr.linkable;
+        ready = gr.ready;
         raised = λ m b. raised-then (h.raised m b) (raised_as from_in_rows q.raised);
         small = next_small;
         on = λ y z (m, c). go y z m c (ℕ_discrete y w) (bit_at g y) refl;
@@ -295,4 +297,4 @@ module _ {rows : List ℕ} {x o a u v : ℕ} {t : List ℕ} {first : ℕ} {s : L
           go (yes e) = inr (rw (e, or_zero_r rest) out.less)
           go (no e) =
               let (y, hy, b) = has-bit 10 g (omega arith) gr.small e in
-              inl (y, hy, (gr.rises y b).0, total-within gr.linkable y hy)
+              inl (y, hy, (gr.rises y b).0, total-within gr.ready y hy)

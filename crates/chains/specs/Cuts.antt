@@ -5,7 +5,7 @@ use Rattle.model.specs.Domains.{Domains}
 use Rattle.model.specs.Order.{Proper}
 use Rattle.model.specs.Relations.{gone, converse}
 use Rattle.domains.specs.Bits.{bit_at}
-use Rattle.chains.specs.Totals.{table_start, capacity_at, gap_at, Tabled}
+use Rattle.chains.specs.Totals.{table_start, capacity_at, gap_at}
 use Rattle.chains.specs.Links.{total_at}
 
 -- the totals of u and v, with what lies between, are above the container, in the tables that start at o and r
@@ -23,9 +23,8 @@ pub record Stepping (t : List ℕ) (at steps sizes : ℕ) : Type 0 where
   pub measures : sizes + 10 ≤ 696
   pub least : (v : ℕ) → v < 10 → get_or t (sizes + v) 0 ≤ get_or t (steps + v) 0
 
--- totals, where the two tables start, and an item
-pub record Comparable (t : List ℕ) (o r a u : ℕ) : Type 0 where
-  pub tabled : Tabled t
+-- where the two tables start, and an item
+pub record Comparable (o r a u : ℕ) : Type 0 where
   pub aligned : o % 30 ≡ 0
   pub other : o + r ≡ 30
   pub axis : a < 3

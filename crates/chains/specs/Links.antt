@@ -1,9 +1,11 @@
 -- Totals extended along links, on the axis a and in the table that starts at o: 0 of the chains ending in an item, 30 of those starting in it.
 use Rattle.std.specs.Prelude.{◌&&◌, ◌⊎◌, ◌≡◌, ◌+◌, ◌*◌, ◌%◌, ◌^◌, ◌≤◌, ◌<◌}
-use Rattle.prelude.specs.Names.{Bool, true, false, List, ℕ, bit_or, get_or, length, set}
+use Rattle.std.specs.Prelude.{Result, Ok, Err}
+use Rattle.prelude.specs.Names.{true, false, List, ℕ, bit_or, get_or, length, set}
 use Rattle.domains.specs.Bits.{bit_at}
 use Rattle.domains.specs.Rows.{row_at}
-use Rattle.chains.specs.Totals.{capacity_at, step_at, Tabled}
+use Rattle.domains.specs.declared.store.Conflict.{Conflict}
+use Rattle.chains.specs.Totals.{capacity_at, step_at}
 
 abbrev pub total_at : List ℕ → ℕ → ℕ → ℕ → ℕ
 total_at t o a u = get_or t (o + a * 10 + u) 0
@@ -45,14 +47,13 @@ pub record Bursts (L : LinkSet) (o a : ℕ) (t s : List ℕ) : Type 0 where
   pub link : L from to
   pub over : capacity_at s a < onward s o a from to
 
--- what the functions that raise totals answer
-abbrev pub RaisesIf : LinkSet → LinkSet → ℕ → ℕ → List ℕ → List ℕ → Bool → ℕ → Type 0
-RaisesIf L M o a t s true g = Raises L M o a t s g
-RaisesIf L M o a t s false g = Bursts L o a t s
+-- what the functions that raise totals answer: the items whose totals have grown; M is by these
+abbrev pub RaisesIf : LinkSet → (ℕ → LinkSet) → ℕ → ℕ → List ℕ → List ℕ → Result ℕ Conflict → Type 0
+RaisesIf L M o a t s (Ok g) = Raises L (M g) o a t s g
+RaisesIf L M o a t s (Err e) = Bursts L o a t s
 
--- totals, and where one of the two tables starts
-pub record Linkable (t : List ℕ) (o a : ℕ) : Type 0 where
-  pub tabled : Tabled t
+-- where one of the two tables starts, and an axis
+pub record Linkable (o a : ℕ) : Type 0 where
   pub aligned : o % 30 ≡ 0
   pub most : o ≤ 30
   pub axis : a < 3

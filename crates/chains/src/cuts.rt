@@ -2,195 +2,129 @@
 ghost use Rattle.std.specs.Prelude.{◌≡◌, false, not, ◌&&◌, ◌+◌, ◌-◌, ◌<◌, ◌≤◌, ◌^◌, eqb, ltb, get_or, length};
 ghost use Rattle.model.specs.Toward.{Direction};
 ghost use Rattle.domains.specs.Bits.{bit_at, Gives};
-ghost use Rattle.domains.specs.Queue.{Good};
 ghost use Rattle.domains.specs.Narrowed.{FilledWith, NarrowsIf, RemovesIf, Each};
-ghost use Rattle.chains.specs.Totals.{gapped_at, Tabled};
+ghost use Rattle.chains.specs.Totals.{gapped_at};
 ghost use Rattle.chains.specs.Cuts.{above_both, Stepping, Comparable, CutAll, CutBoth, CutOf, CutAround};
 
-use crate::totals::{CAPACITY, GAPPED, SIZES, STARTS, STEPS, TOTALS};
-use domains::bits::{ITEMS, bit, emptied, lowest, rest};
-use domains::queue::MAX_QUEUE;
-use domains::removal::remove_items;
-use domains::{DOMAINS, Line, ROWS};
+use crate::totals::{CAPACITY, GAPPED, SIZES, STARTS, STEPS, Totals};
+use domains::Line;
+use domains::bits::{ITEMS, bit, emptied, members_of};
+use domains::store::{Conflict, Store};
 
-// Of the ten totals from a place on, those above a limit.
-fn above(t: &[u16; TOTALS], at: usize, limit: u16) -> u32
-    requires { (length t.now ≡ 696) × (at + 10 ≤ 696) }
-    ensures { Gives 10 result (λ v. ltb limit (get_or t.now (at + v) 0)) }
-{
-    let mut found: u16 = 0;
-    let mut v: usize = 0;
-    while v < 10 {
-        if t[at + v] > limit {
-            found = found | 1u16 << v as u16;
+impl Totals {
+    // Of the ten totals from a place on, those above a limit.
+    fn above(&self, at: usize, limit: u16) -> u32
+        requires { at + 10 ≤ 696 }
+        ensures { Gives 10 result (λ v. ltb limit (get_or self.now.numbers (at + v) 0)) }
+    {
+        let mut found: u16 = 0;
+        for v in 0..10 {
+            if self.numbers[at + v] > limit {
+                found |= 1 << v;
+            }
         }
-        v = v + 1;
+        u32::from(found)
     }
-    found as u32
-}
 
-// The same with what lies between: the steps from a place on, less the sizes from another.
-fn above_with_gaps(t: &[u16; TOTALS], at: usize, steps: usize, sizes: usize, limit: u16) -> u32
-    requires { Tabled t.now × Stepping t.now at steps sizes }
-    ensures { let t = t.entry.now in Gives 10 result (λ v. ltb limit (get_or t (steps + v) 0 - get_or t (sizes + v) 0 + get_or t (at + v) 0)) }
-{
-    let mut found: u16 = 0;
-    let mut v: usize = 0;
-    while v < 10 {
-        if t[steps + v] - t[sizes + v] + t[at + v] > limit {
-            found = found | 1u16 << v as u16;
+    // The same with what lies between: the steps from a place on, less the sizes from another.
+    fn above_with_gaps(&self, at: usize, steps: usize, sizes: usize, limit: u16) -> u32
+        requires { Stepping self.now.numbers at steps sizes }
+        ensures { let t = self.now.numbers in Gives 10 result (λ v. ltb limit (get_or t (steps + v) 0 - get_or t (sizes + v) 0 + get_or t (at + v) 0)) }
+    {
+        let mut found: u16 = 0;
+        for v in 0..10 {
+            if self.numbers[steps + v] - self.numbers[sizes + v] + self.numbers[at + v] > limit {
+                found |= 1 << v;
+            }
         }
-        v = v + 1;
+        u32::from(found)
     }
-    found as u32
-}
 
-// The items with which u is too long, by its total at `own` and theirs at `other`, where nothing lies between items.
-fn too_long_plain(t: &[u16; TOTALS], own: usize, other: usize, a: usize, u: usize) -> u32
-    requires comparable { Comparable t.now own other a u }
-    requires a_value { gapped_at t.now a ≡ 0 }
-    ensures { Gives 10 result (λ v. above_both t.now own other a u v && not (eqb v u)) }
-{
-    let limit = t[CAPACITY + a] - t[own + a * 10 + u];
-    above(t, other + a * 10, limit) & (bit(u) ^ ITEMS)
-}
-
-// The same where something does.
-fn too_long_with_gaps(t: &[u16; TOTALS], own: usize, other: usize, a: usize, u: usize) -> u32
-    requires { Comparable t.now own other a u }
-    ensures { Gives 10 result (λ v. above_both t.now own other a u v && not (eqb v u)) }
-{
-    let from = own + a * 10 + u;
-    let limit = t[CAPACITY + a] - t[from];
-    above_with_gaps(t, other + a * 10, STEPS + from * 10, SIZES + a * 10, limit) & (bit(u) ^ ITEMS)
-}
-
-// The same, whether something does or not.
-pub fn too_long(t: &[u16; TOTALS], own: usize, other: usize, a: usize, u: usize) -> u32
-    requires { Comparable t.now own other a u }
-    ensures { Gives 10 result (λ v. above_both t.now own other a u v && not (eqb v u)) }
-{
-    if t[GAPPED + a] == 0 {
-        return too_long_plain(t, own, other, a, u);
+    // The items with which u is too long, by its total at `own` and theirs at `other`, where nothing lies between items: a method of its own, with
+    // `above`, since following a link takes a tenth more instructions where both go by the one below.
+    fn too_long_plain(&self, own: usize, other: usize, a: usize, u: usize) -> u32
+        requires comparable { Comparable own other a u }
+        requires a_value { gapped_at self.now.numbers a ≡ 0 }
+        ensures { Gives 10 result (λ v. above_both self.now.numbers own other a u v && not (eqb v u)) }
+    {
+        let limit = self.numbers[CAPACITY + a] - self.numbers[own + a * 10 + u];
+        self.above(other + a * 10, limit) & (bit(u) ^ ITEMS)
     }
-    too_long_with_gaps(t, own, other, a, u)
+
+    // The same where something does.
+    fn too_long_with_gaps(&self, own: usize, other: usize, a: usize, u: usize) -> u32
+        requires { Comparable own other a u }
+        ensures { Gives 10 result (λ v. above_both self.now.numbers own other a u v && not (eqb v u)) }
+    {
+        let from = own + a * 10 + u;
+        let limit = self.numbers[CAPACITY + a] - self.numbers[from];
+        self.above_with_gaps(other + a * 10, STEPS + from * 10, SIZES + a * 10, limit)
+            & (bit(u) ^ ITEMS)
+    }
+
+    // The same, where something lies between items if GAPS.
+    fn too_long_of<const GAPS: bool>(&self, own: usize, other: usize, a: usize, u: usize) -> u32
+        requires comparable { Comparable own other a u }
+        requires gaps { GAPS ≡ false → gapped_at self.now.numbers a ≡ 0 }
+        ensures { Gives 10 result (λ v. above_both self.now.numbers own other a u v && not (eqb v u)) }
+    {
+        if GAPS {
+            self.too_long_with_gaps(own, other, a, u)
+        } else {
+            self.too_long_plain(own, other, a, u)
+        }
+    }
+
+    // The same, whether something does or not.
+    pub fn too_long(&self, own: usize, other: usize, a: usize, u: usize) -> u32
+        requires { Comparable own other a u }
+        ensures { Gives 10 result (λ v. above_both self.now.numbers own other a u v && not (eqb v u)) }
+    {
+        if self.numbers[GAPPED + a] == 0 {
+            self.too_long_plain(own, other, a, u)
+        } else {
+            self.too_long_with_gaps(own, other, a, u)
+        }
+    }
 }
 
 // An order of u, 1 or 2, is removed with the items of a set, with which it is left.
-fn cut_item(
-    k: &mut [u8; DOMAINS],
-    rows: &mut [u32; ROWS],
-    queue: &mut [u16; MAX_QUEUE],
-    x: usize,
-    line: Line,
-    items: u32,
-) -> bool
-    requires good { Good k.old rows.old queue.old × Direction x }
-    requires axis_bound { (line.axis < 3) × (line.item < 10) × (items < 2 ^ 10) × (bit_at items line.item ≡ false) }
-    ensures { RemovesIf (Each x line.axis line.item items) k rows queue result }
+fn cut_item(store: &mut Store, x: usize, line: Line, items: u32) -> Result<(), Conflict>
+    requires { Direction x × (line.axis < 3) × (line.item < 10) × (items < 2 ^ 10) × (bit_at items line.item ≡ false) }
+    ensures { RemovesIf (Each x line.axis line.item items) store.old store.new result }
 {
-    let row = rows[line.axis * 10 + line.item];
+    let row = store.row(line.axis, line.item);
     let left = items & (row >> (x * 10) as u32 ^ ITEMS);
     if left == 0 {
-        return true;
+        return Ok(());
     }
     if emptied(row | left << (x * 10) as u32) != 0 {
-        return false;
+        return Err(Conflict);
     }
-    remove_items(k, rows, queue, x, line, left);
-    true
+    store.remove_items(x, line, left);
+    Ok(())
 }
 
-// For items whose chains ending in them have grown: "u before v" is removed where they are too long together with those starting in v.
-fn cut_ends(
-    k: &mut [u8; DOMAINS],
-    rows: &mut [u32; ROWS],
-    queue: &mut [u16; MAX_QUEUE],
-    t: &[u16; TOTALS],
+// For items whose chains have grown, those ending in them where X is 1 and those starting in them where it is 2: the relation X, "u before v" or
+// "v before u", is removed where they are too long. X is a constant, since over a variable a search takes a tenth more instructions.
+fn cut<const X: usize, const GAPS: bool>(
+    store: &mut Store,
+    totals: &Totals,
     a: usize,
     grown: u32,
-) -> bool
-    requires good { Good k.old rows.old queue.old × Tabled t.now × (a < 3) × (grown < 2 ^ 10) }
-    requires a_value { gapped_at t.now a ≡ 0 }
-    ensures { NarrowsIf (FilledWith (CutAll t.now 1 a)) (CutOf t.now 1 a grown) k rows queue result }
+) -> Result<(), Conflict>
+    requires good { (a < 3) × (grown < 2 ^ 10) }
+    requires direction { Direction X }
+    requires gaps { GAPS ≡ false → gapped_at totals.now.numbers a ≡ 0 }
+    ensures { NarrowsIf (FilledWith (CutAll totals.now.numbers X a)) (CutOf totals.now.numbers X a grown) store.old store.new result }
 {
-    let mut left = grown;
-    while left != 0 {
-        let u = lowest(left);
-        left = rest(left);
+    let own = STARTS * (X - 1);
+    for u in members_of(grown) {
         let line = Line { axis: a, item: u };
-        if !cut_item(k, rows, queue, 1, line, too_long_plain(t, 0, STARTS, a, u)) {
-            return false;
-        }
+        let items = totals.too_long_of::<GAPS>(own, STARTS - own, a, u);
+        cut_item(store, X, line, items)?;
     }
-    true
-}
-
-// The same for those whose chains starting in them have grown.
-fn cut_starts(
-    k: &mut [u8; DOMAINS],
-    rows: &mut [u32; ROWS],
-    queue: &mut [u16; MAX_QUEUE],
-    t: &[u16; TOTALS],
-    a: usize,
-    grown: u32,
-) -> bool
-    requires good { Good k.old rows.old queue.old × Tabled t.now × (a < 3) × (grown < 2 ^ 10) }
-    requires a_value { gapped_at t.now a ≡ 0 }
-    ensures { NarrowsIf (FilledWith (CutAll t.now 2 a)) (CutOf t.now 2 a grown) k rows queue result }
-{
-    let mut left = grown;
-    while left != 0 {
-        let v = lowest(left);
-        left = rest(left);
-        let line = Line { axis: a, item: v };
-        if !cut_item(k, rows, queue, 2, line, too_long_plain(t, STARTS, 0, a, v)) {
-            return false;
-        }
-    }
-    true
-}
-
-// Items of one axis.
-#[derive(Clone, Copy)]
-struct Items {
-    pub axis: usize,
-    pub set: u32,
-}
-
-// The same for either direction where something lies between items: 1 for those whose chains ending in them have grown, 2 for the others.
-fn cut_with_gaps(
-    k: &mut [u8; DOMAINS],
-    rows: &mut [u32; ROWS],
-    queue: &mut [u16; MAX_QUEUE],
-    t: &[u16; TOTALS],
-    x: usize,
-    grown: Items,
-) -> bool
-    requires good { Good k.old rows.old queue.old × Tabled t.now × (grown.axis < 3) × (grown.set < 2 ^ 10) }
-    requires direction { Direction x }
-    ensures { let a = grown.axis in
-        NarrowsIf (FilledWith (CutAll t.now x a)) (CutOf t.now x a grown.set) k rows queue result }
-{
-    let a = grown.axis;
-    let own = STARTS * (x - 1);
-    let mut left = grown.set;
-    while left != 0 {
-        let u = lowest(left);
-        left = rest(left);
-        let line = Line { axis: a, item: u };
-        if !cut_item(
-            k,
-            rows,
-            queue,
-            x,
-            line,
-            too_long_with_gaps(t, own, STARTS - own, a, u),
-        ) {
-            return false;
-        }
-    }
-    true
+    Ok(())
 }
 
 // The items of an axis whose chains have grown: those ending in them, and those starting in them.
@@ -202,34 +136,16 @@ pub struct Grown {
 }
 
 // All that is too long with items whose chains have grown.
-pub fn cut_around(
-    k: &mut [u8; DOMAINS],
-    rows: &mut [u32; ROWS],
-    queue: &mut [u16; MAX_QUEUE],
-    t: &[u16; TOTALS],
-    grown: Grown,
-) -> bool
-    requires { Good k.old rows.old queue.old × Tabled t.now × (grown.axis < 3) × (grown.ends < 2 ^ 10) × (grown.starts < 2 ^ 10) }
+pub fn cut_around(store: &mut Store, totals: &Totals, grown: Grown) -> Result<(), Conflict>
+    requires { (grown.axis < 3) × (grown.ends < 2 ^ 10) × (grown.starts < 2 ^ 10) }
     ensures { let a = grown.axis in
-        NarrowsIf (FilledWith (CutBoth t.now a)) (CutAround t.now a grown.ends grown.starts) k rows queue result }
+        NarrowsIf (FilledWith (CutBoth totals.now.numbers a)) (CutAround totals.now.numbers a grown.ends grown.starts) store.old store.new result }
 {
     let a = grown.axis;
-    if t[GAPPED + a] == 0 {
-        if !cut_ends(k, rows, queue, t, a, grown.ends) {
-            return false;
-        }
-        return cut_starts(k, rows, queue, t, a, grown.starts);
+    if totals.numbers[GAPPED + a] == 0 {
+        cut::<1, false>(store, totals, a, grown.ends)?;
+        return cut::<2, false>(store, totals, a, grown.starts);
     }
-    let ends = Items {
-        axis: a,
-        set: grown.ends,
-    };
-    if !cut_with_gaps(k, rows, queue, t, 1, ends) {
-        return false;
-    }
-    let starts = Items {
-        axis: a,
-        set: grown.starts,
-    };
-    cut_with_gaps(k, rows, queue, t, 2, starts)
+    cut::<1, true>(store, totals, a, grown.ends)?;
+    cut::<2, true>(store, totals, a, grown.starts)
 }

@@ -1,47 +1,26 @@
 // Rule 5 where a link is new.
 ghost use Rattle.std.specs.Prelude.{◌≡◌, true};
 ghost use Rattle.model.specs.Domains.{fixed_before};
-ghost use Rattle.model.specs.Order.{Proper};
-ghost use Rattle.domains.specs.Queue.{Good};
-ghost use Rattle.chains.specs.Totals.{Tabled};
-ghost use Rattle.chains.specs.NewLinks.{KeepsIf, ExtendsAlong};
+ghost use Rattle.chains.specs.Totals.{SameMeasures};
+ghost use Rattle.chains.specs.NewLinks.{ExtendsAlong};
 
 use crate::cuts::{Grown, cut_around};
-use crate::totals::{STARTS, TOTALS, link_on};
-use domains::queue::MAX_QUEUE;
-use domains::{DOMAINS, Place, ROWS};
+use crate::totals::{STARTS, Totals};
+use domains::Place;
+use domains::store::{Conflict, Store};
 
 // Rule 5 where the pair's u is known before its v.
-pub fn apply_link(
-    k: &mut [u8; DOMAINS],
-    rows: &mut [u32; ROWS],
-    queue: &mut [u16; MAX_QUEUE],
-    t: &mut [u16; TOTALS],
-    place: Place,
-) -> bool
-    requires good { Good k.old rows.old queue.old × Tabled t.old }
-    requires proper { Proper 10 place.axis place.u place.v × (fixed_before k.old place.axis place.u place.v ≡ true) }
-    ensures keeps_if { KeepsIf k rows queue t result }
-    ensures extends_along { ExtendsAlong place.axis place.u place.v k rows queue t result }
+pub fn apply_link(store: &mut Store, totals: &mut Totals, place: Place) -> Result<(), Conflict>
+    requires { fixed_before store.old.domains place.axis place.u place.v ≡ true }
+    ensures measures { SameMeasures totals.old.numbers totals.new.numbers }
+    ensures extends_along { ExtendsAlong place.axis place.u place.v store.old store.new totals.old.numbers totals.new.numbers result }
 {
-    let a = place.axis;
-    let ends = link_on(rows, t, 0, 2, place);
-    if !ends.fits {
-        return false;
-    }
-    let back = Place {
-        axis: a,
-        u: place.v,
-        v: place.u,
-    };
-    let starts = link_on(rows, t, STARTS, 1, back);
-    if !starts.fits {
-        return false;
-    }
+    let ends = totals.link_on(&store.rows, 0, 2, place)?;
+    let starts = totals.link_on(&store.rows, STARTS, 1, place.turned())?;
     let grown = Grown {
-        axis: a,
-        ends: ends.items,
-        starts: starts.items,
+        axis: place.axis,
+        ends,
+        starts,
     };
-    cut_around(k, rows, queue, t, grown)
+    cut_around(store, totals, grown)
 }

@@ -1,6 +1,7 @@
 -- The mission's first demand holds.
-use Rattle.std.specs.Prelude.{◌⊎◌, ◌≤◌}
-use Rattle.prelude.specs.Names.{inl, inr, arith}
+use Rattle.std.specs.Prelude.{◌⊎◌, ◌≤◌, Result, Ok, Err}
+use Rattle.prelude.specs.Names.{Bool, true, false, inl, inr, arith}
+use Rattle.refusal.specs.declared.Refusal.{Refusal}
 use Rattle.instance.proofs.Readings.{read_refuses, read_answers}
 use Rattle.item_record.proofs.Records.{record_is_read}
 use Rattle.item_record.proofs.Refusing.{record_refuses, record_serves, record_empty}
@@ -9,7 +10,6 @@ use Rattle.instance.specs.Sheets.{decode}
 use Rattle.packing.proofs.Answers.{answers}
 use Rattle.packing.proofs.Decides.{decides}
 use Rattle.packing.specs.Check.{check_answer, check_number}
-use Rattle.packing.specs.declared.CheckAnswer.{CheckAnswer}
 use Rattle.search.proofs.Claim.{refuses, handed_back}
 use Rattle.search.specs.Results.{answer_number, search_result}
 use Rattle.search.specs.declared.answer.Answer.{Answer}
@@ -23,14 +23,13 @@ use Rattle.makespan.specs.Results.{finish_result}
 use Rattle.c_api.specs.Finishes.{finish_call}
 use Rattle.makespan.proofs.Claim as Finish
 use Rattle.c_api.proofs.Finishes as FinishBytes
-use Rattle.packing.specs.declared.CheckAnswer.TheVariants as Checking
 use Rattle.search.specs.declared.answer.Answer.TheVariants as Searching
 
 -- what a number tells
-check_answers : (a : CheckAnswer) → (check_number a ≤ 1) ⊎ (100 ≤ check_number a)
-check_answers Checking.NotFeasible = inl (omega arith)
-check_answers Checking.Feasible = inl (omega arith)
-check_answers (Checking.Refused e) = inr (omega arith)
+check_answers : (a : Result Bool Refusal) → (check_number a ≤ 1) ⊎ (100 ≤ check_number a)
+check_answers (Ok false) = inl (omega arith)
+check_answers (Ok true) = inl (omega arith)
+check_answers (Err e) = inr (omega arith)
 
 search_answers : (a : Answer) → (answer_number a ≤ 2) ⊎ (100 ≤ answer_number a)
 search_answers Searching.BudgetSpent = inl (omega arith)

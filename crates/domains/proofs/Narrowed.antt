@@ -1,14 +1,13 @@
 -- The algebra of removing: nothing done, one after another, asked for in other words. Stated once for all functions that remove relations.
 use Rattle.std.specs.Prelude.{◌≤◌}
-use Rattle.prelude.specs.Names.{Bool, true, false, List, inl, inr, ⊎_map, refl, ◌∙◌, ℕ, le_refl, arith}
+use Rattle.std.specs.Prelude.{Result, Ok, Err}
+use Rattle.prelude.specs.Names.{List, inl, inr, ⊎_map, refl, ◌∙◌, ℕ, le_refl, arith}
 use Rattle.model.specs.Domains.{Domains}
 use Rattle.model.specs.Order.{◌⊑◌}
 use Rattle.model.proofs.Order.{below_refl, below_trans}
-use Rattle.domains.specs.Queue.{queue_end, Queued, Good, Long}
+use Rattle.domains.specs.Queue.{queue_end, Queued, Good}
 use Rattle.domains.specs.Narrowed.{Grown, Narrowed, Refuted, NarrowedIf}
-
-pub good-long : {k : Domains} {rows q : List ℕ} → Good k rows q → Long k rows q
-good-long g = record { domains = g.laid.well_formed.long; rows_long = g.laid.mirror.long; queue = g.long }
+use Rattle.domains.specs.declared.store.Conflict.{Conflict}
 
 -- Nothing is done
 module _ {k : Domains} {rows q : List ℕ} (g : Good k rows q) where
@@ -50,17 +49,17 @@ pub refuted_later : {G D : Domains → Type 0} {k : Domains} {q : List ℕ} {j :
 refuted_later g none f h b = none f h (g.low f h b)
 
 pub outcome-then : {G D : Domains → Type 0} {k : Domains} {q : List ℕ} {j : Domains} {rows r : List ℕ}
-    (E F : Domains → Type 0) (l : Domains) (rows' s : List ℕ) (b : Bool)
+    (E F : Domains → Type 0) (l : Domains) (rows' s : List ℕ) (b : Result (Unit {0}) Conflict)
     → 1 ≤ queue_end q → Narrowed G D k q j rows r → NarrowedIf G E j r l rows' s b → (l ⊑ j → D j → E l → F l) → NarrowedIf G F k q l rows' s b
-outcome-then E F l rows' s true least g f done = narrowed-then least g f done
-outcome-then E F l rows' s false least g (long, none) done = (long, refuted_later g none)
+outcome-then E F l rows' s (Ok _) least g f done = narrowed-then least g f done
+outcome-then E F l rows' s (Err _) least g none done = refuted_later g none
 
 -- Asked for in other words
 pub narrowed_as : {G G' D D' : Domains → Type 0} {k : Domains} {q : List ℕ} {j : Domains} {rows r : List ℕ}
     → ((f : Domains) → G' f → f ⊑ k → G f) → (j ⊑ k → D j → D' j) → Narrowed G D k q j rows r → Narrowed G' D' k q j rows r
 narrowed_as asked done g = record { grown = g.grown; low = λ f h b. g.low f (asked f h b) b; done = done g.grown.less g.done }
 
-pub outcome_as : (G G' D D' : Domains → Type 0) (k : Domains) (q : List ℕ) (j : Domains) (rows r : List ℕ) (b : Bool)
+pub outcome_as : (G G' D D' : Domains → Type 0) (k : Domains) (q : List ℕ) (j : Domains) (rows r : List ℕ) (b : Result (Unit {0}) Conflict)
     → ((f : Domains) → G' f → f ⊑ k → G f) → (j ⊑ k → D j → D' j) → NarrowedIf G D k q j rows r b → NarrowedIf G' D' k q j rows r b
-outcome_as G G' D D' k q j rows r true asked done g = narrowed_as asked done g
-outcome_as G G' D D' k q j rows r false asked done (long, none) = (long, λ f h b. none f (asked f h b) b)
+outcome_as G G' D D' k q j rows r (Ok _) asked done g = narrowed_as asked done g
+outcome_as G G' D D' k q j rows r (Err _) asked done none = λ f h b. none f (asked f h b) b

@@ -10,7 +10,7 @@ use Rattle.model.specs.Relations.{gone, without, converse, Filled}
 use Rattle.model.specs.Facts.{Saying, nothing, says}
 use Rattle.model.proofs.Facts.{converse-small, gone-converse}
 use Rattle.model.proofs.Without.{without-less, without-above, without-well_formed, without_gone, without_other, says_elsewhere, sum_falls}
-use Rattle.domains.specs.Queue.{pair_code, SamePair, Coded, queue_end, pushed, Pushable, Good}
+use Rattle.domains.specs.Queue.{max_queue, pair_code, SamePair, Coded, queue_end, pushed, Good}
 use Rattle.domains.specs.Narrowed.{RemovedOnly, One, Spare}
 use Rattle.domains.proofs.Mirror.{marked, mirror_one, same_relation}
 
@@ -69,11 +69,12 @@ module _ {k : Domains} {rows q : List ℕ} (g : Good k rows q) {x a u v : ℕ} (
       sum_falls (without k x a u v) k (without-well_formed k x a u v g.laid.well_formed) g.laid.well_formed (without-less k x a u v) x a u v
       (without_gone k x g.laid.well_formed w) s.left
 
-  pub pushable : Pushable q a u v
-  pushable = record { long = g.long; least = g.least; room = omega (arith, g.room, sum_less); proper = w }
+  -- there is room for one pair more
+  pub room_left : (1 ≤ queue_end q) × (queue_end q < max_queue)
+  room_left = (g.least, omega (arith, g.room, sum_less))
 
   push_fits : queue_end q < length q
-  push_fits = rw g.long pushable.room
+  push_fits = rw g.long room_left.1
 
   end_is : queue_end (pushed q (pair_code a u v)) ≡ queue_end q + 1
   end_is = push_end q (pair_code a u v) push_fits

@@ -1,7 +1,8 @@
 -- Removing what stands in a set, as in the row of u: refused where it leaves nothing of a pair, else one relation after another; and what is left of
 -- the set where the row has some of it.
 use Rattle.std.specs.Prelude.{◌&&◌, ◌||◌, ◌≢◌, ◌≡◌, ◌+◌, ◌*◌, ◌≤◌, ◌<◌}
-use Rattle.prelude.specs.Names.{true, false, Bool, not, List, inl, inr, sym, ◌∙◌, ℕ, zero, suc, ℕ_discrete}
+use Rattle.std.specs.Prelude.{Result}
+use Rattle.prelude.specs.Names.{true, false, not, List, inl, inr, sym, ◌∙◌, ℕ, zero, suc, ℕ_discrete}
 use Rattle.prelude.specs.Names.{arith, bit_or, bit_and, bit_xor, not-true}
 use Rattle.model.specs.Domains.{Domains}
 use Rattle.model.specs.Order.{Proper, WellFormed, ◌⊑◌}
@@ -15,6 +16,7 @@ use Rattle.domains.specs.Bits.{bit_at, Gives}
 use Rattle.domains.specs.Rows.{row_at}
 use Rattle.domains.specs.Queue.{Good}
 use Rattle.domains.specs.Narrowed.{Narrowed, Refuted, RemovedOnly, RemovedIf, Each, Spares, All, Asked, Askable, Left}
+use Rattle.domains.specs.declared.store.Conflict.{Conflict}
 use Rattle.domains.proofs.BitLaws.{bit-zero, bit-or, bit-first, has-bit, gives_in, true_or_false, bit-and, bit_not, and_small}
 use Rattle.domains.proofs.Narrowed.{narrowed_none, narrowed-then, narrowed_as, outcome_as}
 use Rattle.domains.proofs.RemoveItems.{still_left}
@@ -157,7 +159,7 @@ module _ {k : Domains} {rows q : List ℕ} {a u set : ℕ} (g : Good k rows q) (
   pub rest-none : rest ≡ 0 → Narrowed (Asked a u set) (All a u set) k q k rows q
   rest-none z = narrowed_none g (rest_all k (below_refl k) (λ x v hx hv e. absurd (clash e (rw z (bit-zero (x * 10 + v))))))
 
-  pub rest-outcome : (j : Domains) (rows' r : List ℕ) (b : Bool) → RemovedIf (All a u rest) k q j rows' r b → RemovedIf (All a u set) k q j rows' r b
+  pub rest-outcome : (j : Domains) (rows' r : List ℕ) (b : Result (Unit {0}) Conflict) → RemovedIf (All a u rest) k q j rows' r b → RemovedIf (All a u set) k q j rows' r b
   rest-outcome j rows' r b =
       outcome_as _ _ _ _ k q j rows' r b
       (λ f h _. record { all = λ x v hx hv e. h.all x v hx hv (in_set x v hx hv e).0; filled = h.filled }) (rest_all j)

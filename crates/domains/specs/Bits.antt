@@ -1,5 +1,5 @@
 -- Rows of bits and sets of items as numbers. A row has bit 10 * x + v for the relation x with the item v; a set of items the bits below 10.
-use Rattle.std.specs.Prelude.{◌&&◌, ◌≡◌, ◌/◌, ◌%◌, ◌^◌, ◌<◌}
+use Rattle.std.specs.Prelude.{Option, MatchOption, ◌&&◌, ◌≡◌, ◌/◌, ◌%◌, ◌^◌, ◌<◌}
 use Rattle.prelude.specs.Names.{Bool, true, not, ℕ, eqb, count_trailing_zeros}
 
 unfoldable pub bit_at : ℕ → ℕ → Bool
@@ -22,3 +22,7 @@ Lowest m i = (i ≡ lowest_bit m) × (i < 30) × (bit_at m i ≡ true)
 pub record TakenOut (m i r : ℕ) : Type 0 where
   pub less : r < m
   pub is : (j : ℕ) → bit_at r j ≡ (bit_at m j && not (eqb j i))
+
+-- of the bits of m the lowest is given, and r are the others; or there is none
+abbrev pub NextBit : ℕ → Option ℕ → ℕ → Type 0
+NextBit m o r = MatchOption o ((m ≡ 0) × (r ≡ 0)) (λ i. Lowest m i × TakenOut m i r)

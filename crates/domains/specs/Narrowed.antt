@@ -1,14 +1,15 @@
 -- What every function that removes relations promises: only what was asked for is gone, and this is done. One record for all of them.
 use Rattle.std.specs.Prelude.{◌⊎◌, ◌≢◌, ◌≡◌, ◌+◌, ◌*◌, ◌^◌, ◌≤◌, ◌<◌}
-use Rattle.prelude.specs.Names.{Bool, true, false, List, ℕ, get_or}
-use Rattle.std.specs.Borrow.{MutBor}
-use denote.Triple.Both.{Both}
+use Rattle.std.specs.Prelude.{Result, Ok, Err}
+use Rattle.prelude.specs.Names.{true, false, List, ℕ, get_or}
 use Rattle.model.specs.Domains.{Domains}
 use Rattle.model.specs.Order.{Proper, ◌⊑◌}
 use Rattle.model.specs.Relations.{gone, Filled}
 use Rattle.model.specs.Facts.{Fact, Holds}
 use Rattle.domains.specs.Bits.{bit_at}
-use Rattle.domains.specs.Queue.{queue_end, Queued, Good, Long}
+use Rattle.domains.specs.Queue.{queue_end, Queued, Good}
+use Rattle.domains.specs.declared.store.Store.{Store}
+use Rattle.domains.specs.declared.store.Conflict.{Conflict}
 
 -- from k to j relations are only removed, and each pair of which one is removed goes on the queue
 pub record Grown (k : Domains) (q : List ℕ) (j : Domains) (rows r : List ℕ) : Type 0 where
@@ -28,10 +29,10 @@ pub record Narrowed (G D : Domains → Type 0) (k : Domains) (q : List ℕ) (j :
 abbrev pub Refuted : (Domains → Type 0) → Domains → Type 0
 Refuted G k = (f : Domains) → G f → f ⊑ k → ⊥
 
--- a function answers true where it has narrowed, and false where there is nothing to be had
-abbrev pub NarrowedIf : (Domains → Type 0) → (Domains → Type 0) → Domains → List ℕ → Domains → List ℕ → List ℕ → Bool → Type 0
-NarrowedIf G D k q j rows r true = Narrowed G D k q j rows r
-NarrowedIf G D k q j rows r false = Long j rows r × Refuted G k
+-- a function answers Ok where it has narrowed, and Err where there is nothing to be had
+abbrev pub NarrowedIf : (Domains → Type 0) → (Domains → Type 0) → Domains → List ℕ → Domains → List ℕ → List ℕ → Result (Unit {0}) Conflict → Type 0
+NarrowedIf G D k q j rows r (Ok _) = Narrowed G D k q j rows r
+NarrowedIf G D k q j rows r (Err _) = Refuted G k
 
 -- D is done, and every pair has a relation left
 pub record FilledWith (D : Domains → Type 0) (f : Domains) : Type 0 where
@@ -42,20 +43,17 @@ pub record FilledWith (D : Domains → Type 0) (f : Domains) : Type 0 where
 abbrev pub RemovedOnly : (Domains → Type 0) → Domains → List ℕ → Domains → List ℕ → List ℕ → Type 0
 RemovedOnly D = Narrowed D D
 
-abbrev pub RemovedIf : (Domains → Type 0) → Domains → List ℕ → Domains → List ℕ → List ℕ → Bool → Type 0
+abbrev pub RemovedIf : (Domains → Type 0) → Domains → List ℕ → Domains → List ℕ → List ℕ → Result (Unit {0}) Conflict → Type 0
 RemovedIf D = NarrowedIf (FilledWith D) D
 
--- For contracts: an array that a function is lent, at its entry and at its exit; then the above of its domains, rows and queue, from entry to exit
-abbrev pub LentArray : Type 0
-LentArray = Both (MutBor (List ℕ)) (MutBor (List ℕ))
+-- For contracts: the above of a store, from entry to exit
+abbrev pub NarrowsIf : (Domains → Type 0) → (Domains → Type 0) → Store → Store → Result (Unit {0}) Conflict → Type 0
+NarrowsIf G D old new = NarrowedIf G D old.domains old.queue new.domains new.rows new.queue
 
-abbrev pub NarrowsIf : (Domains → Type 0) → (Domains → Type 0) → LentArray → LentArray → LentArray → Bool → Type 0
-NarrowsIf G D k rows queue = NarrowedIf G D k.entry.now queue.entry.now k.exit.now rows.exit.now queue.exit.now
+abbrev pub Removes : (Domains → Type 0) → Store → Store → Type 0
+Removes D old new = RemovedOnly D old.domains old.queue new.domains new.rows new.queue
 
-abbrev pub Removes : (Domains → Type 0) → LentArray → LentArray → LentArray → Type 0
-Removes D k rows queue = RemovedOnly D k.entry.now queue.entry.now k.exit.now rows.exit.now queue.exit.now
-
-abbrev pub RemovesIf : (Domains → Type 0) → LentArray → LentArray → LentArray → Bool → Type 0
+abbrev pub RemovesIf : (Domains → Type 0) → Store → Store → Result (Unit {0}) Conflict → Type 0
 RemovesIf D = NarrowsIf (FilledWith D) D
 
 -- a relation is removed

@@ -30,16 +30,13 @@ queue_end q = get_or q 0 0
 abbrev pub pushed : List ℕ → ℕ → List ℕ
 pushed q x = set (set q (queue_end q) x) 0 (queue_end q + 1)
 
+-- the queue with no pair
+abbrev pub no_changes : List ℕ → List ℕ
+no_changes q = set q 0 1
+
 -- the pair is on the queue from one place up to another, in one order or the other
 abbrev pub Queued : List ℕ → ℕ → ℕ → ℕ → ℕ → ℕ → Type 0
 Queued q from to a u v = (j : ℕ) × (from ≤ j) × (j < to) × ((get_or q j 0 ≡ pair_code a u v) ⊎ (get_or q j 0 ≡ pair_code a v u))
-
--- there is room for one pair more
-pub record Pushable (q : List ℕ) (a u v : ℕ) : Type 0 where
-  pub long : length q ≡ max_queue
-  pub least : 1 ≤ queue_end q
-  pub room : queue_end q < max_queue
-  pub proper : Proper 10 a u v
 
 -- domains with their rows and the queue, in which there is room for all that can still be removed
 pub record Good (k : Domains) (rows q : List ℕ) : Type 0 where
@@ -48,9 +45,3 @@ pub record Good (k : Domains) (rows q : List ℕ) : Type 0 where
   pub least : 1 ≤ queue_end q
   pub room : queue_end q + sum k ≤ max_queue
   pub coded : (j : ℕ) → 1 ≤ j → j < queue_end q → Coded (get_or q j 0)
-
--- the arrays, whatever they hold
-pub record Long (k : Domains) (rows q : List ℕ) : Type 0 where
-  pub domains : length k ≡ 135
-  pub rows_long : length rows ≡ 30
-  pub queue : length q ≡ max_queue

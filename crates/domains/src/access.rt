@@ -2,9 +2,8 @@
 ghost use Rattle.std.specs.Prelude.{◌≡◌, false, ◌<◌};
 ghost use Rattle.model.specs.Domains as D;
 ghost use Rattle.model.specs.Order.{Rising};
-ghost use Rattle.domains.specs.Access.{Removable};
 
-use crate::DOMAINS;
+use crate::{DOMAINS, Place};
 use pairs::pair_number;
 
 // Where the domain of u < v stands.
@@ -15,7 +14,7 @@ pub fn index(a: usize, u: usize, v: usize) -> usize
     pair_number(u, v) * 3 + a
 }
 
-// A domain without one of its relations.
+// A domain without one of its relations: a function for each, since the model has `remove_overlap` and `remove_before` one by one and the bits by name.
 fn without_overlap(m: u8) -> u8
     ensures { result ≡ D.domain false (D.before_bit m) (D.after_bit m) }
 {
@@ -34,30 +33,24 @@ fn without_after(m: u8) -> u8
     m % 2 + m / 2 % 2 * 2
 }
 
-// Removable "u and v overlap".
-pub fn remove_overlap(k: &mut [u8; DOMAINS], a: usize, u: usize, v: usize)
-    requires { Removable k.old a u v }
-    ensures { k.new ≡ D.remove_overlap k.old a u v }
+// Removes "u and v overlap".
+pub fn remove_overlap(k: &mut [u8; DOMAINS], place: Place)
+    ensures { k.new ≡ D.remove_overlap k.old place.axis place.u place.v }
 {
-    if u < v {
-        let i = index(a, u, v);
-        k[i] = without_overlap(k[i]);
-        return;
-    }
-    let i = index(a, v, u);
+    let Place { axis, u, v } = place;
+    let i = index(axis, u.min(v), u.max(v));
     k[i] = without_overlap(k[i]);
 }
 
-// Removable "u before v".
-pub fn remove_before(k: &mut [u8; DOMAINS], a: usize, u: usize, v: usize)
-    requires { Removable k.old a u v }
-    ensures { k.new ≡ D.remove_before k.old a u v }
+// Removes "u before v".
+pub fn remove_before(k: &mut [u8; DOMAINS], place: Place)
+    ensures { k.new ≡ D.remove_before k.old place.axis place.u place.v }
 {
-    if u < v {
-        let i = index(a, u, v);
-        k[i] = without_before(k[i]);
-        return;
-    }
-    let i = index(a, v, u);
-    k[i] = without_after(k[i]);
+    let Place { axis, u, v } = place;
+    let i = index(axis, u.min(v), u.max(v));
+    k[i] = if u < v {
+        without_before(k[i])
+    } else {
+        without_after(k[i])
+    };
 }

@@ -1,5 +1,5 @@
 -- A sheet reads as an instance, to the end of its bytes, or is refused: what reading returns.
-use Rattle.std.specs.Prelude.{◌↔◌, ◌⊎◌, ◌≡◌}
+use Rattle.std.specs.Prelude.{◌↔◌, ◌⊎◌, ◌≡◌, Result, Ok, Err}
 use Rattle.prelude.specs.Names.{List, [], iff_refl, inl, inr, refl, sym, ap, ◌∙◌, ℕ, arith, length}
 use Rattle.refusal.specs.declared.Refusal.{Refusal}
 use Rattle.refusal.specs.Numbers.{number_of, place_of}
@@ -11,12 +11,10 @@ use Rattle.sheet.specs.Sheet.{sheet}
 use Rattle.sheet.specs.Contents.{sheet_at}
 use Rattle.sheet.proofs.Faults.{refused-first, faultless_got, faultless_reads}
 use Rattle.instance.specs.declared.Instance.{Instance}
-use Rattle.instance.specs.declared.ReadResult.{ReadResult}
 use Rattle.instance.specs.Sheets.{instance_of, decode}
 use Rattle.instance.specs.Answers.{read_result, read_values}
 use Rattle.instance.specs.Reads.{Reads}
 use Rattle.instance.proofs.RoundTrips.{read_sheet}
-use Rattle.instance.specs.declared.ReadAnswer.TheVariants as R
 
 -- a reading that was answered "read"
 pub record WasRead (r : Read Instance) (i : Instance) : Type 0 where
@@ -24,12 +22,12 @@ pub record WasRead (r : Read Instance) (i : Instance) : Type 0 where
   pub left : List ℕ
   pub was : r ≡ got i place left
 
-pub was_read : (r : Read Instance) (result : ReadResult) → result ≡ read_result r → result.answer ≡ R.Read → WasRead r result.instance
-was_read (got i at rest) result e h = record { place = at; left = rest; was = rw e }
-was_read (refused e') result e h = let z : ◌≡◌ {A = ℕ} 0 1 = cc in absurd (omega arith)
+pub was_read : (r : Read Instance) (result : Result Instance Refusal) {i : Instance} → result ≡ read_result r → result ≡ Ok i → WasRead r i
+was_read (got j at rest) result {i} e h = let q : j ≡ i = cc in record { place = at; left = rest; was = rw q }
+was_read (refused e') result e h = cc
 
-pub was_refused : (r : Read Instance) (result : ReadResult) {e : Refusal} → result ≡ read_result r → result.answer ≡ R.Refused e → r ≡ refused e
-was_refused (got i at rest) result q h = let z : ◌≡◌ {A = ℕ} 0 1 = cc in absurd (omega arith)
+pub was_refused : (r : Read Instance) (result : Result Instance Refusal) {e : Refusal} → result ≡ read_result r → result ≡ Err e → r ≡ refused e
+was_refused (got i at rest) result q h = cc
 was_refused (refused e) result q h = cc
 
 module _ (s : List ℕ) {i : Instance} {at : ℕ} {rest : List ℕ} (h : decode s ≡ got i at rest) where

@@ -1,10 +1,9 @@
 -- What validity says of an instance, part by part; and that its sheet may be written.
-use Rattle.std.specs.Prelude.{◌≡◌, ◌&&◌, ◌≤◌, ◌<◌, ◌∷◌, ◌≢◌}
+use Rattle.std.specs.Prelude.{◌≡◌, ◌&&◌, ◌≤◌, ◌<◌, ◌∷◌, ◌≢◌, Option, Some, None}
 use Rattle.prelude.specs.Names.{sym, ◌∙◌, true, map, ℕ, zero, suc, arith, leb, ltb, length, get_or, length-take-le, leb-true, ltb-true}
 use Rattle.prelude.specs.Names.{eq-eqb, eqb-false, not-true, List, [], le_of_suc-le-suc}
 use lib.ListN.{length-map}
 use Rattle.formats.proofs.Laws.{both_true}
-use Rattle.parts.specs.declared.Previous.TheVariants.{Nothing, Was}
 use Rattle.parts.specs.Precedences.{arc_of, lag_of, unlagged, all_allowed, names_items, rises}
 use Rattle.parts.specs.Sizes.{size_in_range, all_in_range, no_precedence}
 use Rattle.sheet.specs.Sheet.{max_items, max_precedences, longest_sheet, sheet}
@@ -14,7 +13,6 @@ use Rattle.instance.specs.declared.Instance.{Instance}
 use Rattle.instance.specs.Valid.{valid, items_of, precedences_of}
 use Rattle.instance.specs.Sheets.{sheet_of, encode}
 use Rattle.parts.specs.declared.Precedence.{Precedence}
-use Rattle.parts.specs.declared.Previous.{Previous}
 use Rattle.instance.specs.Reads.{Full}
 
 pub record IsValid (i : Instance) : Type 0 where
@@ -22,7 +20,7 @@ pub record IsValid (i : Instance) : Type 0 where
   pub precedences-few : i.precedence_count ≤ max_precedences
   pub container-in_range : size_in_range i.container ≡ true
   pub items_in_range : all_in_range (items_of i) ≡ true
-  pub precedences-allowed : all_allowed i.item_count Nothing (map arc_of (precedences_of i)) ≡ true
+  pub precedences-allowed : all_allowed i.item_count None (map arc_of (precedences_of i)) ≡ true
 
 pub valid-says : (i : Instance) → valid i ≡ true → IsValid i
 unfolding valid
@@ -34,7 +32,7 @@ valid-says i h =
     record { items-few = leb-true _ _ a; precedences-few = leb-true _ _ c; container-in_range = e; items_in_range = g; precedences-allowed = k }
 
 -- each of the precedences that are allowed names two items below n
-pub allowed_at : (n : ℕ) (last : Previous) (os : List Precedence) → all_allowed n last (map arc_of os) ≡ true → (k : ℕ) → k < length os
+pub allowed_at : (n : ℕ) (last : Option Precedence) (os : List Precedence) → all_allowed n last (map arc_of os) ≡ true → (k : ℕ) → k < length os
     → let o = get_or os k no_precedence in (o.predecessor < n) × (o.successor < n) × (o.predecessor ≢ o.successor)
 unfolding all_allowed names_items
 allowed_at n last [] e k h = absurd (omega arith)
@@ -44,7 +42,7 @@ allowed_at n last (o ∷ os) e zero h =
     let (b, d) = both_true (ltb o.successor n) _ r in
     (ltb-true _ _ a, ltb-true _ _ b, eqb-false _ _ (not-true _ d))
 allowed_at n last (o ∷ os) e (suc k) h =
-    allowed_at n (Was (unlagged (arc_of o))) os (both_true (names_items n (arc_of o) && rises last (arc_of o)) _ e).1 k (le_of_suc-le-suc h)
+    allowed_at n (Some (unlagged (arc_of o))) os (both_true (names_items n (arc_of o) && rises last (arc_of o)) _ e).1 k (le_of_suc-le-suc h)
 
 -- a valid value of the type has as many entries as it counts
 module _ (i : Instance) (h : valid i ≡ true) (full : Full i) where

@@ -2,6 +2,5 @@ pub mod Valid
 pub mod Values
 pub mod Meaning
 pub mod Sheets
-pub mod Drafts
 pub mod Answers
 pub mod Reads

@@ -1,9 +1,8 @@
 -- When a value is an instance (document 01, refusal 9).
-use Rattle.std.specs.Prelude.{◌&&◌}
+use Rattle.std.specs.Prelude.{◌&&◌, None}
 use Rattle.prelude.specs.Names.{Bool, List, map, leb, take}
 use Rattle.parts.specs.declared.Item.{Item}
 use Rattle.parts.specs.declared.Precedence.{Precedence}
-use Rattle.parts.specs.declared.Previous.TheVariants.{Nothing}
 use Rattle.parts.specs.Precedences.{arc_of, all_allowed}
 use Rattle.parts.specs.Sizes.{size_in_range, all_in_range}
 use Rattle.sheet.specs.Sheet.{max_items, max_precedences}
@@ -23,4 +22,4 @@ valid i =
     && (leb i.precedence_count max_precedences
     && (size_in_range i.container
     && (all_in_range (items_of i)
-    && all_allowed i.item_count Nothing (map arc_of (precedences_of i)))))
+    && all_allowed i.item_count None (map arc_of (precedences_of i)))))

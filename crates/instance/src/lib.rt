@@ -2,15 +2,18 @@
 #![tactic(auto)]
 
 ghost use Rattle.std.specs.Prelude.{◌≡◌};
+ghost use Rattle.instance.specs.Answers.{read_result};
+ghost use Rattle.instance.specs.Sheets.{decode};
 ghost use Rattle.instance.specs.Valid.{valid};
 ghost use Rattle.instance.specs.Values.{opening_checkpoint, origin_packing};
 
-use parts::{Item, Precedence, Size};
+use lists::{Items, Precedences};
+use parts::read::Rest;
+use parts::{Item, Precedence, Size, bit_is_set};
 use refusal::Refusal;
 
-mod read;
-
-// A sheet. Entries past the counts are no part of it.
+// A sheet. Entries past the counts are no part of it. A count stands beside each array: a value may count more than there is room for, which gets
+// refusal 9, and `valid`, `instance_of` and `SameInstance` speak of the fields.
 #[derive(Clone, Copy)]
 pub struct Instance {
     pub container: Size,
@@ -23,7 +26,7 @@ pub struct Instance {
 }
 
 // Where one item starts.
-#[derive(Clone, Copy)]
+#[derive(Clone, Copy, Debug, Default, PartialEq, Eq)]
 pub struct Position {
     pub x: u16,
     pub y: u16,
@@ -31,7 +34,8 @@ pub struct Position {
 }
 
 // A plan: where each item starts, and a mark, 1 for an item that is turned, its width and depth exchanged, and 0 for one that is not. Positions and
-// marks past an instance's count are no part of it.
+// marks past an instance's count are no part of it. The marks are an array of their own, of bytes: the theorem `clearance_answers` speaks of a
+// packing's marks, and one above 1 gets refusal 13.
 #[derive(Clone, Copy)]
 pub struct Packing {
     pub positions: [Position; Instance::MAX_ITEMS],
@@ -39,7 +43,7 @@ pub struct Packing {
 }
 
 // Whether a search is still open, or how it ended.
-#[derive(Clone, Copy)]
+#[derive(Clone, Copy, Debug, PartialEq, Eq)]
 pub enum Status {
     Open,
     Infeasible,
@@ -47,26 +51,14 @@ pub enum Status {
 }
 
 // A note: where a search is. A branch is 0 for first and 1 for second; entries past the length are no part of it. The choice says which items are
-// turned: the lowest-numbered of those that may be is its lowest binary digit.
+// turned: the lowest-numbered of those that may be is its lowest binary digit. The length stands beside the array, as an instance's counts do: one
+// that is too long gets refusal 10. Branches are bytes: "turns as [0; 270]", and a byte above 1 gets refusal 10 too (`well_formed`).
 #[derive(Clone, Copy)]
 pub struct Checkpoint {
     pub status: Status,
     pub length: usize,
     pub branches: [u8; Instance::MAX_BRANCHES],
     pub choice: u16,
-}
-
-#[derive(Clone, Copy)]
-pub enum ReadAnswer {
-    Read,
-    Refused(Refusal),
-}
-
-// What reading gives. Where it is refused the instance is an empty one.
-#[derive(Clone, Copy)]
-pub struct ReadResult {
-    pub answer: ReadAnswer,
-    pub instance: Instance,
 }
 
 impl Instance {
@@ -83,50 +75,73 @@ impl Instance {
     pub const MAX_BYTES: usize = 352;
 
     // The opening checkpoint: open with an empty path, at choice 0.
+    #[tactic(auto, unfolding(crate::specs::Values::opening_checkpoint))]
     pub fn opening() -> Checkpoint
         ensures { result ≡ opening_checkpoint }
     {
-        let branches = [0u8; Self::MAX_BRANCHES];
         Checkpoint {
             status: Status::Open,
             length: 0,
-            branches,
+            branches: [0; Self::MAX_BRANCHES],
             choice: 0,
         }
     }
 
+    // Reads a sheet: a map byte, and the fields whose bits are set in it.
+    #[tactic(auto, using(crate::proofs::Readers::readings))]
+    pub fn read(bytes: &[u8]) -> Result<Instance, Refusal>
+        ensures { result ≡ read_result (decode bytes.now) }
+    {
+        let (map, rest) = Rest::new(bytes).byte()?;
+        let (container, rest) = rest.size(map)?;
+        let (list, rest) = lists::read::read_items(rest, bit_is_set(map, 8))?;
+        let Items {
+            items,
+            count: item_count,
+        } = list;
+        let (list, rest) = lists::read::read_precedences(rest, item_count, bit_is_set(map, 16))?;
+        let Precedences {
+            precedences,
+            count: precedence_count,
+        } = list;
+        let (yard_number, rest) = rest.field(bit_is_set(map, 32), 0)?;
+        let (lags, rest) = lists::read::read_lags(rest, precedence_count, bit_is_set(map, 64))?;
+        let (walkway, rest) = rest.byte_field(bit_is_set(map, 128))?;
+        rest.end()?;
+        let precedences = lists::with_lags(precedences, lags);
+        Ok(Instance {
+            container,
+            items,
+            item_count,
+            precedences,
+            precedence_count,
+            yard_number,
+            walkway,
+        })
+    }
+
     // Whether the value is an instance: none of number 9's conditions holds.
+    #[tactic(auto, unfolding(crate::specs::Valid::valid))]
     pub fn is_valid(self) -> bool
         ensures { result ≡ valid self }
     {
-        let n = self.item_count;
-        let m = self.precedence_count;
-        if Self::MAX_ITEMS < n {
-            return false;
-        }
-        if Self::MAX_PRECEDENCES < m {
-            return false;
-        }
-        let container = self.container;
-        if !parts::valid::size_in_range(container) {
-            return false;
-        }
-        let items = self.items;
-        if !lists::all_in_range(items, n) {
-            return false;
-        }
-        let precedences = self.precedences;
-        lists::all_in_order(precedences, m, n)
+        self.item_count <= Self::MAX_ITEMS
+            && self.precedence_count <= Self::MAX_PRECEDENCES
+            && parts::valid::size_in_range(self.container)
+            && lists::all_in_range(&self.items[..self.item_count])
+            && lists::all_in_order(&self.precedences[..self.precedence_count], self.item_count)
     }
 }
 
 impl Packing {
     // All items at the origin, and none turned.
+    #[tactic(auto, unfolding(crate::specs::Values::origin_packing))]
     pub fn origin() -> Self
         ensures { result ≡ origin_packing }
     {
-        let positions = [Position { x: 0, y: 0, t: 0 }; Instance::MAX_ITEMS];
-        let marks = [0u8; Instance::MAX_ITEMS];
-        Packing { positions, marks }
+        Packing {
+            positions: [Position::default(); Instance::MAX_ITEMS],
+            marks: [0; Instance::MAX_ITEMS],
+        }
     }
 }

@@ -1,5 +1,5 @@
 -- The record that is handed out for an item is the bytes that the item was read from.
-use Rattle.std.specs.Prelude.{◌≡◌, ◌+◌, ◌-◌, ◌≤◌, ◌<◌}
+use Rattle.std.specs.Prelude.{Ok, ◌≡◌, ◌+◌, ◌-◌, ◌≤◌, ◌<◌}
 use Rattle.prelude.specs.Names.{List, ap, subst, ℕ, zero, suc, arith, length, get_or, take, drop, length-append, length-drop}
 use Rattle.prelude.specs.Names.{take_at, get_or-drop}
 use lib.ListN.{get_or-append}
@@ -13,7 +13,6 @@ use Rattle.sheet.proofs.Faults.{item_read_there}
 use Rattle.instance.specs.Sheets.{instance_of, decode}
 use Rattle.instance.specs.Reads.{Reads}
 use Rattle.instance.proofs.RoundTrips.{read_sheet}
-use Rattle.item_record.specs.declared.Lookup.TheVariants.{There}
 use Rattle.item_record.specs.Record.{lookup, item_record}
 use Rattle.item_record.proofs.Refusing.{Grounds, grounds, from_grounds}
 
@@ -49,7 +48,7 @@ module _ (sheet : List ℕ) (r : Reads sheet) (k : ℕ) (l : k < r.instance.item
       (inside, rw (← q, get_or-append) there)
 
 -- an item that is found has its record within the sheet
-pub found_there : (sheet : List ℕ) (k : ℕ) → lookup (decode sheet) k ≡ There → item_place sheet (suc k) ≤ length sheet
+pub found_there : (sheet : List ℕ) (k : ℕ) → lookup (decode sheet) k ≡ Ok tt → item_place sheet (suc k) ≤ length sheet
 found_there sheet k q = let (r, l) = subst (Grounds sheet k) q (grounds sheet k) in (read_there sheet r k l).0
 
 -- "handed out as that part of the lent sheet itself": the bytes that item k was read from
@@ -62,4 +61,4 @@ unfolding item_record
 record_is_read sheet b r k l =
     let (inside, there) = read_there sheet r k l in
     let after = next_after sheet k in
-    (there, rw (from_grounds sheet k There (r, l)) (part_read sheet b (omega arith) inside there))
+    (there, rw (from_grounds sheet k (Ok tt) (r, l)) (part_read sheet b (omega arith) inside there))

@@ -1,7 +1,7 @@
 -- Laws of lags in an array, and of precedences with their lags.
-use Rattle.std.specs.Prelude.{◌≡◌, ◌∷◌, ◌++◌, ◌+◌, ◌-◌, ◌<◌}
-use Rattle.prelude.specs.Names.{refl, sym, ap, ◌∙◌, List, [], map, ℕ, zero, suc, arith}
-use Rattle.prelude.specs.Names.{length, get_or, set, take, drop, replicate, add-one, take-suc, drop-cons, length-take-le, append_assoc}
+use Rattle.std.specs.Prelude.{◌&&◌, ◌≡◌, ◌∷◌, ◌++◌, ◌+◌, ◌-◌, ◌<◌}
+use Rattle.prelude.specs.Names.{refl, sym, ap, ◌∙◌, List, [], map, ℕ, zero, suc, arith, eqb}
+use Rattle.prelude.specs.Names.{length, get_or, set, take, drop, replicate, add-one, drop-cons, append_assoc}
 use lib.ListN.{length-map}
 use lib.Seq.{take-suc-set, drop-set-lt}
 use Rattle.formats.specs.Reading.{Read, got, refused, read_as}
@@ -10,15 +10,8 @@ use Rattle.parts.specs.Sizes.{no_precedence}
 use Rattle.parts.specs.Precedences.{Arc, arc_of, lag_of, lagged, unlagged}
 use Rattle.parts.specs.Parts.{lags_zero}
 use Rattle.parts.proofs.Laws.{zeros_zero}
-use Rattle.lists.specs.Lists.{padded, with_lags}
-use Rattle.lists.proofs.Rows.{padded-next}
-
--- one byte more of a list at the front of an array
-pub byte_next : (room : ℕ) (s : List ℕ) (i : ℕ) → i < length s → i < room → set (padded room 0 (take i s)) i (get_or s i 0) ≡ padded room 0 (take (i + 1) s)
-byte_next room s i h l =
-    let e : length (take i s) ≡ i = length-take-le i s (omega arith) in
-    let n = padded-next room 0 (take i s) (get_or s i 0) (omega arith) in
-    ap (λ (k : ℕ). set (padded room 0 (take i s)) k (get_or s i 0)) (sym e) ∙ n ∙ rw (add-one, take-suc s i 0 h)
+use Rattle.lists.specs.Lists.{padded, Padded, with_lags}
+use Rattle.std.specs.List.{list_all}
 
 -- blanks are lags of 0
 pub padded-zero : (room : ℕ) (gs : List ℕ) → lags_zero (padded room 0 gs) ≡ lags_zero gs
@@ -28,6 +21,16 @@ padded-zero room gs = go gs (room - length gs)
     go : (gs : List ℕ) (k : ℕ) → lags_zero (gs ++ replicate k 0) ≡ lags_zero gs
     go [] k = zeros_zero k
     go (g ∷ gs) k = rw (go gs k)
+
+-- as the library's test of each
+pub lags_zero-all : (gs : List ℕ) → list_all (λ g. eqb g 0) gs ≡ lags_zero gs
+unfolding lags_zero
+lags_zero-all [] = refl
+lags_zero-all (g ∷ gs) = ap (◌&&◌ (eqb g 0)) (lags_zero-all gs)
+
+-- the test of all entries is that of those that count
+pub lags_zero-first : {room m : ℕ} {lags : List ℕ} → Padded room 0 m lags → lags_zero (take m lags) ≡ lags_zero lags
+lags_zero-first {room} {m} {lags} φ = sym (ap lags_zero φ.same ∙ padded-zero room (take m lags))
 
 -- a lag is put into the precedence of its place
 pub lag-next : (os : List Precedence) (gs : List ℕ) (i : ℕ) → i < length os → i < length gs →

@@ -1,3 +1,4 @@
 pub mod Rows
 pub mod Counted
 pub mod Lags
+pub mod Valid

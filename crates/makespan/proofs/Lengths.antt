@@ -3,7 +3,7 @@ use Rattle.std.specs.Prelude.{◌≡◌, ◌+◌, ◌-◌, ◌*◌, ◌/◌, ◌
 use Rattle.prelude.specs.Names.{Bool, true, false, cond, refl, sym, ap, ◌∙◌, subst, ℕ, zero, suc, zero-add, le-leb}
 use Rattle.prelude.specs.Names.{le-ltb, arith, leb, ltb, leb-true, length}
 use mathlib.Core.Path.{fun_ext}
-use native.Mathlib.Nat.{suc-mul, mod-lt, div-add-mod', mul-le-mul_right}
+use native.Mathlib.Nat.{suc-mul, mod-lt, div-add-mod'}
 use Rattle.model.proofs.Below.{Implies, implies_refl, and_mono}
 use Rattle.model.proofs.Earliest.{shortened-sound, from-spent, from-none, from-packed}
 use Rattle.model.proofs.Machine.{taken_is}
@@ -182,10 +182,6 @@ steps-added m f = record { answer = f.answer; length = f.length; steps = m + f.s
 pub before-added : (t : Turnable) (m : ℕ) (f : M.Finish) → finish_of t (steps_before m f) ≡ steps-added m (finish_of t f)
 unfolding finish_of
 before-added t m f = refl
-
--- so many lengths of so many choices as the budget lasts for
-pub known_afforded : (known w budget : ℕ) → 0 < w → known ≤ budget / w → known * w ≤ budget
-known_afforded known w budget p h = omega (arith, mul-le-mul_right {m = known} {n = budget / w} w h, div-add-mod' budget w)
 
 -- The lengths known impossible, each in a step a choice, under a budget that lasts for them and under one that does not
 module _ (t : Turnable) (σ : Sound t.given) (known budget : ℕ) (c : LastConflict t known) where

@@ -1,4 +1,7 @@
 // What an earliest finish is.
+ghost use Rattle.std.specs.Prelude.{◌≡◌};
+ghost use Rattle.instance.specs.Values.{origin_packing};
+
 use instance::Packing;
 use search::answer::Answer;
 
@@ -10,4 +13,17 @@ pub struct Finish {
     pub length: u16,
     pub steps: u32,
     pub packing: Packing,
+}
+
+impl Finish {
+    pub(crate) fn without_packing(answer: Answer, length: u16, steps: u32) -> Self
+        ensures { result ≡ record { answer = answer; length = length; steps = steps; packing = origin_packing } }
+    {
+        Finish {
+            answer,
+            length,
+            steps,
+            packing: Packing::origin(),
+        }
+    }
 }

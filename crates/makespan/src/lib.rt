@@ -14,7 +14,6 @@ use refusal::Refusal;
 use search::answer::Answer;
 
 pub mod finish;
-mod results;
 
 // The earliest finish under a budget of steps for all lengths together.
 pub fn earliest_finish(instance: Instance, budget: u32) -> Finish
@@ -22,15 +21,15 @@ pub fn earliest_finish(instance: Instance, budget: u32) -> Finish
     ensures full { Full instance }
 {
     if !instance.is_valid() {
-        return results::refused(Refusal::InvalidInstance);
+        return Finish::without_packing(Answer::Refused(Refusal::InvalidInstance), 0, 0);
     }
-    let choices = turning::last_choice(instance) as u32 + 1;
+    let choices = u32::from(turning::last_choice(instance)) + 1;
     let known = conflicts(instance, choices);
     let affordable = budget / choices;
-    if affordable < known as u32 {
-        return results::spent(affordable as u16, budget);
+    if affordable < u32::from(known) {
+        return Finish::without_packing(Answer::BudgetSpent, affordable as u16, budget);
     }
-    try_lengths(instance, known, known as u32 * choices, budget)
+    try_lengths(instance, known, u32::from(known) * choices, budget)
 }
 
 // Whether the opening domains of every choice are inconsistent: so many steps as there are choices say none.
@@ -39,13 +38,7 @@ fn in_conflict(instance: Instance, choices: u32) -> bool
     ensures { ConflictIf (turnable_of instance) result }
 {
     let first = search::search(instance, Instance::opening(), choices);
-    let answer = first.answer;
-    match answer {
-        Answer::Infeasible => true,
-        Answer::Packed => false,
-        Answer::BudgetSpent => false,
-        Answer::Refused(_) => false,
-    }
+    matches!(first.answer, Answer::Infeasible)
 }
 
 // The greatest length at which the opening domains of every choice are inconsistent, 0 if there is none. They are so at every shorter one, and one
@@ -76,30 +69,27 @@ fn try_lengths(instance: Instance, known: u16, before: u32, budget: u32) -> Fini
     ensures { result ≡ finish_of (turnable_of instance) (earliest_finish (turnable_of instance) budget) }
 {
     let mut shortened = instance;
-    let most = shortened.container.shifts;
-    let mut length = known;
+    let most = instance.container.shifts;
     let mut left = budget - before;
-    while length < most {
+    for length in known..most {
         let next = length + 1;
         shortened.container.shifts = next;
         let tried = search::search(shortened, Instance::opening(), left);
-        let answer = tried.answer;
-        let packing = tried.packing;
-        match answer {
+        match tried.answer {
             Answer::Packed => {
-                return results::packed(next, budget - left + tried.steps, packing);
+                return Finish {
+                    answer: Answer::Packed,
+                    length: next,
+                    steps: budget - left + tried.steps,
+                    packing: tried.packing,
+                };
             }
-            Answer::Infeasible => {
-                left = left - tried.steps;
-                length = next;
-            }
+            Answer::Infeasible => left -= tried.steps,
             Answer::BudgetSpent => {
-                return results::spent(length, budget);
+                return Finish::without_packing(Answer::BudgetSpent, length, budget);
             }
-            Answer::Refused(e) => {
-                return results::refused(e);
-            }
+            Answer::Refused(e) => return Finish::without_packing(Answer::Refused(e), 0, 0),
         }
     }
-    results::infeasible(budget - left)
+    Finish::without_packing(Answer::Infeasible, 0, budget - left)
 }

@@ -1,7 +1,7 @@
 -- Some relations of one pair are removed: what that leaves is the domains without them. A branch leaves the pair a relation.
-use Rattle.std.specs.Prelude.{◌&&◌, ◌||◌, ◌⊎◌, ◌≢◌, ◌≡◌, ◌+◌, ◌*◌, ◌^◌, ◌<◌}
+use Rattle.std.specs.Prelude.{◌&&◌, ◌||◌, ◌⊎◌, ◌≢◌, ◌≡◌, ◌+◌, ◌*◌, ◌^◌, ◌<◌, Result, Ok, Err, is_ok}
 use Rattle.prelude.specs.Names.{Bool, true, false, not, false≢true, not-eq-not, not-not, List, inl, inr, refl, sym}
-use Rattle.prelude.specs.Names.{◌∙◌, ap, ℕ, arith, bit_or, or_lt, set, length-set, get_or-set_same, eqb-true, eq-eqb}
+use Rattle.prelude.specs.Names.{◌∙◌, ap, ℕ, arith, bit_or, or_lt, eqb-true, eq-eqb}
 use Rattle.model.specs.Domains.{Domains, may_overlap, may_before, fix_overlap}
 use Rattle.model.specs.Branching.{undecided, Branch, first, second, branch_at}
 use Rattle.model.specs.Order.{Proper, WellFormed, ◌⊑◌}
@@ -10,17 +10,16 @@ use Rattle.model.specs.Facts.{nothing, says}
 use Rattle.model.proofs.Below.{clash, or_case, or_left, or_right}
 use Rattle.model.proofs.Facts.{gone_mono, says_mono}
 use Rattle.model.proofs.Order.{below_trans, below_eq}
-use Rattle.model.proofs.Slots.{proper-up}
 use Rattle.model.proofs.Without.{without-less, without-above, without-well_formed, without_gone}
 use Rattle.domains.specs.Bits.{bit_at}
-use Rattle.domains.specs.Rows.{row_at}
-use Rattle.domains.specs.Queue.{Good, Long}
-use Rattle.domains.specs.Narrowed.{Grown, NarrowedIf, All, Asked, Askable, Left}
-use Rattle.nodes.specs.Choice.{branch_by, Branchable, Branched}
+use Rattle.domains.specs.Rows.{row_at, Laid}
+use Rattle.domains.specs.Queue.{no_changes}
+use Rattle.domains.specs.declared.store.Conflict.{Conflict}
+use Rattle.domains.specs.Narrowed.{Grown, NarrowedIf, All, Asked, Askable}
+use Rattle.nodes.specs.Choice.{branch_by, Branchable, Branched, Removed, SetOf}
 use Rattle.domains.specs.declared.Place.{Place}
 use Rattle.domains.proofs.BitLaws.{bit-or, bit_power}
 use Rattle.domains.proofs.Mirror.{parts_same, row_first}
-use Rattle.domains.proofs.Rooms.{good_start}
 use Rattle.domains.proofs.RemoveOne.{still_gone, filled-without}
 
 -- e is what is left of k where of u and v on the axis a the relations of P are removed
@@ -49,12 +48,6 @@ module _ {k : Domains} {a u v : ℕ} (w : Proper 10 a u v) where
     ];
     above = λ g b h. without-above e x a u v g (t.above g b (λ y p. h y (inl p))) (h x (inr refl));
   }
-
--- a set as in a row, of the relations of P with v and of nothing else
-pub record SetOf (s v : ℕ) (P : ℕ → Type 0) : Type 0 where
-  pub small : s < 2 ^ 30
-  pub has : (x : ℕ) → P x → (x < 3) × (bit_at s (x * 10 + v) ≡ true)
-  pub only : (x y : ℕ) → y < 10 → bit_at s (x * 10 + y) ≡ true → P x × (y ≡ v)
 
 pub set_one : {s v i : ℕ} (x : ℕ) → x < 3 → v < 10 → i ≡ x * 10 + v → (s ≡ 2 ^ i) × (s < 2 ^ 30) → SetOf s v (λ y. y ≡ x)
 set_one {s} {v} {i} x hx hv ei (es, small) = record {
@@ -85,29 +78,27 @@ askable {u = u} w h = record {
   other = λ x hx. not-eq-not.0 (λ e. w.distinct (h.only x u w.item_u e).1);
 }
 
-pub all_left : (k : Domains) (a u : ℕ) {v s : ℕ} {P : ℕ → Type 0} → SetOf s v P → ((x : ℕ) → P x → gone k x a u v ≡ false) → Left k a u s
-all_left k a u h f x y hx hy b = let (p, q) = h.only x y hy b in rw q (f x p)
-
 -- domains with more relations have one left of every pair, too
 pub filled_more : (j e : Domains) → j ⊑ e → Filled j → Filled e
 unfolding says
 filled_more j e h f a u v w = not-eq-not.0 (λ q. clash (says_mono j e h nothing a u v q) (f a u v w))
 
 -- all of the set is removed: that leaves e, or e leaves a pair nothing
-abbrev pub Exact : Domains → Domains → List ℕ → Domains → List ℕ → List ℕ → Bool → Type 0
-Exact e k q j rows r true = (j ≡ e) × Grown k q j rows r
-Exact e k q j rows r false = Long j rows r × (Filled e → ⊥)
+abbrev pub Exact : Domains → Domains → List ℕ → Domains → List ℕ → List ℕ → Result (Unit {0}) Conflict → Type 0
+Exact e k q j rows r (Ok _) = (j ≡ e) × Grown k q j rows r
+Exact e k q j rows r (Err _) = Filled e → ⊥
 
 module _ {k e : Domains} {a u v s : ℕ} {P : ℕ → Type 0} (w : Proper 10 a u v) (t : Taken k a u v P e) (h : SetOf s v P) where
   asked : Filled e → Asked a u s e
   asked f = record { all = λ x y hx hy b. let (p, q) = h.only x y hy b in rw q (t.all x p); filled = f }
 
-  pub exact : (q : List ℕ) (j : Domains) (rows r : List ℕ) (b : Bool) → NarrowedIf (Asked a u s) (All a u s) k q j rows r b → Exact e k q j rows r b
-  exact q j rows r true n =
+  pub exact : (q : List ℕ) (j : Domains) (rows r : List ℕ) (b : Result (Unit {0}) Conflict)
+      → NarrowedIf (Asked a u s) (All a u s) k q j rows r b → Exact e k q j rows r b
+  exact q j rows r (Ok _) n =
       let up = t.above j n.grown.less (λ x p. let (hx, b) = h.has x p in n.done x v hx w.item_v b) in
       let full = filled_more j e up n.grown.good.laid.filled in
       (below_eq j e n.grown.good.laid.well_formed t.well_formed up (n.low e (asked full) t.less), n.grown)
-  exact q j rows r false (long, none) = (long, λ f. none e (asked f) t.less)
+  exact q j rows r (Err _) none = λ f. none e (asked f) t.less
 
 -- A branch of a pair with more than one relation left
 branch_filled : {k : Domains} {a u v : ℕ} → WellFormed k → Filled k → Proper 10 a u v → undecided k a u v ≡ true
@@ -131,33 +122,39 @@ branch_filled {k} {a} {u} {v} f full w h o e b = go o (may_before k a u v) (may_
     go false true false eo ex ey h b = absurd (false≢true h)
     go false false y eo ex ey h b = absurd (false≢true h)
 
-module _ {k : Domains} {rows q : List ℕ} {c : Place} (g : Branchable k rows q c) where
-  place-proper : Proper 10 c.axis c.u c.v
-  place-proper = proper-up g.place
-
+module _ {k : Domains} {rows : List ℕ} (laid : Laid k rows) {c : Place} (g : Branchable k c) where
   -- the row tells whether overlap is left
   overlap_row : bit_at (row_at rows c.axis c.u) c.v ≡ gone k 0 c.axis c.u c.v
-  overlap_row = row_first g.laid.mirror place-proper.axis place-proper.item_u place-proper.item_v
+  overlap_row = row_first laid.mirror c.proper.axis c.proper.item_u c.proper.item_v
 
-  pub branch_removes : {items : ℕ} {P : ℕ → Type 0} → SetOf items c.v P → Good k rows (set q 0 1) × Askable c.axis c.u items
-  branch_removes h = (good_start g.laid (length-set q 0 1 ∙ g.long) (get_or-set_same q 0 1 0 (omega (arith, g.long))), askable place-proper h)
+  take_one : (x : ℕ) → Taken k c.axis c.u c.v (λ y. y ≡ x) (without k x c.axis c.u c.v)
+  take_one x = taken_one c.proper laid.well_formed x
 
-  pub overlap_left : bit_at (row_at rows c.axis c.u) c.v ≡ false → (x : ℕ) → x ≡ 0 → gone k x c.axis c.u c.v ≡ false
-  overlap_left e x z = rw z (sym overlap_row ∙ e)
+  -- what the branch leaves is the domains without what it removes
+  branch_taken : (apart b : Bool) → Taken k c.axis c.u c.v (Removed apart b) (branch_at (not apart) (branch_by b) k c.axis c.u c.v)
+  unfolding without fix_overlap
+  branch_taken true true = take_one 1
+  branch_taken true false = take_one 2
+  branch_taken false true = taken_more c.proper (take_one 2) 1
+  branch_taken false false = take_one 0
 
-  pub take_one : (x : ℕ) → Taken k c.axis c.u c.v (λ y. y ≡ x) (without k x c.axis c.u c.v)
-  take_one x = taken_one place-proper g.laid.well_formed x
+  -- a set of what the branch removes, by whether the row has overlap removed; it leaves every pair a relation
+  module _ (apart b : Bool) (is : apart ≡ bit_at (row_at rows c.axis c.u) c.v) {s : ℕ} (h : SetOf s c.v (Removed apart b)) where
+    overlap : may_overlap k c.axis c.u c.v ≡ not apart
+    unfolding gone
+    overlap = sym (not-not _) ∙ ap not (sym (is ∙ overlap_row))
 
-  -- the row of overlap tells which branch it is
-  pub branched : (o s : Bool) → bit_at (row_at rows c.axis c.u) c.v ≡ not o → {second : Bool} → second ≡ s → {P : ℕ → Type 0} {items : ℕ}
-      → Taken k c.axis c.u c.v P (branch_at o (branch_by s) k c.axis c.u c.v) → SetOf items c.v P
-      → {j : Domains} {rows' r : List ℕ} (b : Bool) → NarrowedIf (Asked c.axis c.u items) (All c.axis c.u items) k (set q 0 1) j rows' r b
-      → Branched k q c second j rows' r
-  unfolding gone
-  branched o s is-o {second} is-s t h {j} {rows'} {r} b n =
-      let overlap : may_overlap k c.axis c.u c.v ≡ o = sym (not-not _) ∙ (ap not (sym overlap_row ∙ is-o) ∙ not-not o) in
-      let full = branch_filled g.laid.well_formed g.laid.filled place-proper g.several_left o overlap (branch_by s) in
-      (elim b as (λ b. Exact (branch_at o (branch_by s) k c.axis c.u c.v) k (set q 0 1) j rows' r b → Branched k q c second j rows' r) [
-        | true ↦ λ (e, grown). record { left = rw (overlap, is-s) e; grown = grown }
-        | false ↦ λ (long, none). absurd (none full)
-      ]) (exact place-proper t h (set q 0 1) j rows' r b n)
+    full : Filled (branch_at (not apart) (branch_by b) k c.axis c.u c.v)
+    full = branch_filled laid.well_formed laid.filled c.proper g.several_left (not apart) overlap (branch_by b)
+
+    pub branch_ok : (q : List ℕ) (j : Domains) (rows' r : List ℕ) (o : Result (Unit {0}) Conflict)
+        → NarrowedIf (Asked c.axis c.u s) (All c.axis c.u s) k (no_changes q) j rows' r o → is_ok o ≡ true
+    branch_ok q j rows' r (Ok _) n = refl
+    branch_ok q j rows' r (Err e) n = absurd (exact c.proper (branch_taken apart b) h (no_changes q) j rows' r (Err e) n full)
+
+    pub branched : (q : List ℕ) (j : Domains) (rows' r : List ℕ) (o : Result (Unit {0}) Conflict)
+        → NarrowedIf (Asked c.axis c.u s) (All c.axis c.u s) k (no_changes q) j rows' r o → Branched k q c b j rows' r
+    branched q j rows' r (Ok x) n =
+        let (e, grown) = exact c.proper (branch_taken apart b) h (no_changes q) j rows' r (Ok x) n in
+        record { left = rw overlap e; grown = grown }
+    branched q j rows' r (Err e) n = absurd (exact c.proper (branch_taken apart b) h (no_changes q) j rows' r (Err e) n full)

@@ -27,10 +27,8 @@ module _ (p : Problem) (sound : Sound p) (path : List Branch) (forking : Forking
   fork_at = let (consistent, unpacked) = look_fork p path is in subst (Fork p (path_domains p path)) at (path_fork p sound path consistent unpacked)
 
   -- a branching point can be branched at
-  pub branchable : (q : List ℕ) → length q ≡ max_queue → Branchable k rows q c
-  branchable q h = record {
-    laid = seen.rested.laid;
-    long = h;
+  pub branchable : Branchable k c
+  branchable = record {
     place = record { axis = fork_at.place.axis; rising = fork_at.place.rising; item = omega (arith, fork_at.place.item, sound.limited) };
     several_left = rw seen.is fork_at.several;
   }

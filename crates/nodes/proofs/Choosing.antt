@@ -1,5 +1,5 @@
 -- The branching place.
-use Rattle.std.specs.Prelude.{◌&&◌, ◌||◌, ◌≡◌, ◌+◌, ◌*◌, ◌≤◌, ◌<◌}
+use Rattle.std.specs.Prelude.{◌&&◌, ◌||◌, ◌≡◌, ◌+◌, ◌*◌, ◌≤◌, ◌<◌, Some, None}
 use Rattle.prelude.specs.Names.{Bool, true, false, not, or-true, not-eq-not, Bool-discrete, refl, sym, ◌∙◌, ap, ℕ, zero}
 use Rattle.prelude.specs.Names.{suc, arith, eqb, get_or}
 use mathlib.Core.Bool.{and-or_distrib_left, decide, decide_iff}
@@ -13,8 +13,8 @@ use Rattle.model.proofs.Pairs.{number_below, pair-rises, number_of-pair, pair_be
 use Rattle.model.proofs.Fork.{choice_number-is, choice_axis-is}
 use Rattle.model.proofs.FirstBranches.{first-from, packed-from}
 use Rattle.model.specs.FirstBranches.{Passed}
+use Rattle.model.specs.Order.{Proper}
 use Rattle.nodes.specs.Choice.{separates, several, separated_at, Chosen}
-use Rattle.nodes.specs.declared.branching.Branching.TheVariants.{Packed, At}
 use Rattle.domains.specs.Bits.{bit_at}
 use Rattle.pairs.specs.Values.{pair_value}
 use Rattle.pairs.specs.declared.Pair as P
@@ -64,10 +64,19 @@ module _ (k : Domains) (j : ℕ) {u v : ℕ} (rises : u < v) (number : pair_numb
 
 -- every pair from some number on is separated: packed
 pub packed-of : (k : Domains) (n : ℕ) → n ≤ 10 → (from : ℕ) → Passed k from → ((j : ℕ) → j < pair_number 0 n → from ≤ j → separated_at k j ≡ true)
-    → Chosen k n Packed
+    → Chosen k n None
 packed-of k n limited from passed all p e =
     packed-from p (rw e limited) k from passed
     (λ u v hu hv low. sym (separated-is k (pair_number u v) hu refl) ∙ all (pair_number u v) (number_below n u v hu (rw e at hv)) low)
+
+-- the pair of a number is two items
+pub pair_proper : {n j : ℕ} {c : P.Pair} → n ≤ 10 → j < pair_number 0 n → pair_value c ≡ pair_of j → (a : ℕ) → a < 3 → Proper 10 a c.u c.v
+pair_proper {n} {j} {c} limited below is a ha =
+    let is-u : c.u ≡ (pair_of j).u = ap (λ (d : M.Pair). d.u) is in
+    let is-v : c.v ≡ (pair_of j).v = ap (λ (d : M.Pair). d.v) is in
+    let top = pair_below n j below in
+    let rises = pair-rises j in
+    record { axis = ha; item_u = omega arith; item_v = omega arith; distinct = λ e. omega arith }
 
 -- the first pair from some number on that is not
 pub record Unseparated (k : Domains) (n from j : ℕ) (c : P.Pair) : Type 0 where
@@ -88,9 +97,10 @@ module _ {k : Domains} {n from j : ℕ} {c : P.Pair} (f : Unseparated k n from j
   undecided_by : (b : ℕ) {x : Bool} → several (get_or k (3 * j + b) 0) ≡ x → undecided k b (pair_of j).u (pair_of j).v ≡ x
   undecided_by b e = sym (undecided-is k j (pair-rises j) (number_of-pair j) b) ∙ e
 
-  chosen_at : (a : ℕ) → a < 3 → choice_axis k (pair_of j).u (pair_of j).v ≡ a → Chosen k n (At (record { axis = a; u = c.u; v = c.v }))
+  chosen_at : (a : ℕ) → a < 3 → choice_axis k (pair_of j).u (pair_of j).v ≡ a → (w : Proper 10 a c.u c.v)
+      → Chosen k n (Some (record { axis = a; u = c.u; v = c.v; proper = w }))
   unfolding choice packed
-  chosen_at a ha e =
+  chosen_at a ha e w =
       let top = pair_below n j f.below in
       let rises = pair-rises j in
       let is-u : c.u ≡ (pair_of j).u = ap (λ (d : M.Pair). d.u) f.is in
@@ -106,10 +116,11 @@ module _ {k : Domains} {n from j : ℕ} {c : P.Pair} (f : Unseparated k n from j
 
   -- its first axis with more than one relation left
   pub chosen_axis : (a : ℕ) → a < 3 → several (get_or k (3 * j + a) 0) ≡ true → ((b : ℕ) → b < a → several (get_or k (3 * j + b) 0) ≡ false)
-      → Chosen k n (At (record { axis = a; u = c.u; v = c.v }))
+      → (w : Proper 10 a c.u c.v) → Chosen k n (Some (record { axis = a; u = c.u; v = c.v; proper = w }))
   chosen_axis a ha e none = chosen_at a ha (choice_axis-is k _ _ a ha (undecided_by a e) (λ b l. undecided_by b (none b l)))
 
-  pub chosen_none : ((b : ℕ) → b < 3 → several (get_or k (3 * j + b) 0) ≡ false) → Chosen k n (At (record { axis = 0; u = c.u; v = c.v }))
+  pub chosen_none : ((b : ℕ) → b < 3 → several (get_or k (3 * j + b) 0) ≡ false)
+      → (w : Proper 10 0 c.u c.v) → Chosen k n (Some (record { axis = 0; u = c.u; v = c.v; proper = w }))
   unfolding choice_axis
   chosen_none none =
       chosen_at 0 (omega arith) (cc (undecided_by 0 (none 0 (omega arith)), undecided_by 1 (none 1 (omega arith)), undecided_by 2 (none 2 (omega arith))))

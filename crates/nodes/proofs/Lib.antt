@@ -1,5 +1,4 @@
 pub mod Loops
-pub mod Snapshots
 pub mod Choosing
 pub mod BranchRemovals
 pub mod Branches

@@ -1,4 +1,3 @@
 pub mod Choice
 pub mod Starts
-pub mod Levels
 pub mod Nodes

@@ -2,20 +2,12 @@
 ghost use Rattle.std.specs.Prelude.{◌≡◌, ◌<◌, ◌≤◌};
 ghost use Rattle.model.specs.Order.{WellFormed};
 ghost use Rattle.model.specs.FirstBranches.{Passed};
-ghost use Rattle.nodes.specs.Choice.{separates, several, separated_at, Chosen, Branchable, Branched};
+ghost use Rattle.nodes.specs.Choice.{separates, several, separated_at, Chosen, Branchable, Branches, Removed, SetOf};
 
 use domains::bits::{bit, has};
-use domains::queue::MAX_QUEUE;
-use domains::removal::{remove, remove_each};
-use domains::{DOMAINS, Place, ROWS};
+use domains::store::Store;
+use domains::{DOMAINS, Place};
 use pairs::{pair_count, pair_of};
-
-// Where to branch, if not every pair is separated.
-#[derive(Clone, Copy)]
-pub enum Branching {
-    Packed,
-    At(Place),
-}
 
 // The domains in which "before" is known, one way or the other: 0, 2 and 4, as a set of bits.
 const SEPARATED: u32 = 21;
@@ -33,48 +25,40 @@ fn is_undecided(domain: u8) -> bool
     requires { domain < 8 }
     ensures { result ≡ several domain }
 {
-    if domain == 1 {
-        return false;
-    }
-    !is_separated(domain)
+    domain != 1 && !is_separated(domain)
 }
 
 // "before" is known on some axis of the pair with this number.
-fn separated(k: &[u8; DOMAINS], number: usize) -> bool
-    requires { WellFormed k.now × (number < 45) }
-    ensures { result ≡ separated_at k.now number }
+fn separated(domains: &[u8; DOMAINS], number: usize) -> bool
+    requires { WellFormed domains.now × (number < 45) }
+    ensures { result ≡ separated_at domains.now number }
 {
-    if is_separated(k[3 * number]) {
-        return true;
-    }
-    if is_separated(k[3 * number + 1]) {
-        return true;
-    }
-    is_separated(k[3 * number + 2])
+    is_separated(domains[3 * number])
+        || is_separated(domains[3 * number + 1])
+        || is_separated(domains[3 * number + 2])
 }
 
-// The first pair in number order that has no known "before", and its first axis with more than one relation left; the pairs before number
-// `from` are known to have one.
-pub fn choose(k: &[u8; DOMAINS], n: usize, from: usize) -> Branching
-    requires { WellFormed k.now × (n ≤ 10) }
-    ensures { Passed k.now from → Chosen k.now n result }
+// The first pair in number order that has no known "before", and its first axis with more than one relation left, if there is such a pair; the
+// pairs before number `from` are known to have one. "nested loops over pairs and axes, left by a label with the branching pair and axis".
+pub fn choose(domains: &[u8; DOMAINS], n: usize, from: usize) -> Option<Place>
+    requires { WellFormed domains.now × (n ≤ 10) }
+    ensures { Passed domains.now from → Chosen domains.now n result }
 {
-    let count = pair_count(n);
-    let mut answer = Branching::Packed;
-    'found: for number in from..count {
-        if !separated(k, number) {
+    let mut place = None;
+    'found: for number in from..pair_count(n) {
+        if !separated(domains, number) {
             let pair = pair_of(number);
-            for a in 0..3 {
-                if is_undecided(k[3 * number + a]) {
-                    answer = Branching::At(Place {
-                        axis: a,
+            for axis in 0..3 {
+                if is_undecided(domains[3 * number + axis]) {
+                    place = Some(Place {
+                        axis,
                         u: pair.u,
                         v: pair.v,
                     });
                     break 'found;
                 }
             }
-            answer = Branching::At(Place {
+            place = Some(Place {
                 axis: 0,
                 u: pair.u,
                 v: pair.v,
@@ -82,32 +66,29 @@ pub fn choose(k: &[u8; DOMAINS], n: usize, from: usize) -> Branching
             break 'found;
         }
     }
-    answer
+    place
+}
+
+// What a branch removes, as in the row of u: by whether overlap with v is removed already, and whether the branch is the second.
+fn branch_set(apart: bool, second: bool, v: usize) -> u32
+    requires { v < 10 }
+    ensures { SetOf result v (Removed apart second) }
+{
+    match (apart, second) {
+        (true, true) => bit(10 + v),
+        (true, false) => bit(20 + v),
+        (false, true) => bit(10 + v) | bit(20 + v),
+        (false, false) => bit(v),
+    }
 }
 
 // The first or the second branch at a place: what it removes is all that is on the queue.
-pub fn apply_branch(
-    k: &mut [u8; DOMAINS],
-    rows: &mut [u32; ROWS],
-    queue: &mut [u16; MAX_QUEUE],
-    place: Place,
-    second: bool,
-) -> bool
-    requires { Branchable k.old rows.old queue.old place }
-    ensures { Branched k.old queue.old place second k.new rows.new queue.new }
+pub fn apply_branch(store: &mut Store, place: Place, second: bool)
+    requires { Branchable store.old.domains place }
+    ensures { Branches store.old place second store.new }
 {
-    let a = place.axis;
-    let u = place.u;
-    let v = place.v;
-    queue[0] = 1;
-    if has(rows[a * 10 + u], v) {
-        if second {
-            return remove(k, rows, queue, a, u, bit(10 + v));
-        }
-        return remove(k, rows, queue, a, u, bit(20 + v));
-    }
-    if second {
-        return remove(k, rows, queue, a, u, bit(10 + v) | bit(20 + v));
-    }
-    remove_each(k, rows, queue, a, u, bit(v))
+    let apart = has(store.row(place.axis, place.u), place.v);
+    let set = branch_set(apart, second, place.v);
+    store.clear_queue();
+    store.remove(place.axis, place.u, set).unwrap()
 }

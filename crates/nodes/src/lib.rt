@@ -2,5 +2,5 @@
 #![tactic(auto)]
 
 pub mod branching;
-pub mod levels;
+pub mod snapshots;
 pub mod starts;

@@ -7,7 +7,7 @@ use Rattle.model.proofs.Wide.{wide-size, wide-past}
 use Rattle.instance.specs.declared.Instance.{Instance}
 use Rattle.instance.specs.Meaning.{problem_of}
 use Rattle.instance.specs.Valid.{precedences_of}
-use Rattle.opening.specs.Layout.{Measures, LaidOut, LargeIf, LargeItem, Stepped, SteppedOut, with_precedences, LagsLaid, FitsIf}
+use Rattle.opening.specs.Layout.{Measures, LaidOut, LargeIf, LargeItem, Stepped, SteppedOut, with_precedences, LagsLaid}
 use Rattle.opening.proofs.Lags.{stepped_out}
 
 -- an item above the container's measure is one of the problem's
@@ -19,7 +19,7 @@ large_item p l (a, u, ha, hu, h) =
 
 -- all is laid out, and each alone fits
 pub all-fits : (i : Instance) {t s r : List ℕ} → LaidOut (wide (problem_of i)) t → Measures t → LargeIf t false → Stepped 60 t s
-    → LagsLaid (precedences_of i) s r → FitsIf (problem_of i) r true
+    → LagsLaid (precedences_of i) s r → SteppedOut (wide (problem_of i)) r × LargeIf r false
 unfolding problem_of wide
 all-fits i l m fits h lags =
     let p = wide (problem_of i) in

@@ -1,6 +1,6 @@
 -- The steps of chains beside their totals: the measures alone, and then the lags, one precedence after another.
-use Rattle.std.specs.Prelude.{◌&&◌, ◌∷◌, ◌++◌, ◌⊎◌, ◌≢◌, ◌≡◌, ◌+◌, ◌-◌, ◌*◌, ◌/◌, ◌%◌, ◌≤◌, ◌<◌}
-use Rattle.prelude.specs.Names.{Bool, true, false, cond, List, [], map, inl, inr, ⊎_elim, ⊎_map, refl, sym, ◌∙◌, ap, ℕ}
+use Rattle.std.specs.Prelude.{◌&&◌, ◌∷◌, ◌++◌, ◌≢◌, ◌≡◌, ◌+◌, ◌-◌, ◌*◌, ◌/◌, ◌%◌, ◌≤◌, ◌<◌}
+use Rattle.prelude.specs.Names.{Bool, true, false, cond, List, [], map, refl, sym, ◌∙◌, ap, ℕ}
 use Rattle.prelude.specs.Names.{max, zero-le, le_refl, ℕ_discrete, dec_lt, arith, eqb, ltb, get_or, set, length, take}
 use Rattle.prelude.specs.Names.{add-one, take-suc, length-set, eqb-true, eq-eqb, ltb-true, ltb-false}
 use Rattle.model.specs.Problem.{Problem, lag_between, gap, time}
@@ -13,7 +13,7 @@ use Rattle.instance.specs.Meaning.{precedence_of}
 use Rattle.nodes.proofs.Loops.{written}
 use Rattle.chains.specs.Totals.{Small, table_start, measure_at, gapped_at, step_at}
 use Rattle.chains.proofs.Relaxing.{table_start-is}
-use Rattle.opening.specs.Layout.{max_spaced, Measures, put_lag, with_precedences, LaidOut, RowStepped, Stepped, SteppedOut, LagsLaid}
+use Rattle.opening.specs.Layout.{max_spaced, Measures, put_lag, with_precedences, LaidOut, Stepped, SteppedOut, LagsLaid}
 use Rattle.model.specs.Problem as M
 
 cond-zero : (b : Bool) → ◌≡◌ {A = ℕ} (cond b 0 0) 0
@@ -27,56 +27,6 @@ cond-most false x = zero-le
 cond-max : (b c : Bool) (x g : ℕ) → cond b (max (cond c x 0) g) 0 ≡ max (cond (b && c) x 0) (cond b g 0)
 cond-max true c x g = refl
 cond-max false c x g = refl
-
--- A row of steps, one after another
-pub record Rowing (i a : ℕ) (t : List ℕ) (z : ℕ) (s : List ℕ) : Type 0 where
-  pub within : z ≤ 10
-  pub long : length s ≡ 696
-  pub same-long : length s ≡ length t
-  pub row : (y : ℕ) → y < z → get_or s (96 + i * 10 + y) 0 ≡ measure_at t a y
-  pub other : (j : ℕ) → (j < 96 + i * 10) ⊎ (96 + i * 10 + z ≤ j) → get_or s j 0 ≡ get_or t j 0
-
-pub rowing_none : {i a : ℕ} {t : List ℕ} → length t ≡ 696 → Rowing i a t 0 t
-rowing_none long = record { within = zero-le; long = long; same-long = refl; row = λ y h. absurd (omega arith); other = λ j h. refl }
-
-pub rowing_next : {i a z : ℕ} {t s : List ℕ} → i < 60 → a < 3 → Rowing i a t z s → z < 10
-    → Rowing i a t (z + 1) (set s (96 + i * 10 + z) (get_or s (60 + a * 10 + z) 0))
-rowing_next {i} {a} {z} {t} {s} hi ha h more =
-    let at = 96 + i * 10 + z in
-    let m = get_or s (60 + a * 10 + z) 0 in
-    let size : m ≡ measure_at t a z = h.other (60 + a * 10 + z) (inl (omega arith)) in
-    let room : at < length s = omega (arith, h.long) in
-    record {
-      within = omega arith;
-      long = length-set s at m ∙ h.long;
-      same-long = length-set s at m ∙ h.same-long;
-      row = λ y l. written 0 (λ j w. j ≡ 96 + i * 10 + y → w ≡ measure_at t a y) s at m room
-          (λ e. let q : z ≡ y = omega arith in rw (← q) size) (λ j d e. rw e (h.row y (omega arith))) (96 + i * 10 + y) refl;
-      other = λ j l. written 0 (λ x w. x ≡ j → w ≡ get_or t j 0) s at m room (λ e. absurd (⊎_elim (λ q. omega arith) (λ q. omega arith) l))
-          (λ x d e. rw e (h.other j (⊎_map (λ q. q) (λ q. omega arith) l))) j refl;
-    }
-
-pub rowing_done : {i a z : ℕ} {t s : List ℕ} → Rowing i a t z s → 10 ≤ z → RowStepped i a t s
-rowing_done h e = record {
-  long = h.same-long;
-  row = λ y l. h.row y (omega arith);
-  other = λ j l. h.other j (⊎_map (λ q. q) (λ q. omega (arith, h.within)) l);
-}
-
--- The measures as steps, row after row
-pub steps-none : (t : List ℕ) → Stepped 0 t t
-steps-none t = record { long = refl; rows = λ i z h. absurd (omega arith); other = λ j h. refl; later = λ j h. refl }
-
-pub steps_next : {t s r : List ℕ} (n : ℕ) → Stepped n t s → RowStepped n (n % 30 / 10) s r → Stepped (n + 1) t r
-steps_next n h w = record {
-  long = w.long ∙ h.long;
-  rows = λ i z l hz. elim (ℕ_discrete i n) [
-    | yes e ↦ rw e (w.row z hz ∙ h.other (60 + n % 30 / 10 * 10 + z) (omega arith))
-    | no e ↦ w.other (96 + i * 10 + z) (inl (omega arith)) ∙ h.rows i z (omega arith) hz
-  ];
-  other = λ j l. w.other j (inl (omega arith)) ∙ h.other j l;
-  later = λ j l. w.other j (inr (omega arith)) ∙ h.later j (omega arith);
-}
 
 -- without precedences nothing lies between items
 gap-none : (p : Problem) (a u v : ℕ) → gap (with_precedences p []) a u v ≡ 0

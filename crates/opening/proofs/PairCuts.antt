@@ -12,26 +12,19 @@ use Rattle.model.proofs.Slots.{index_of-same, index_of-small}
 use Rattle.model.proofs.Without.{gone_same}
 use Rattle.model.proofs.Facts.{gone_mono}
 use Rattle.domains.specs.Bits.{bit_at, Gives}
-use Rattle.domains.specs.Queue.{queue_end, Good}
+use Rattle.domains.specs.Queue.{queue_end}
 use Rattle.domains.specs.Narrowed.{Narrowed, Refuted, All, Asked, Askable}
 use Rattle.chains.specs.Totals.{capacity_at, Tabled}
 use Rattle.chains.specs.Cuts.{above_both, exceeds, CutFrom}
-use Rattle.opening.specs.Openings.{PairsCut, PairsAsked, Past, Outside}
+use Rattle.opening.specs.Openings.{PairsAsked, Past, Outside}
 use Rattle.nodes.proofs.BranchRemovals.{filled_more}
 use Rattle.nodes.proofs.Loops.{written}
 use Rattle.domains.proofs.BitLaws.{bit_shl, shl_small}
-use Rattle.domains.proofs.Narrowed.{narrowed_none, narrowed_as, narrowed-then, refuted_later}
+use Rattle.domains.proofs.Narrowed.{narrowed_as, narrowed-then, refuted_later}
 
 -- "u before v" is removed of two items too long together, of the first i places of axis and item u
 pub record CutTo (t : List ℕ) (i : ℕ) (f : Domains) : Type 0 where
   pub cut : (a u : ℕ) → a * 10 + u < i → CutFrom t 1 a f u
-
-pub cut-start : {t : List ℕ} {k : Domains} {rows q : List ℕ} → Good k rows q → Narrowed (PairsAsked t) (CutTo t 0) k q k rows q
-cut-start g = narrowed_none g (record { cut = λ a u h. absurd (omega arith) })
-
-pub cut-end : {t : List ℕ} {k : Domains} {q : List ℕ} {j : Domains} {rows r : List ℕ} (i : ℕ) → 30 ≤ i
-    → Narrowed (PairsAsked t) (CutTo t i) k q j rows r → Narrowed (PairsAsked t) (PairsCut t) k q j rows r
-cut-end i h n = narrowed_as (λ f g l. g) (λ l d a u v s. d.cut a u (omega (arith, s.axis, s.item_u)) v s) n
 
 -- two items that are too long together have a total each
 pub too_inside : {t : List ℕ} {n a u v : ℕ} → Tabled t → Past t n → Proper 10 a u v → exceeds t 1 a u v ≡ true → Proper n a u v

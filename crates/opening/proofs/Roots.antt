@@ -1,7 +1,7 @@
 -- The root of the search: the opening domains ready to be propagated, or that they are inconsistent.
-use Rattle.std.specs.Prelude.{◌≡◌, ◌+◌, ◌*◌, ◌<◌}
-use Rattle.prelude.specs.Names.{Bool, true, false, List, [], inl, inr, refl, sym, ◌∙◌, ap, ℕ, ℕ_discrete, arith, set}
-use Rattle.prelude.specs.Names.{replicate, ltb-true, lt-ltb}
+use Rattle.std.specs.Prelude.{◌≡◌, ◌+◌, ◌<◌}
+use Rattle.prelude.specs.Names.{Bool, true, false, List, [], inl, inr, refl, sym, ◌∙◌, ap, ℕ, arith, replicate}
+use Rattle.prelude.specs.Names.{ltb-true, lt-ltb}
 use Rattle.model.specs.Problem.{Problem, spacing}
 use Rattle.model.specs.Domains.{Domains, full_domains}
 use Rattle.model.specs.Rules.{joined}
@@ -17,8 +17,7 @@ use Rattle.model.specs.Run.{look}
 use Rattle.model.specs.Search.{conflict}
 use Rattle.model.specs.Wide.{wide}
 use Rattle.model.proofs.Below.{and_both, clash, stays}
-use Rattle.model.proofs.Domains.{gone-self}
-use Rattle.model.proofs.Admits.{full_left, full_well_formed, opening-well_formed}
+use Rattle.model.proofs.Admits.{full_left, opening-well_formed}
 use Rattle.model.proofs.Consistent.{large_inconsistent}
 use Rattle.model.proofs.Outside.{opening-untouched}
 use Rattle.model.proofs.Path.{path_root}
@@ -27,8 +26,7 @@ use Rattle.model.proofs.Toward.{by_direction, under_sizes, under-cut, end-goal}
 use Rattle.model.proofs.Untouched.{goal_lawful}
 use Rattle.model.proofs.Gap.{gap-past}
 use Rattle.model.proofs.Wide.{wide-size, wide-past, wide-gap}
-use Rattle.domains.specs.Rows.{Laid}
-use Rattle.domains.specs.Queue.{Good}
+use Rattle.domains.specs.Queue.{no_changes}
 use Rattle.domains.specs.Narrowed.{Grown, Narrowed, Refuted}
 use Rattle.chains.specs.Totals.{table, capacity_at, Tabled, Measured}
 use Rattle.chains.proofs.Linking.{exceeds-joined}
@@ -36,10 +34,7 @@ use Rattle.propagation.specs.Propagated.{Ready}
 use Rattle.opening.specs.Layout.{LargeIf, SteppedOut, LargeItem}
 use Rattle.opening.specs.Openings.{PairsCut, PairsAsked, Past, Outside}
 use Rattle.nodes.specs.Nodes.{Leads, At}
-use Rattle.domains.proofs.BitLaws.{bit-zero}
-use Rattle.nodes.proofs.Loops.{blank_at}
 use Rattle.domains.proofs.Narrowed.{grown-then}
-use Rattle.domains.proofs.Rooms.{good_start}
 use Rattle.propagation.proofs.Pending.{pending-start}
 use Rattle.nodes.proofs.BranchRemovals.{filled_more}
 use Rattle.opening.proofs.PairCuts.{too_inside}
@@ -64,28 +59,6 @@ full_obeyed _ _ (d2 x a u v w o t) h = absurd (full_holds_none (of (forced x) a 
 full_obeyed _ _ (d1_far x a u v w o t) h = absurd (full_holds_none (of (forced x) a u v) t.uv h.0)
 full_obeyed _ _ (d1_near x a u v w o t) h = absurd (full_holds_none (of (removed x) a u v) t.uv h.0)
 full_obeyed _ _ (g1 a q r s t x y z) h = absurd (full_holds_none (of overlaps a q r) x.uv h.0)
-
-full_laid : Laid full_domains (replicate 30 0)
-full_laid = record {
-  well_formed = full_well_formed;
-  filled = λ a u v s. rw (full_left 0 s);
-  mirror = record {
-    long = refl;
-    small = λ i. rw (blank_at {A = ℕ} 0 30 i) (omega arith);
-    is = λ x a u v hx ha hu hv. rw (blank_at {A = ℕ} 0 30 (a * 10 + u), bit-zero (x * 10 + v))
-        (sym (elim (ℕ_discrete u v) [
-          | yes e ↦ rw (← e) (gone-self full_domains x a u)
-          | no d ↦ full_left x (record { axis = ha; item_u = hu; item_v = hv; distinct = d })
-        ]));
-  };
-}
-
--- the queue with nothing on it
-abbrev pub no-queue : List ℕ
-no-queue = set (replicate 946 0) 0 1
-
-pub full_good : Good full_domains (replicate 30 0) no-queue
-full_good = good_start full_laid refl refl
 
 -- The opening domains
 module _ {p : Problem} (sound : Sound p) where
@@ -175,7 +148,7 @@ module _ {p : Problem} (sound : Sound p) where
       pub uncut_conflict : {k1 : Domains} → k1 ≡ opening → Refuted (PairsAsked t) k1 → look p [] ≡ conflict
       uncut_conflict opened none = root_conflict (λ e. none (propagate p opening) (root_asked e) (rw opened (propagate-less p opening)))
 
-      module _ {k1 : Domains} {rows1 q1 : List ℕ} (opened : k1 ≡ opening) (g : Grown full_domains no-queue k1 rows1 q1) {k : Domains} {rows q : List ℕ}
+      module _ {k1 : Domains} {rows1 q1 : List ℕ} (opened : k1 ≡ opening) (g : Grown full_domains (no_changes (replicate 946 0)) k1 rows1 q1) {k : Domains} {rows q : List ℕ}
           (n : Narrowed (PairsAsked t) (PairsCut t) k1 q1 k rows q) (out : Outside t k1 k) where
         leads : Leads p k []
         leads = go (inconsistent p (propagate p opening)) refl

@@ -9,8 +9,7 @@ use Rattle.model.specs.Order.{Proper}
 use Rattle.parts.specs.Precedences.{Arc, arc_of, unlagged, names_items, rises, all_allowed}
 use Rattle.parts.specs.Sizes.{max_measure, in_range, size_in_range, no_item}
 use Rattle.parts.specs.declared.Precedence.{Precedence}
-use Rattle.parts.specs.declared.Previous.{Previous}
-use Rattle.parts.specs.declared.Previous.TheVariants.{Nothing, Was}
+use Rattle.std.specs.Prelude.{Option, None, Some}
 use Rattle.parts.specs.declared.Size.{Size}
 use Rattle.instance.specs.Meaning.{measure_on, precedence_of, problem_of}
 use Rattle.instance.specs.Valid.{valid, items_of, precedences_of}
@@ -50,30 +49,30 @@ names_proper n o h =
     let r = and_both _ _ q.1 in
     record { axis = omega arith; item_u = ltb-true _ _ q.0; item_v = ltb-true _ _ r.0; distinct = eqb-false _ _ (not-true _ r.1) }
 
-pub allowed-proper : (n : ℕ) {o : Precedence} (last : Previous) {l : List Precedence} → all_allowed n last (map arc_of l) ≡ true → Mem o l
+pub allowed-proper : (n : ℕ) {o : Precedence} (last : Option Precedence) {l : List Precedence} → all_allowed n last (map arc_of l) ≡ true → Mem o l
     → Proper n M.time o.predecessor o.successor
 unfolding all_allowed
 allowed-proper n last h (mem-head {x = x} e) = rw e (names_proper n (arc_of x) (and_both _ _ (and_both _ _ h).0).0)
 allowed-proper n last h (mem-tail {x = x} {xs = l} m) =
     let a = arc_of x in
-    allowed-proper n (Was (unlagged a)) (and_both (names_items n a && rises last a) (all_allowed n (Was (unlagged a)) (map arc_of l)) h).1 m
+    allowed-proper n (Some (unlagged a)) (and_both (names_items n a && rises last a) (all_allowed n (Some (unlagged a)) (map arc_of l)) h).1 m
 
 -- precedences of n items are precedences of ten
-pub allowed-wide : (n : ℕ) → n ≤ 10 → (last : Previous) (l : List Arc) → all_allowed n last l ≡ true → all_allowed 10 last l ≡ true
+pub allowed-wide : (n : ℕ) → n ≤ 10 → (last : Option Precedence) (l : List Arc) → all_allowed n last l ≡ true → all_allowed 10 last l ≡ true
 unfolding all_allowed names_items
 allowed-wide n h last [] e = refl
 allowed-wide n h last (o ∷ os) e =
-    let q = and_both (names_items n o && rises last o) (all_allowed n (Was (unlagged o)) os) e in
+    let q = and_both (names_items n o && rises last o) (all_allowed n (Some (unlagged o)) os) e in
     let r = and_both (names_items n o) (rises last o) q.0 in
     let p = names_proper n o r.0 in
     let below = lt-ltb o.successor 10 (omega arith) in
     and_intro (and_intro (and_intro (lt-ltb o.predecessor 10 (omega arith)) (and_intro below (ap not (ne_eqb _ _ p.distinct)))) r.1)
-    (allowed-wide n h (Was (unlagged o)) os q.1)
+    (allowed-wide n h (Some (unlagged o)) os q.1)
 
 pub valid-sound : (i : Instance) → valid i ≡ true → length i.items ≡ 10 → Sound (problem_of i)
 unfolding problem_of
 valid-sound i h long = let says = valid-says i h in record {
   limited = says.items-few;
   positive = λ a u la lu. (item-measures i h long a u la lu).0;
-  named = λ o m. let (x, mem, e) = Memᴰ.of_map precedence_of (precedences_of i) m in rw (← e) (allowed-proper _ Nothing says.precedences-allowed mem);
+  named = λ o m. let (x, mem, e) = Memᴰ.of_map precedence_of (precedences_of i) m in rw (← e) (allowed-proper _ None says.precedences-allowed mem);
 }

@@ -1,5 +1,5 @@
 -- An instance's measures beside the totals of chains.
-use Rattle.std.specs.Prelude.{◌⊎◌, ◌≡◌, ◌+◌, ◌*◌, ◌/◌, ◌%◌, ◌≤◌, ◌<◌}
+use Rattle.std.specs.Prelude.{◌⊎◌, ◌≡◌, ◌+◌, ◌*◌, ◌/◌, ◌%◌, ◌≤◌, ◌<◌, Result, Ok, Err}
 use Rattle.prelude.specs.Names.{Bool, true, false, cond, List, [], map, ℕ, ltb, get_or, length, set}
 use Rattle.model.specs.Problem.{Problem, gap}
 use Rattle.model.specs.Wide.{wide}
@@ -8,6 +8,8 @@ use Rattle.parts.specs.declared.Precedence.{Precedence}
 use Rattle.parts.specs.declared.Size.{Size}
 use Rattle.parts.specs.Sizes.{max_measure}
 use Rattle.instance.specs.Meaning.{precedence_of}
+use Rattle.domains.specs.declared.store.Conflict.{Conflict}
+use Rattle.chains.specs.declared.totals.Totals.{Totals}
 use Rattle.chains.specs.Totals.{Small, table_start, table, measure_at, capacity_at, gapped_at, step_at}
 use Rattle.model.specs.Problem as M
 
@@ -81,6 +83,6 @@ abbrev pub LargeItem : Problem → Type 0
 LargeItem p = (a : ℕ) × (u : ℕ) × (a < 3) × (u < p.items) × (p.capacity a < p.size a u)
 
 -- all of a problem is laid out, as the one of ten items, and each item alone fits; or one does not
-abbrev pub FitsIf : Problem → List ℕ → Bool → Type 0
-FitsIf p t true = SteppedOut (wide p) t × LargeIf t false
-FitsIf p t false = LargeItem p
+abbrev pub FitsIf : Problem → Result Totals Conflict → Type 0
+FitsIf p (Ok t) = SteppedOut (wide p) t.numbers × LargeIf t.numbers false
+FitsIf p (Err _) = LargeItem p

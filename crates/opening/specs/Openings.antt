@@ -1,6 +1,6 @@
 -- The opening domains by removals.
-use Rattle.std.specs.Prelude.{◌⊎◌, ◌≡◌, ◌≤◌, ◌<◌}
-use Rattle.prelude.specs.Names.{Bool, true, false, List, [], map, ℕ, take}
+use Rattle.std.specs.Prelude.{◌⊎◌, ◌≡◌, ◌≤◌, ◌<◌, Result, Ok, Err}
+use Rattle.prelude.specs.Names.{List, [], map, ℕ}
 use Rattle.model.specs.Problem.{Problem}
 use Rattle.model.specs.Domains.{Domains}
 use Rattle.model.specs.Order.{Proper}
@@ -8,8 +8,9 @@ use Rattle.model.specs.Branching.{fix_precedences}
 use Rattle.model.specs.Relations.{Filled, Untouched}
 use Rattle.model.specs.Toward.{Direction}
 use Rattle.model.specs.Run.{look}
-use Rattle.domains.specs.Queue.{Long}
 use Rattle.domains.specs.Narrowed.{Grown, Narrowed, Refuted, FilledWith}
+use Rattle.domains.specs.declared.store.Store.{Store}
+use Rattle.domains.specs.declared.store.Conflict.{Conflict}
 use Rattle.chains.specs.Totals.{table, gap_at}
 use Rattle.chains.specs.Cuts.{CutAll}
 use Rattle.parts.specs.declared.Precedence.{Precedence}
@@ -18,14 +19,18 @@ use Rattle.nodes.specs.Nodes.{At}
 use Rattle.opening.specs.declared.Root.{Root}
 use Rattle.model.specs.Search as S
 
--- the domains with the first m precedences fixed
-abbrev pub first_fixed : ℕ → List Precedence → Domains → Domains
-first_fixed m os k = fix_precedences (map precedence_of (take m os)) k
+-- the domains with the precedences fixed
+abbrev pub all_fixed : List Precedence → Domains → Domains
+all_fixed os k = fix_precedences (map precedence_of os) k
 
 -- all but "u before v" on t is removed for each of them; or that leaves a pair nothing
-abbrev pub FixedIf : ℕ → List Precedence → Domains → List ℕ → Domains → List ℕ → List ℕ → Bool → Type 0
-FixedIf m os k q j rows r true = (j ≡ first_fixed m os k) × Grown k q j rows r
-FixedIf m os k q j rows r false = Long j rows r × (Filled (first_fixed m os k) → ⊥)
+abbrev pub FixedIf : List Precedence → Domains → List ℕ → Domains → List ℕ → List ℕ → Result (Unit {0}) Conflict → Type 0
+FixedIf os k q j rows r (Ok _) = (j ≡ all_fixed os k) × Grown k q j rows r
+FixedIf os k q j rows r (Err _) = Filled (all_fixed os k) → ⊥
+
+-- the same of a store, from entry to exit
+abbrev pub Fixes : List Precedence → Store → Store → Result (Unit {0}) Conflict → Type 0
+Fixes os old new = FixedIf os old.domains old.queue new.domains new.rows new.queue
 
 -- "u before v" is removed of every two items that are too long together
 abbrev pub PairsCut : List ℕ → Domains → Type 0
@@ -45,11 +50,14 @@ abbrev pub Outside : List ℕ → Domains → Domains → Type 0
 Outside t k j = (n : ℕ) → n ≤ 10 → Past t n → Untouched n k → Untouched n j
 
 -- every two items that are too long together are cut, and nothing past the items; or that leaves a pair nothing
-abbrev pub CutIf : List ℕ → Domains → List ℕ → Domains → List ℕ → List ℕ → Bool → Type 0
-CutIf t k q j rows r true = Narrowed (PairsAsked t) (PairsCut t) k q j rows r × Outside t k j
-CutIf t k q j rows r false = Long j rows r × Refuted (PairsAsked t) k
+abbrev pub CutIf : List ℕ → Domains → List ℕ → Domains → List ℕ → List ℕ → Result (Unit {0}) Conflict → Type 0
+CutIf t k q j rows r (Ok _) = Narrowed (PairsAsked t) (PairsCut t) k q j rows r × Outside t k j
+CutIf t k q j rows r (Err _) = Refuted (PairsAsked t) k
+
+abbrev pub Cuts : List ℕ → Store → Store → Result (Unit {0}) Conflict → Type 0
+Cuts t old new = CutIf t old.domains old.queue new.domains new.rows new.queue
 
 -- the opening domains, ready; or that they are inconsistent
-abbrev pub RootedIf : Problem → Root → Bool → Type 0
-RootedIf p r true = At p r.domains r.rows r.queue r.totals []
-RootedIf p r false = look p [] ≡ S.conflict
+abbrev pub RootedIf : Problem → Result Root Conflict → Type 0
+RootedIf p (Ok r) = At p r.store.domains r.store.rows r.store.queue r.totals.numbers []
+RootedIf p (Err _) = look p [] ≡ S.conflict

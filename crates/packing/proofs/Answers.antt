@@ -1,5 +1,5 @@
 -- The clearance's answer: refused exactly for the table's conditions, and else the clearance.
-use Rattle.std.specs.Prelude.{◌⊎◌, ◌↔◌, ◌≡◌, ◌<◌}
+use Rattle.std.specs.Prelude.{◌⊎◌, ◌↔◌, ◌≡◌, ◌<◌, Result}
 use Rattle.prelude.specs.Names.{Bool, true, false, false≢true, and-false, inl, inr, refl, sym, ◌∙◌, subst, ℕ, dec_lt, arith, ℤ}
 use Rattle.prelude.specs.Names.{lt-ltb, le-ltb}
 use Rattle.model.proofs.Below.{test_false}
@@ -9,7 +9,7 @@ use Rattle.instance.specs.Valid.{valid}
 use Rattle.instance.specs.Meaning.{positions_of}
 use Rattle.turning.specs.Turned.{marks_allowed, MarksAllowed}
 use Rattle.turning.proofs.Marks.{marks_exactly}
-use Rattle.packing.specs.declared.ClearanceAnswer.{ClearanceAnswer}
+use Rattle.refusal.specs.declared.Refusal.{Refusal}
 use Rattle.packing.specs.Check.{turned_by}
 use Rattle.packing.specs.Clearance.{clearance_between, clearance_answer, clearance_values, ClearanceFault, Answers}
 
@@ -55,7 +55,6 @@ module _ (i : Instance) (q : Packing) (u v a : ℕ) where
   pub answers : Answers i q u v a (clearance_answer i q u v a)
   answers = record { refused = λ m place. exactly (inr (m, place)); value = λ z. exactly (inl z) }
 
-  -- both promises of the clearance, from the first
-  pub answered : (r : ClearanceAnswer) → r ≡ clearance_answer i q u v a
-      → (r ≡ clearance_answer i q u v a) × Answers i q u v a r
-  answered r e = (e, subst (Answers i q u v a) (sym e) answers)
+  -- of what the clearance answers
+  pub answers_by : (r : Result ℤ Refusal) → r ≡ clearance_answer i q u v a → Answers i q u v a r
+  answers_by r e = subst (Answers i q u v a) (sym e) answers

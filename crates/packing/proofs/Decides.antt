@@ -1,6 +1,6 @@
 -- The check's answer says whether the packing is feasible with the marked items turned, and so whether it fits as a plan.
-use Rattle.std.specs.Prelude.{◌↔◌, ◌≡◌, ◌+◌, ◌≤◌, ◌<◌}
-use Rattle.prelude.specs.Names.{Bool, true, false, not, false≢true, refl, sym, subst, ◌∙◌, ℕ, arith, get_or, not-true, not-false}
+use Rattle.std.specs.Prelude.{◌↔◌, ◌≡◌, ◌+◌, ◌≤◌, ◌<◌, Result}
+use Rattle.prelude.specs.Names.{Bool, true, false, false≢true, refl, sym, subst, ◌∙◌, ℕ, arith, get_or}
 use Rattle.model.proofs.Feasible.{feasible_exactly}
 use Rattle.model.specs.Turning.{Fits}
 use Rattle.instance.specs.declared.Instance.{Instance}
@@ -9,16 +9,9 @@ use Rattle.instance.specs.Valid.{valid}
 use Rattle.instance.specs.Meaning.{positions_of}
 use Rattle.turning.specs.Turned.{turnable_of, plan_of, marks_allowed, MarksAllowed}
 use Rattle.turning.proofs.Marks.{marks_exactly, marks_fit, fit_marks}
-use Rattle.packing.specs.declared.CheckAnswer.{CheckAnswer}
+use Rattle.refusal.specs.declared.Refusal.{Refusal}
 use Rattle.packing.specs.Check.{check_answer_if, turned_by, check_answer, check_number, CheckFault, Decides}
 use Rattle.model.specs.Problem as M
-
--- a test that was made
-pub test_passed : {t b : Bool} → t ≡ b → not t ≡ false → b ≡ true
-test_passed {t} e h = sym e ∙ not-false t h
-
-pub test_failed : {t b : Bool} → t ≡ b → not t ≡ true → b ≡ false
-test_failed {t} e h = sym e ∙ not-true t h
 
 -- the numbers by the three tests: v, that the value is an instance, m, that the marks are allowed, and f, that the packing is feasible
 module _ (M F : Type 0) where
@@ -80,6 +73,6 @@ module _ (i : Instance) (q : Packing) where
   unfolding turnable_of
   fits-yes v small f = decides.yes.1 (v, fit_marks i q small f, f.feasible)
 
-  -- both promises of the check, from the first
-  pub decided : (r : CheckAnswer) → r ≡ check_answer i q → (r ≡ check_answer i q) × Decides i q r
-  decided r e = (e, subst (Decides i q) (sym e) decides)
+  -- of what the check answers
+  pub decides_by : (r : Result Bool Refusal) → r ≡ check_answer i q → Decides i q r
+  decides_by r e = subst (Decides i q) (sym e) decides

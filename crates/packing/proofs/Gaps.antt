@@ -2,11 +2,13 @@
 use Rattle.std.specs.Prelude.{◌⊎◌, ◌↔◌, ◌≡◌, ◌+◌, ◌≤◌, ◌<◌, ◌^◌, ◌+ℤ◌, ◌-ℤ◌, ◌≤ℤ◌}
 use Rattle.prelude.specs.Names.{inl, inr, ⊎_elim, refl, ap, ◌∙◌, ℕ, zero, suc, max, dec_le, arith, ℤ, pos, negsuc}
 use Rattle.prelude.specs.Names.{nat_abs, lt-ltb, le-ltb}
+use Rattle.std.specs.Int.{int_max}
+use Rattle.std.proofs.lemmas.Int.{int_max_is}
 use lib.Dec.{leb→le, le→leb}
 use lib.IntN.{neg_ℤ, sub_ℕ}
 use lib.Signed.{mag}
 use mir.Syntax.{w32}
-use mir.Val.{SFits, to_z, of_z}
+use mir.Val.{to_z, of_z}
 use mir.ValLaws.{to_z-of_z}
 use Rattle.model.specs.Problem.{Problem, Positions, EndsAhead, EndsBefore, spacing}
 use Rattle.packing.specs.Clearance.{greater_of, from_end_to_start, clearance_between, Gap, PartedByMove, LeastMove, Overlap}
@@ -66,13 +68,9 @@ greatest (pos x) (negsuc y) k a b e f = omega arith
 greatest (negsuc x) (pos y) k a b e f = omega arith
 greatest (negsuc x) (negsuc y) k a b e f = by_lt y x (λ h. rw (lt-ltb y x h) (omega arith)) (λ h. rw (le-ltb y x h) (omega arith))
 
--- a difference of two small numbers fits an i32
-pub diff_fits : (a b : ℕ) → a < 2 ^ 31 → b < 2 ^ 31 → SFits w32 (pos a -ℤ pos b)
-diff_fits a b ha hb = let n = negated (pos b) in go (pos a -ℤ pos b) (omega (arith, sum (pos a) (neg_ℤ (pos b))))
-  where
-    go : (z : ℤ) → up z + b ≡ down z + a → SFits w32 z
-    go (pos n) e = record { sfits = omega arith }
-    go (negsuc n) e = record { sfits = omega arith }
+-- the library's greater of two is this one
+pub max_is : (x y : ℤ) → int_max x y ≡ greater_of x y
+max_is x y = same_integer _ _ (omega (arith, int_max_is x y, greatest x y (down x + down y) (up x + down y) (up y + down x) (omega arith) (omega arith)))
 
 -- an i32 that a call gives is the integer that it was
 pub i32_value : {x y : ℤ} → mag x < 2 ^ 31 → x ≡ y → to_z w32 (of_z w32 x) ≡ y

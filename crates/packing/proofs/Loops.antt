@@ -1,11 +1,11 @@
--- Loops over the numbers below n, and the tests of a packing as such loops.
-use Rattle.std.specs.Prelude.{◌&&◌, ◌||◌, ◌∷◌, ◌++◌, ◌≢◌, ◌≡◌, ◌+◌, ◌≤◌, ◌<◌}
-use Rattle.prelude.specs.Names.{Bool, true, false, or_comm, or-true, and_comm, and_assoc, List, [], map, refl, sym}
-use Rattle.prelude.specs.Names.{ap, ◌∙◌, ℕ, zero, suc, add-one, arith, dec_lt, leb, eqb, length, get_or, take, take-suc, eq-eqb, ne_eqb}
+-- The tests of a packing, as the code makes them.
+use Rattle.std.specs.Prelude.{◌&&◌, ◌||◌, ◌∷◌, ◌++◌, ◌≡◌, ◌≤◌, ◌<◌}
+use Rattle.prelude.specs.Names.{Bool, true, false, or_comm, and_comm, and_assoc, List, [], map, refl, sym}
+use Rattle.prelude.specs.Names.{ap, ℕ, zero, suc, arith, dec_lt, leb, eqb, length, get_or, take, take-suc, eq-eqb, ne_eqb}
 use mathlib.Core.Path.{fun_ext}
 use Rattle.model.specs.Below.{some_below, all_below, all_in}
 use Rattle.model.specs.Problem.{Problem, Positions, spacing, ends_before, ends_ahead, inside_test, apart_on_some_axis, apart_test, ordered_test, time}
-use Rattle.model.proofs.Below.{all-at, all_of, all_cons, some_of, fails, or_left, or_right}
+use Rattle.model.proofs.Below.{below_three, all-at, all_of, or_left, or_right}
 use Rattle.model.proofs.Order.{implies_eq}
 use Rattle.parts.specs.declared.Precedence.{Precedence}
 use Rattle.parts.specs.declared.Item.{Item}
@@ -14,41 +14,26 @@ use Rattle.instance.specs.declared.Instance.{Instance}
 use Rattle.instance.specs.declared.Packing.{Packing}
 use Rattle.instance.specs.declared.Position.{Position}
 use Rattle.instance.specs.Valid.{precedences_of}
-use Rattle.instance.specs.Meaning.{precedence_of, measure_on, start, problem_of, positions_of}
-use Rattle.packing.specs.Parts.{within, inside_on, apart_from_lower, placed_at, spacing_on, end_of, precedence_kept, all_kept}
+use Rattle.instance.specs.Meaning.{precedence_of, measure_on, problem_of, positions_of}
+use Rattle.packing.specs.declared.axes.Axis.{Axis}
+use Rattle.packing.specs.declared.axes.Axis.TheVariants.{X, Y, T}
+use Rattle.packing.specs.Axes.{axis_number}
+use Rattle.packing.specs.Parts.{within, inside_on, apart_from_lower, placed_at, end_of, apart_on, precedence_kept, all_kept}
 use Rattle.packing.specs.declared.axes.Placed.{Placed}
 use Rattle.model.specs.Problem as M
-
--- an axis that is neither 0 nor 1 counts as the last
-pub last_axis : (P : ℕ → Type 0) → ((a : ℕ) → P (suc (suc a))) → (a : ℕ) → a ≢ 0 → a ≢ 1 → P a
-last_axis P f zero h k = absurd (h refl)
-last_axis P f (suc zero) h k = absurd (k refl)
-last_axis P f (suc (suc a)) h k = f a
 
 both_pass : (b : Bool) {c d : Bool} → c ≡ d → elim b as (λ _. Bool) [ true ↦ c | false ↦ false ] ≡ (b && d)
 both_pass true e = e
 both_pass false e = refl
 
--- A loop over the numbers below n that ends at the first that fails a test: those below i pass.
-pub record Passed (f : ℕ → Bool) (n i : ℕ) : Type 0 where
-  pub within : i ≤ n
-  pub pass : all_below i f ≡ true
+pub axis_number-small : (a : Axis) → axis_number a < 3
+axis_number-small X = omega arith
+axis_number-small Y = omega arith
+axis_number-small T = omega arith
 
--- by what the test answers at i
-module _ {f : ℕ → Bool} {n i : ℕ} (passed : Passed f n i) where
-  pub all_fails : i < n → {b : Bool} → b ≡ f i → b ≡ false → false ≡ all_below n f
-  all_fails l e h = sym (fails (λ d. all-at n f d i l) (sym e ∙ h))
-
-  pub all_more : i < n → {b : Bool} → b ≡ f i → b ≡ true → Passed f n (i + 1)
-  all_more l e h = record { within = omega arith; pass = rw add-one (all_cons (f i) (all_below i f) (sym e ∙ h) passed.pass) }
-
-  pub all_done : n ≤ i → true ≡ all_below n f
-  all_done m = let e : n ≡ i = omega arith in rw (e, passed.pass)
-
--- A loop that ends at the first that passes: those below i fail.
-pub record Failed (f : ℕ → Bool) (n i : ℕ) : Type 0 where
-  pub within : i ≤ n
-  pub fail : some_below i f ≡ false
+-- the axis at each place of x, y and t has that number
+pub numbered : {A : Type 0} (f : ℕ → A) (k : ℕ) → k < 3 → f (axis_number (get_or (X ∷ Y ∷ T ∷ []) k X)) ≡ f k
+numbered f k h = below_three (λ k. f (axis_number (get_or (X ∷ Y ∷ T ∷ []) k X)) ≡ f k) refl refl refl k h
 
 module _ (p : Problem) (q : Positions) where
   pub inside_loop : inside_test p q ≡ all_below 3 (inside_on p q)
@@ -85,16 +70,6 @@ module _ (items : List Item) (positions : List Position) where
   unfoldable pub within_limit : ℕ → ℕ → ℕ → Bool
   within_limit a limit u = leb (end_of a (placed_at items positions u)) limit
 
-  pub within_limit_is : (a limit u : ℕ) {end : ℕ} {x : Placed} → x ≡ placed_at items positions u → end ≡ end_of a x
-      → leb end limit ≡ within_limit a limit u
-  unfolding within_limit
-  within_limit_is a limit u p e = rw (e, p)
-
-  pub kept-is : (o : Precedence) {t : Bool} {i j : Placed} → i ≡ placed_at items positions o.predecessor → j ≡ placed_at items positions o.successor
-      → t ≡ leb (end_of time i + o.lag) (start time j.position) → t ≡ precedence_kept items positions o
-  unfolding precedence_kept
-  kept-is o p r e = e ∙ rw (p, r)
-
   kept_last : (os : List Precedence) (o : Precedence)
       → all_kept items positions (os ++ o ∷ []) ≡ (precedence_kept items positions o && all_kept items positions os)
   unfolding all_kept
@@ -109,25 +84,6 @@ module _ (items : List Item) (positions : List Position) where
   kept_loop os (suc m) h =
       rw (take-suc os m no_precedence, kept_last) (sym (both_pass (precedence_kept items positions _) (sym (kept_loop os m (omega arith)))))
 
--- two items are parted on an axis, with a walkway
-unfoldable pub parted_on : ℕ → Placed → Placed → ℕ → Bool
-parted_on w x y a =
-    leb (end_of a x + spacing_on w a) (start a y.position) || leb (end_of a y + spacing_on w a) (start a x.position)
-
-module _ (w : ℕ) (x y : Placed) (a : ℕ) {g : ℕ} (space : g ≡ spacing_on w a) {t : Bool} (e : t ≡ leb (end_of a x + g) (start a y.position)) where
-  pub parted_left : t ≡ true → parted_on w x y a ≡ true
-  unfolding parted_on
-  parted_left h = rw (← space, ← e, h)
-
-  module _ {s : Bool} (d : s ≡ leb (end_of a y + g) (start a x.position)) where
-    pub parted_right : s ≡ true → parted_on w x y a ≡ true
-    unfolding parted_on
-    parted_right h = rw (← space, ← d, h, or-true)
-
-    pub parted_more : Failed (parted_on w x y) 3 a → a < 3 → t ≡ false → s ≡ false → Failed (parted_on w x y) 3 (a + 1)
-    unfolding parted_on
-    parted_more f l h k = record { within = omega arith; fail = rw (add-one, some_below, ← space, ← e, ← d, h, k) f.fail }
-
 module _ (i : Instance) (q : Packing) where
   pub inside_by : (a : ℕ) {limit : ℕ} → limit ≡ measure_on a i.container
       → inside_on (problem_of i) (positions_of q) a ≡ all_below i.item_count (within_limit i.items q.positions a limit)
@@ -139,15 +95,9 @@ module _ (i : Instance) (q : Packing) where
   apart_by = apart_loop _ _
 
   module _ (u v : ℕ) {x y : Placed} (e : x ≡ placed_at i.items q.positions u) (f : y ≡ placed_at i.items q.positions v) where
-    parted_by : apart_on_some_axis (problem_of i) (positions_of q) u v ≡ some_below 3 (parted_on i.walkway x y)
-    unfolding apart_on_some_axis ends_before ends_ahead spacing parted_on end_of problem_of positions_of
-    parted_by = rw (e, f)
-
-    pub parted : {a : ℕ} → a < 3 → parted_on i.walkway x y a ≡ true → true ≡ apart_on_some_axis (problem_of i) (positions_of q) u v
-    parted {a} l h = sym (parted_by ∙ some_of 3 (parted_on i.walkway x y) a l h)
-
-    pub not_parted : {a : ℕ} → Failed (parted_on i.walkway x y) 3 a → 3 ≤ a → false ≡ apart_on_some_axis (problem_of i) (positions_of q) u v
-    not_parted {a} d l = let n : a ≡ 3 = omega arith in rw (parted_by, ← (rw n at d.fail))
+    pub apart_by_axes : apart_on_some_axis (problem_of i) (positions_of q) u v ≡ some_below 3 (λ a. apart_on i.walkway a x y)
+    unfolding apart_on_some_axis ends_before ends_ahead spacing apart_on end_of problem_of positions_of
+    apart_by_axes = rw (e, f)
 
   pub ordered_by : ordered_test (problem_of i) (positions_of q) ≡ all_kept i.items q.positions (precedences_of i)
   unfolding ordered_test ends_ahead all_kept precedence_kept end_of problem_of positions_of

@@ -1,6 +1,6 @@
 -- The clearance of two items on an axis, and what is answered (document 01, "Fit" and the refusals 9, 5, 8; document 02, #106 and refusal 13). A walkway
 -- changes nothing here: the clearance is the plain distance of starts and ends.
-use Rattle.std.specs.Prelude.{◌&&◌, ◌⊎◌, ◌↔◌, ◌≡◌, ◌+◌, ◌≤◌, ◌<◌, ◌+ℤ◌, ◌-ℤ◌, ◌≤ℤ◌}
+use Rattle.std.specs.Prelude.{◌&&◌, ◌⊎◌, ◌↔◌, ◌≡◌, ◌+◌, ◌≤◌, ◌<◌, ◌+ℤ◌, ◌-ℤ◌, ◌≤ℤ◌, Result, Ok, Err}
 use Rattle.prelude.specs.Names.{Bool, true, false, cond, inl, inr, ℕ, ltb, ℤ, pos, nat_abs, lt_z}
 use Rattle.model.specs.Problem.{Problem, Positions, EndsAhead}
 use Rattle.refusal.specs.declared.Refusal.{Refusal}
@@ -12,8 +12,6 @@ use Rattle.instance.specs.Valid.{valid}
 use Rattle.instance.specs.Meaning.{positions_of}
 use Rattle.turning.specs.Turned.{marks_allowed, MarksAllowed}
 use Rattle.packing.specs.Check.{turned_by}
-use Rattle.packing.specs.declared.ClearanceAnswer.{ClearanceAnswer}
-use Rattle.packing.specs.declared.ClearanceAnswer.TheVariants.{Clearance, Refused}
 
 -- the greater of two integers
 unfoldable pub greater_of : ℤ → ℤ → ℤ
@@ -28,24 +26,24 @@ unfoldable pub clearance_between : Problem → Positions → ℕ → ℕ → ℕ
 clearance_between p q a u v = greater_of (from_end_to_start p q a u v) (from_end_to_start p q a v u)
 
 -- the answer, or the refusal where the test fails
-abbrev pub refused_unless : Bool → Refusal → ClearanceAnswer → ClearanceAnswer
+abbrev pub refused_unless : Bool → Refusal → Result ℤ Refusal → Result ℤ Refusal
 refused_unless true e r = r
-refused_unless false e r = Refused e
+refused_unless false e r = Err e
 
 -- "9 is tested before 5, 8 and 10 ..; clearance then tests 5 and then 8": 5, with place 0, for an item that is not there; 8 for an axis that is not 0, 1 or 2;
 -- and 13, for the mark of any item on the sheet, "after 8"
-unfoldable pub clearance_answer : Instance → Packing → ℕ → ℕ → ℕ → ClearanceAnswer
+unfoldable pub clearance_answer : Instance → Packing → ℕ → ℕ → ℕ → Result ℤ Refusal
 clearance_answer i q u v a =
     refused_unless (valid i) InvalidInstance
     (refused_unless (ltb u i.item_count && ltb v i.item_count) (BadItem 0)
     (refused_unless (ltb a 3) BadArgument
     (refused_unless (marks_allowed i q.marks) BadMark
-    (Clearance (clearance_between (turned_by i q) (positions_of q) a u v)))))
+    (Ok (clearance_between (turned_by i q) (positions_of q) a u v)))))
 
 -- what is returned: the clearance, or a refusal's number and place
-abbrev pub clearance_values : ClearanceAnswer → ℤ ⊎ (ℕ × ℕ)
-clearance_values (Clearance z) = inl z
-clearance_values (Refused e) = inr (number_of e, place_of e)
+abbrev pub clearance_values : Result ℤ Refusal → ℤ ⊎ (ℕ × ℕ)
+clearance_values (Ok z) = inl z
+clearance_values (Err e) = inr (number_of e, place_of e)
 
 -- The table's conditions for the clearance, in the order of the tests
 pub data ClearanceFault (i : Instance) (q : Packing) (u v a n : ℕ) : Type 0 where
@@ -60,7 +58,7 @@ pub data ClearanceFault (i : Instance) (q : Packing) (u v a n : ℕ) : Type 0 wh
       → ClearanceFault i q u v a n
 
 -- The answer, by these conditions and the definition of the clearance alone
-pub record Answers (i : Instance) (q : Packing) (u v a : ℕ) (r : ClearanceAnswer) : Type 0 where
+pub record Answers (i : Instance) (q : Packing) (u v a : ℕ) (r : Result ℤ Refusal) : Type 0 where
   -- refused exactly for a condition that holds where none before it does; the place is "0 from clearance and label record"
   pub refused : (n place : ℕ) → (clearance_values r ≡ inr (n, place)) ↔ (ClearanceFault i q u v a n × (place ≡ 0))
   -- the clearance exactly where none holds

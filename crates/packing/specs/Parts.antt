@@ -1,5 +1,5 @@
 -- Parts of the test of a packing, each the work of one loop.
-use Rattle.std.specs.Prelude.{◌&&◌, ◌∷◌, ◌+◌, ◌<◌}
+use Rattle.std.specs.Prelude.{◌&&◌, ◌||◌, ◌∷◌, ◌+◌, ◌<◌}
 use Rattle.prelude.specs.Names.{Bool, true, cond, List, [], ℕ, leb, eqb, get_or}
 use Rattle.model.specs.Below.{all_below}
 use Rattle.model.specs.Problem.{Problem, Positions, apart_on_some_axis, time}
@@ -39,6 +39,11 @@ spacing_on walkway a = cond (eqb a time) 0 walkway
 -- start plus measure
 unfoldable pub end_of : ℕ → Placed → ℕ
 end_of a i = start a i.position + measure_on a i.size
+
+-- one of two items ends at least so far before the other's start
+unfoldable pub apart_on : ℕ → ℕ → Placed → Placed → Bool
+apart_on walkway a i j =
+    leb (end_of a i + spacing_on walkway a) (start a j.position) || leb (end_of a j + spacing_on walkway a) (start a i.position)
 
 -- "u's end plus the lag is at most v's start", in t, over the arrays of items and positions
 unfoldable pub precedence_kept : List Item → List Position → Precedence → Bool

@@ -28,15 +28,16 @@ pub fn pair_number(u: usize, v: usize) -> usize
     pair_count(v) + u
 }
 
-// The pair of a number: 1, 2, 3 and so on are taken off while they can be; v is the first that cannot, u what is left.
+// The pair of a number: 1, 2, 3 and so on are taken off while they can be; v is the first that cannot, u what is left. No `for`: how
+// far v counts depends on what is left.
 pub fn pair_of(number: usize) -> Pair
     ensures { pair_value result ≡ P.pair_of number }
 {
     let mut u = number;
-    let mut v: usize = 1;
+    let mut v = 1;
     while v <= u {
-        u = u - v;
-        v = v + 1;
+        u -= v;
+        v += 1;
     }
     Pair { u, v }
 }

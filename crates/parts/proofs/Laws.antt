@@ -1,5 +1,5 @@
 -- The parts of a sheet have their laws; what may be written of each, and how many bytes it has at most.
-use Rattle.std.specs.Prelude.{◌≡◌, ◌&&◌, ◌||◌, ◌∷◌, ◌≤◌}
+use Rattle.std.specs.Prelude.{◌≡◌, ◌&&◌, ◌||◌, ◌∷◌, ◌≤◌, Option}
 use Rattle.prelude.specs.Names.{refl, sym, ◌∙◌, Bool, true, false, not, cond, and-true, and-false, not-not, List, []}
 use Rattle.prelude.specs.Names.{ℕ, zero, suc, arith, dec_le, ℕ_discrete, eqb, eqb-suc-zero, leb, ltb, length, length-append}
 use Rattle.prelude.specs.Names.{replicate, length-replicate, eqb-true, eq-eqb, ne_eqb, leb-false, le-leb, lt-leb, lt-ltb, le-ltb, not-true}
@@ -10,7 +10,7 @@ use Rattle.formats.proofs.Laws.{Lawful, both_true, byte_lawful, word_lawful, pre
 use Rattle.formats.proofs.Laws.{row_lawful}
 use Rattle.formats.proofs.Maps.{OptionalLaws, FieldsLaws, with_map_lawful, with_map-valid}
 use Rattle.parts.specs.declared.Item.{Item}
-use Rattle.parts.specs.declared.Previous.{Previous}
+use Rattle.parts.specs.declared.Precedence.{Precedence}
 use Rattle.parts.specs.Sizes.{in_range, size_in_range}
 use Rattle.parts.specs.Precedences.{Arc, names_items, rises}
 use Rattle.parts.specs.Parts.{number_as, number, byte_number, measure, measures, may_turn, item_fields, item, precedence}
@@ -103,7 +103,7 @@ unfolding item item_fields measures fields_valid size_in_range
 item-valid i = with_map-valid item_fields i ∙ simp (measure-valid, may_turn-valid, and-true)
 
 -- a precedence is allowed where it passes its tests
-pub precedence-valid : (n : ℕ) (last : Previous) (a : Arc)
+pub precedence-valid : (n : ℕ) (last : Option Precedence) (a : Arc)
     → (tested precedence (precedence_tests n last)).valid a ≡ (names_items n a && rises last a)
 unfolding precedence tested passes_all converted pair byte
 precedence-valid n last a = simp (not-not, and-true)

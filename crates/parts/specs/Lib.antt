@@ -1,4 +1,5 @@
 pub mod Sizes
 pub mod Precedences
 pub mod Parts
+pub mod Places
 pub mod Answers

@@ -1,12 +1,12 @@
 -- The parts of a sheet as formats (document 01, "Sheet bytes").
-use Rattle.std.specs.Prelude.{◌&&◌, ◌∷◌}
+use Rattle.std.specs.Prelude.{◌&&◌, ◌∷◌, Option}
 use Rattle.prelude.specs.Names.{ℕ, suc, true, false, not, Bool, List, [], eqb, leb, ltb, length, replicate}
 use Rattle.refusal.specs.declared.Refusal.TheVariants.{WrittenDefault, BadItem, NotRising, NoLag, TooLarge}
 use Rattle.formats.specs.Formats.{Format, Test, byte, word, presence, pair, converted, tested, row, count}
 use Rattle.formats.specs.Fields.{Optional, optional_bytes, flag, Fields, made, field, with_map}
 use Rattle.parts.specs.declared.Size.{Size}
 use Rattle.parts.specs.declared.Item.{Item}
-use Rattle.parts.specs.declared.Previous.{Previous}
+use Rattle.parts.specs.declared.Precedence.{Precedence}
 use Rattle.parts.specs.Sizes.{max_measure}
 use Rattle.parts.specs.Precedences.{Arc, names_items, rises}
 
@@ -76,7 +76,7 @@ precedence =
     converted (λ p. record { predecessor = p.0; successor = p.1 }) (λ a. (a.predecessor, a.successor)) (pair byte byte)
 
 -- with n items, after `last`: 5: "a piece not on the sheet, or u = v in an order"; 6: "not above the order before"
-abbrev pub precedence_tests : ℕ → Previous → Arc → List Test
+abbrev pub precedence_tests : ℕ → Option Precedence → Arc → List Test
 precedence_tests n last a =
     record { fault = not (names_items n a); refusal = BadItem }
     ∷ record { fault = not (rises last a); refusal = NotRising }

@@ -1,9 +1,7 @@
 -- Orders on a sheet and the precedences of an instance; which orders a sheet may have (document 01, "Sheet bytes" and the refusals 5 and 6).
-use Rattle.std.specs.Prelude.{◌&&◌, ◌||◌, ◌∷◌}
+use Rattle.std.specs.Prelude.{◌&&◌, ◌||◌, ◌∷◌, Option, Some, None}
 use Rattle.prelude.specs.Names.{Bool, true, not, List, [], ℕ, ltb, eqb}
 use Rattle.parts.specs.declared.Precedence.{Precedence}
-use Rattle.parts.specs.declared.Previous.{Previous}
-use Rattle.parts.specs.declared.Previous.TheVariants.{Nothing, Was}
 
 -- an order as it is on the sheet: u, v. Its lag is in a field of its own
 pub record Arc : Type 0 where
@@ -34,11 +32,11 @@ above a b =
     || (eqb a.predecessor b.predecessor && ltb a.successor b.successor)
 
 -- 6: "not above the order before" does not hold; the first has none before it
-abbrev pub rises : Previous → Arc → Bool
-rises Nothing a = true
-rises (Was o) a = above (arc_of o) a
+abbrev pub rises : Option Precedence → Arc → Bool
+rises None a = true
+rises (Some o) a = above (arc_of o) a
 
 -- each order of a list is allowed after the one before
-unfoldable pub all_allowed : ℕ → Previous → List Arc → Bool
+unfoldable pub all_allowed : ℕ → Option Precedence → List Arc → Bool
 all_allowed n last [] = true
-all_allowed n last (a ∷ later) = (names_items n a && rises last a) && all_allowed n (Was (unlagged a)) later
+all_allowed n last (a ∷ later) = (names_items n a && rises last a) && all_allowed n (Some (unlagged a)) later

@@ -1,9 +1,8 @@
 // The parts of a sheet: measures, items and precedences. What each is, when it is valid, and how it is read from and written to bytes.
 #![tactic(auto)]
 
-ghost use Rattle.std.specs.Prelude.{◌≡◌};
-
-use refusal::Refusal;
+ghost use Rattle.std.specs.Prelude.{◌≡◌, ◌≤◌};
+ghost use Rattle.formats.specs.Fields.{is_set};
 
 pub mod read;
 pub mod valid;
@@ -13,7 +12,7 @@ pub mod write;
 pub const MAX_MEASURE: u16 = 4095;
 
 // The measures of the container or of an item.
-#[derive(Clone, Copy)]
+#[derive(Clone, Copy, PartialEq, Eq)]
 pub struct Size {
     pub width: u16,
     pub depth: u16,
@@ -21,60 +20,24 @@ pub struct Size {
 }
 
 // A piece. `may_turn`: its width and depth may be exchanged.
-#[derive(Clone, Copy)]
+#[derive(Clone, Copy, PartialEq, Eq)]
 pub struct Item {
     pub size: Size,
     pub may_turn: bool,
 }
 
 // An order u, v: the predecessor is lifted at least `lag` shifts before the successor is set.
-#[derive(Clone, Copy)]
+#[derive(Clone, Copy, PartialEq, Eq)]
 pub struct Precedence {
     pub predecessor: u8,
     pub successor: u8,
     pub lag: u8,
 }
 
-// The precedence before one, if there is one.
-#[derive(Clone, Copy)]
-pub enum Previous {
-    Nothing,
-    Was(Precedence),
-}
-
-// What a reader answers: the value with the number of bytes that it took, or a refusal.
-#[derive(Clone, Copy)]
-pub enum FieldRead {
-    Value(u16, usize),
-    Refused(Refusal),
-}
-
-#[derive(Clone, Copy)]
-pub enum ByteRead {
-    Value(u8, usize),
-    Refused(Refusal),
-}
-
-#[derive(Clone, Copy)]
-pub enum SizeRead {
-    Value(Size, usize),
-    Refused(Refusal),
-}
-
-#[derive(Clone, Copy)]
-pub enum ItemRead {
-    Value(Item, usize),
-    Refused(Refusal),
-}
-
-#[derive(Clone, Copy)]
-pub enum PrecedenceRead {
-    Value(Precedence, usize),
-    Refused(Refusal),
-}
-
-pub fn index(x: u8) -> usize
-    ensures { result ≡ x }
+// Whether the bit of that weight is set in a map byte.
+pub fn bit_is_set(map: u8, weight: u8) -> bool
+    requires { 1 ≤ weight }
+    ensures { result ≡ is_set map weight }
 {
-    x as usize
+    map / weight % 2 == 1
 }

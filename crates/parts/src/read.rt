@@ -1,174 +1,191 @@
-// Readers. Each is handed the bytes that start at its part, and the place of that part on the sheet.
-ghost use Rattle.std.specs.Prelude.{◌≡◌, ◌≤◌};
-ghost use Rattle.formats.specs.Reading.{run, read_as};
-ghost use Rattle.formats.specs.Formats.{tested};
-ghost use Rattle.formats.specs.Fields.{is_set, optional_reading, fields_reading};
-ghost use Rattle.parts.specs.Precedences.{unlagged};
-ghost use Rattle.parts.specs.Parts.{number, byte_number, measure, count_field, size_fields, item, precedence, precedence_tests};
-ghost use Rattle.parts.specs.Answers.{field_read, byte_read, size_read, item_read, precedence_read, PlacesFit};
+// Readers. Each reads its part from what is left of a sheet, and answers the part with what is left after it.
+#![tactic(auto, using(crate::proofs::Readers::readings))]
 
-use crate::{
-    ByteRead, FieldRead, Item, ItemRead, Precedence, PrecedenceRead, Previous, Size, SizeRead,
-};
+ghost use Rattle.std.specs.Prelude.{◌≡◌};
+ghost use Rattle.formats.specs.Reading.{run};
+ghost use Rattle.formats.specs.Fields.{optional_reading};
+ghost use Rattle.parts.specs.Parts.{byte_number};
+ghost use Rattle.parts.specs.Places.{PlacesFit, taken};
+
+use crate::{Item, Precedence, Size, bit_is_set};
 use refusal::Refusal;
 
-fn wide(x: u8) -> u16
-    ensures { (result ≡ x) × (result ≤ 255) }
-{
-    x as u16
+// What is left of a sheet, and its place on the sheet.
+#[derive(Clone, Copy)]
+pub struct Rest<'a> {
+    pub bytes: &'a [u8],
+    pub at: usize,
+    ghost fits: { PlacesFit at bytes.now },
 }
 
-// Whether the bit of that weight is set in a map byte.
-pub fn bit_is_set(map: u8, weight: u8) -> bool
-    requires { 1 ≤ weight }
-    ensures { result ≡ is_set map weight }
-{
-    map / weight % 2 == 1
-}
-
-// A two-byte field; left out it means `default`.
-pub fn read_field(rest: &[u8], at: usize, present: bool, default: u16) -> FieldRead
-    requires { PlacesFit at rest.now }
-    ensures { run (optional_reading (number default) present) at rest.now ≡ field_read at rest.now result }
+// A one-byte field, with how many bytes it has; left out it means 0. `byte_field` without what is left after it: docs/READING.md names it, and it asks
+// nothing of the place.
+pub fn read_byte(bytes: &[u8], at: usize, present: bool) -> Result<(u8, usize), Refusal>
+    ensures { run (optional_reading byte_number present) at bytes.now ≡ taken at bytes.now result }
 {
     if !present {
-        return FieldRead::Value(default, 0);
+        return Ok((0, 0));
     }
-    if rest.len() < 2 {
-        return FieldRead::Refused(Refusal::EndsEarly(at + rest.len()));
+    if bytes.is_empty() {
+        return Err(Refusal::EndsEarly(at));
     }
-    let v = wide(rest[0]) + 256 * wide(rest[1]);
-    if v <= default {
-        return FieldRead::Refused(Refusal::WrittenDefault(at));
+    if bytes[0] == 0 {
+        return Err(Refusal::WrittenDefault(at));
     }
-    FieldRead::Value(v, 2)
+    Ok((bytes[0], 1))
 }
 
-// A one-byte field; left out it means 0.
-pub fn read_byte(rest: &[u8], at: usize, present: bool) -> ByteRead
-    ensures { run (optional_reading byte_number present) at rest.now ≡ byte_read at rest.now result }
-{
-    if !present {
-        return ByteRead::Value(0, 0);
-    }
-    if rest.len() < 1 {
-        return ByteRead::Refused(Refusal::EndsEarly(at));
-    }
-    let v = rest[0];
-    if v == 0 {
-        return ByteRead::Refused(Refusal::WrittenDefault(at));
-    }
-    ByteRead::Value(v, 1)
-}
+impl<'a> Rest<'a> {
+    ghost use Rattle.formats.specs.Reading.{done, end, read_as};
+    ghost use Rattle.formats.specs.Formats.{byte, word, tested};
+    ghost use Rattle.formats.specs.Fields.{fields_reading};
+    ghost use Rattle.parts.specs.Precedences.{unlagged};
+    ghost use Rattle.parts.specs.Parts.{number, measure, count_field, size_fields, item, precedence, precedence_tests};
+    ghost use Rattle.parts.specs.Answers.{answer, at_end, read_from};
 
-// A measure, up to the greatest; left out it means 1.
-pub fn read_measure(rest: &[u8], at: usize, present: bool) -> FieldRead
-    requires { PlacesFit at rest.now }
-    ensures { run (optional_reading measure present) at rest.now ≡ field_read at rest.now result }
-{
-    if !present {
-        return FieldRead::Value(1, 0);
+    // All of a sheet.
+    pub fn new(bytes: &'a [u8]) -> Rest<'a>
+        ensures at_start { result.at ≡ 0 }
+        ensures all { result.bytes.now ≡ bytes.now }
+    {
+        Rest { bytes, at: 0 }
     }
-    if rest.len() < 2 {
-        return FieldRead::Refused(Refusal::EndsEarly(at + rest.len()));
-    }
-    let v = wide(rest[0]) + 256 * wide(rest[1]);
-    if v <= 1 {
-        return FieldRead::Refused(Refusal::WrittenDefault(at));
-    }
-    if crate::MAX_MEASURE < v {
-        return FieldRead::Refused(Refusal::TooLarge(at));
-    }
-    FieldRead::Value(v, 2)
-}
 
-// Width, depth and shifts, by bits 0, 1 and 2 of `map`.
-pub fn read_size(rest: &[u8], at: usize, map: u8) -> SizeRead
-    requires { PlacesFit at rest.now }
-    ensures { run (fields_reading size_fields map 1) at rest.now ≡ size_read at rest.now result }
-{
-    match read_measure(rest, at, bit_is_set(map, 1)) {
-        FieldRead::Refused(e) => SizeRead::Refused(e),
-        FieldRead::Value(width, a) => {
-            match read_measure(&rest[a..], at + a, bit_is_set(map, 2)) {
-                FieldRead::Refused(e) => SizeRead::Refused(e),
-                FieldRead::Value(depth, b) => {
-                    let ab = a + b;
-                    match read_measure(&rest[ab..], at + ab, bit_is_set(map, 4)) {
-                        FieldRead::Refused(e) => SizeRead::Refused(e),
-                        FieldRead::Value(shifts, c) => SizeRead::Value(
-                            Size {
-                                width,
-                                depth,
-                                shifts,
-                            },
-                            ab + c,
-                        ),
-                    }
-                }
-            }
+    // The next byte.
+    pub fn byte(self) -> Result<(u8, Rest<'a>), Refusal>
+        ensures { read_from byte.reading self.entry ≡ answer result }
+    {
+        if self.bytes.is_empty() {
+            return Err(Refusal::EndsEarly(self.at));
+        }
+        let rest = Rest {
+            bytes: &self.bytes[1..],
+            at: self.at + 1,
+        };
+        Ok((self.bytes[0], rest))
+    }
+
+    // The next two, low byte first.
+    fn word(self) -> Result<(u16, Rest<'a>), Refusal>
+        ensures { read_from word.reading self.entry ≡ answer result }
+    {
+        let (low, rest) = self.byte()?;
+        let (high, rest) = rest.byte()?;
+        Ok((u16::from(low) + 256 * u16::from(high), rest))
+    }
+
+    // A two-byte field; left out it means `default`.
+    pub fn field(self, present: bool, default: u16) -> Result<(u16, Rest<'a>), Refusal>
+        ensures { read_from (optional_reading (number default) present) self.entry ≡ answer result }
+    {
+        if !present {
+            return Ok((default, self));
+        }
+        let (v, rest) = self.word()?;
+        if v <= default {
+            return Err(Refusal::WrittenDefault(self.at));
+        }
+        Ok((v, rest))
+    }
+
+    // A measure, up to the greatest; left out it means 1.
+    pub fn measure(self, present: bool) -> Result<(u16, Rest<'a>), Refusal>
+        ensures { read_from (optional_reading measure present) self.entry ≡ answer result }
+    {
+        let (v, rest) = self.field(present, 1)?;
+        if crate::MAX_MEASURE < v {
+            return Err(Refusal::TooLarge(self.at));
+        }
+        Ok((v, rest))
+    }
+
+    // A one-byte field; left out it means 0.
+    pub fn byte_field(self, present: bool) -> Result<(u8, Rest<'a>), Refusal>
+        ensures { read_from (optional_reading byte_number present) self.entry ≡ answer result }
+    {
+        let (v, used) = read_byte(self.bytes, self.at, present)?;
+        let rest = Rest {
+            bytes: &self.bytes[used..],
+            at: self.at + used,
+        };
+        Ok((v, rest))
+    }
+
+    // The count before a row, from 1 to `limit`; left out it means 0.
+    pub fn count(self, present: bool, limit: usize) -> Result<(usize, Rest<'a>), Refusal>
+        ensures { read_from (optional_reading (count_field limit) present) self.entry ≡ answer result }
+    {
+        if !present {
+            return Ok((0, self));
+        }
+        let (byte, rest) = self.byte()?;
+        let n = usize::from(byte);
+        if n == 0 || limit < n {
+            return Err(Refusal::BadCount(self.at));
+        }
+        Ok((n, rest))
+    }
+
+    // Width, depth and shifts, by bits 0, 1 and 2 of `map`.
+    pub fn size(self, map: u8) -> Result<(Size, Rest<'a>), Refusal>
+        ensures { read_from (fields_reading size_fields map 1) self.entry ≡ answer result }
+    {
+        let (width, rest) = self.measure(bit_is_set(map, 1))?;
+        let (depth, rest) = rest.measure(bit_is_set(map, 2))?;
+        let (shifts, rest) = rest.measure(bit_is_set(map, 4))?;
+        let size = Size {
+            width,
+            depth,
+            shifts,
+        };
+        Ok((size, rest))
+    }
+
+    // An item's record: its map byte and its fields. Bit 3 has no field.
+    pub fn item(self) -> Result<(Item, Rest<'a>), Refusal>
+        ensures { read_from item.reading self.entry ≡ answer result }
+    {
+        let (map, rest) = self.byte()?;
+        if 15 < map {
+            return Err(Refusal::UnknownBit(self.at));
+        }
+        let (size, rest) = rest.size(map)?;
+        let may_turn = bit_is_set(map, 8);
+        Ok((Item { size, may_turn }, rest))
+    }
+
+    // A precedence of a sheet with n items, after `last`. Its lag is on the sheet later: here it is 0.
+    pub fn precedence(
+        self,
+        n: usize,
+        last: Option<Precedence>,
+    ) -> Result<(Precedence, Rest<'a>), Refusal>
+        ensures { read_as unlagged (read_from (tested precedence (precedence_tests n last)).reading self.entry) ≡ answer result }
+    {
+        let (predecessor, rest) = self.byte()?;
+        let (successor, rest) = rest.byte()?;
+        let o = Precedence {
+            predecessor,
+            successor,
+            lag: 0,
+        };
+        if !crate::valid::both_items(o, n) {
+            return Err(Refusal::BadItem(self.at));
+        }
+        if !crate::valid::is_rising(last, o) {
+            return Err(Refusal::NotRising(self.at));
+        }
+        Ok((o, rest))
+    }
+
+    // Nothing is left.
+    pub fn end(self) -> Result<(), Refusal>
+        ensures { read_from (end (done tt)) self.entry ≡ at_end self.entry.at result }
+    {
+        if self.bytes.is_empty() {
+            Ok(())
+        } else {
+            Err(Refusal::TrailingBytes(self.at))
         }
     }
-}
-
-// An item's record: its map byte and its fields. Bit 3 has no field.
-pub fn read_item(rest: &[u8], at: usize) -> ItemRead
-    requires { PlacesFit at rest.now }
-    ensures { run item.reading at rest.now ≡ item_read at rest.now result }
-{
-    if rest.len() < 1 {
-        return ItemRead::Refused(Refusal::EndsEarly(at));
-    }
-    let map = rest[0];
-    if 15 < map {
-        return ItemRead::Refused(Refusal::UnknownBit(at));
-    }
-    let may_turn = bit_is_set(map, 8);
-    match read_size(&rest[1..], at + 1, map) {
-        SizeRead::Refused(e) => ItemRead::Refused(e),
-        SizeRead::Value(size, used) => ItemRead::Value(Item { size, may_turn }, 1 + used),
-    }
-}
-
-// The count before a row, from 1 to `limit`; left out it means 0.
-pub fn read_count(rest: &[u8], at: usize, present: bool, limit: usize) -> FieldRead
-    ensures { run (optional_reading (count_field limit) present) at rest.now ≡ field_read at rest.now result }
-{
-    if !present {
-        return FieldRead::Value(0, 0);
-    }
-    if rest.len() < 1 {
-        return FieldRead::Refused(Refusal::EndsEarly(at));
-    }
-    let n = rest[0];
-    if n == 0 {
-        return FieldRead::Refused(Refusal::BadCount(at));
-    }
-    if limit < crate::index(n) {
-        return FieldRead::Refused(Refusal::BadCount(at));
-    }
-    FieldRead::Value(wide(n), 1)
-}
-
-// A precedence of a sheet with n items, after `last`. Its lag is on the sheet later: here it is 0.
-pub fn read_precedence(rest: &[u8], at: usize, n: usize, last: Previous) -> PrecedenceRead
-    requires { PlacesFit at rest.now }
-    ensures { read_as unlagged (run (tested precedence (precedence_tests n last)).reading at rest.now)
-        ≡ precedence_read at rest.now result }
-{
-    if rest.len() < 2 {
-        return PrecedenceRead::Refused(Refusal::EndsEarly(at + rest.len()));
-    }
-    let o = Precedence {
-        predecessor: rest[0],
-        successor: rest[1],
-        lag: 0,
-    };
-    if !crate::valid::both_items(o, n) {
-        return PrecedenceRead::Refused(Refusal::BadItem(at));
-    }
-    if !crate::valid::is_rising(last, o) {
-        return PrecedenceRead::Refused(Refusal::NotRising(at));
-    }
-    PrecedenceRead::Value(o, 2)
 }

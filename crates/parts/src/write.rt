@@ -1,73 +1,60 @@
 // Writers. Each is handed a buffer with room enough and the place where its part starts, and returns the place after it.
-ghost use Rattle.std.specs.Prelude.{◌≡◌, ◌+◌, ◌≤◌, length};
+#![tactic(auto, using(crate::proofs::Writers::writings))]
+
+ghost use Rattle.std.specs.Prelude.{◌≡◌, ◌+◌, ◌≤◌, length, cond, []};
 ghost use Rattle.std.proofs.lemmas.List.Edits.{sets};
-ghost use Rattle.formats.specs.Fields.{flag, flags, optional_bytes, fields_bytes};
+ghost use Rattle.formats.specs.Fields.{flags, optional_bytes, fields_bytes};
 ghost use Rattle.parts.specs.Precedences.{arc_of};
 ghost use Rattle.parts.specs.Parts.{number, byte_number, size_fields, item_fields, item, precedence};
 
 use crate::{Item, Precedence, Size};
 
-// 1 where a field is written, 0 where it is left out.
-pub fn flag_of(default: u16, v: u16) -> u8
-    ensures { (result ≡ flag (number default) v) × (result ≤ 1) }
+// Writes the bytes of a field, or none where it is left out.
+fn write_unless(out: &mut [u8], at: usize, left_out: bool, bytes: &[u8]) -> usize
+    requires { at + length (cond left_out [] bytes.now) ≤ length out.old }
+    ensures value { result ≡ at + length (cond left_out [] bytes.now) }
+    ensures out_after { out.new ≡ sets out.old at (cond left_out [] bytes.now) }
 {
-    if v == default { 0 } else { 1 }
+    if left_out {
+        return at;
+    }
+    let end = at + bytes.len();
+    out[at..end].copy_from_slice(bytes);
+    end
 }
 
-pub fn field_len(default: u16, v: u16) -> usize
-    ensures { (result ≡ length (optional_bytes (number default) v)) × (result ≤ 2) }
-{
-    if v == default { 0 } else { 2 }
-}
-
+// A two-byte field, low byte first; it is left out for `default`.
 pub fn write_field(out: &mut [u8], at: usize, default: u16, v: u16) -> usize
     requires { at + length (optional_bytes (number default) v) ≤ length out.old }
     ensures value { result ≡ at + length (optional_bytes (number default) v) }
     ensures out_after { out.new ≡ sets out.old at (optional_bytes (number default) v) }
 {
-    if v == default {
-        return at;
-    }
-    out[at] = (v % 256) as u8;
-    out[at + 1] = (v / 256) as u8;
-    at + 2
+    write_unless(out, at, v == default, &v.to_le_bytes())
 }
 
 // The same of one byte, which is left out for 0: a count, the walkway.
-pub fn flag_of_byte(n: usize) -> u8
-    ensures { (result ≡ flag byte_number n) × (result ≤ 1) }
-{
-    if n == 0 { 0 } else { 1 }
-}
-
-pub fn byte_len(n: usize) -> usize
-    ensures { (result ≡ length (optional_bytes byte_number n)) × (result ≤ 1) }
-{
-    if n == 0 { 0 } else { 1 }
-}
-
 pub fn write_byte(out: &mut [u8], at: usize, n: usize) -> usize
     requires { (n ≤ 255) × (at + length (optional_bytes byte_number n) ≤ length out.old) }
     ensures value { result ≡ at + length (optional_bytes byte_number n) }
     ensures out_after { out.new ≡ sets out.old at (optional_bytes byte_number n) }
 {
-    if n == 0 {
-        return at;
-    }
-    out[at] = n as u8;
-    at + 1
+    write_unless(out, at, n == 0, &[n as u8])
 }
 
+// The bits of the measures that are written: those above 1.
 pub fn size_flags_of(size: Size) -> u8
     ensures { (result ≡ flags size_fields size) × (result ≤ 7) }
 {
-    flag_of(1, size.width) + 2 * flag_of(1, size.depth) + 4 * flag_of(1, size.shifts)
+    u8::from(size.width != 1) + 2 * u8::from(size.depth != 1) + 4 * u8::from(size.shifts != 1)
 }
 
 pub fn size_len(size: Size) -> usize
     ensures { (result ≡ length (fields_bytes size_fields size)) × (result ≤ 6) }
 {
-    field_len(1, size.width) + field_len(1, size.depth) + field_len(1, size.shifts)
+    let written = usize::from(size.width != 1)
+        + usize::from(size.depth != 1)
+        + usize::from(size.shifts != 1);
+    2 * written
 }
 
 pub fn write_size(out: &mut [u8], at: usize, size: Size) -> usize
@@ -84,16 +71,13 @@ pub fn write_size(out: &mut [u8], at: usize, size: Size) -> usize
 pub fn item_flags_of(i: Item) -> u8
     ensures { result ≡ flags item_fields i }
 {
-    let size = i.size;
-    let map = size_flags_of(size);
-    if i.may_turn { map + 8 } else { map }
+    size_flags_of(i.size) + 8 * u8::from(i.may_turn)
 }
 
 pub fn item_len(i: Item) -> usize
     ensures { (result ≡ length (item.bytes i)) × (result ≤ 7) }
 {
-    let size = i.size;
-    1 + size_len(size)
+    1 + size_len(i.size)
 }
 
 pub fn write_item(out: &mut [u8], at: usize, i: Item) -> usize
@@ -101,9 +85,8 @@ pub fn write_item(out: &mut [u8], at: usize, i: Item) -> usize
     ensures value { result ≡ at + length (item.bytes i) }
     ensures out_after { out.new ≡ sets out.old at (item.bytes i) }
 {
-    let size = i.size;
     out[at] = item_flags_of(i);
-    write_size(out, at + 1, size)
+    write_size(out, at + 1, i.size)
 }
 
 // The lag is not written here: the lags have a field of their own.

@@ -1,9 +1,9 @@
 -- Laws of the program's text by what reading the sheet answered.
-use Rattle.std.specs.Prelude.{◌≡◌, ◌≤◌}
-use Rattle.prelude.specs.Names.{List, ℕ}
+use Rattle.std.specs.Prelude.{◌≡◌, ◌≤◌, Ok, Err}
+use Rattle.prelude.specs.Names.{List, ℕ, refl}
 use Rattle.refusal.specs.declared.Refusal.{Refusal}
 use Rattle.formats.specs.Reading.{Bytes}
-use Rattle.instance.specs.declared.ReadResult.{ReadResult}
+use Rattle.instance.specs.declared.Instance.{Instance}
 use Rattle.instance.specs.Sheets.{decode}
 use Rattle.instance.specs.Answers.{read_result}
 use Rattle.instance.specs.Values.{opening_checkpoint}
@@ -13,20 +13,19 @@ use Rattle.instance.proofs.Readings.{was_read, was_refused}
 use Rattle.search.specs.Results.{search_result}
 use Rattle.report.specs.Text.{refused_text}
 use Rattle.planner.specs.Program.{result_text, program_text}
-use Rattle.instance.specs.declared.ReadAnswer.TheVariants as A
 
-module _ (s : List ℕ) {r : ReadResult} (e : r ≡ read_result (decode s)) where
-  pub text_read : r.answer ≡ A.Read
-      → program_text s ≡ result_text r.instance.item_count (search_result r.instance opening_checkpoint 1_000_000)
+module _ (s : List ℕ) where
+  pub text_read : {i : Instance} → Ok i ≡ read_result (decode s)
+      → program_text s ≡ result_text i.item_count (search_result i opening_checkpoint 1_000_000)
   unfolding program_text
-  text_read h = let w = was_read (decode s) r e h in rw w.was
+  text_read {i} e = let w = was_read (decode s) (Ok i) e refl in rw w.was
 
-  pub text_refused : {f : Refusal} → r.answer ≡ A.Refused f → program_text s ≡ refused_text f
+  pub text_refused : {f : Refusal} → Err f ≡ read_result (decode s) → program_text s ≡ refused_text f
   unfolding program_text
-  text_refused h = rw (was_refused (decode s) r e h)
+  text_refused {f} e = rw (was_refused (decode s) (Err f) e refl)
 
   -- an instance that was read has at most ten items
-  pub few-items : Bytes s → r.answer ≡ A.Read → r.instance.item_count ≤ 10
-  few-items b h =
-      let w = was_read (decode s) r e h in
-      (valid-says r.instance (read_valid s w.was b)).items-few
+  pub few-items : {i : Instance} → Ok i ≡ read_result (decode s) → Bytes s → i.item_count ≤ 10
+  few-items {i} e b = let w = was_read (decode s) (Ok i) e refl in (valid-says i (read_valid s w.was b)).items-few
+
+pub ruleset texts = (text_read, text_refused, few-items)

@@ -1,21 +1,21 @@
 -- The queue is worked off up to a place. Every goal below the domains at the start is below those of now, with totals
 -- under its chains; what is still asked for has a premise from there on, and a link still to be followed is of a pair
 -- from there on. At the end of the queue that is propagation.
-use Rattle.std.specs.Prelude.{◌≡◌, ◌+◌, ◌/◌, ◌%◌, ◌≤◌, ◌<◌}
-use Rattle.prelude.specs.Names.{true, List, inl, inr, ⊎_elim, ℕ, arith, get_or}
+use Rattle.std.specs.Prelude.{◌≡◌, ◌+◌, ◌≤◌, ◌<◌, Ok}
+use Rattle.prelude.specs.Names.{true, List, inl, inr, ⊎_elim, sym, ℕ, arith, get_or}
 use Rattle.model.specs.Problem.{Problem}
 use Rattle.model.specs.Domains.{Domains}
 use Rattle.model.specs.Branching.{inconsistent}
-use Rattle.model.specs.Order.{WellFormed, ◌⊑◌}
+use Rattle.model.specs.Order.{Proper, WellFormed, ◌⊑◌}
 use Rattle.model.specs.Relations.{Untouched}
 use Rattle.model.specs.Toward.{Goal, Toward, ClosedBut, NoPair, Closed}
 use Rattle.model.proofs.Order.{below_refl, below_trans}
 use Rattle.model.proofs.Untouched.{obeyed_fewer, filled-consistent}
 use Rattle.model.proofs.Toward.{under_mono, no-goal, closed_wider, end_is, end-under, end-exact}
-use Rattle.domains.specs.Queue.{queue_end, Queued, Coded, Good}
+use Rattle.domains.specs.Queue.{pair_code, queue_end, Queued, Good}
 use Rattle.domains.specs.Narrowed.{Refuted}
 use Rattle.chains.specs.Totals.{table, Tabled, Measured, SameMeasures, Fitting}
-use Rattle.chains.specs.NewLinks.{Charted, KeptIf}
+use Rattle.chains.specs.NewLinks.{Charted}
 use Rattle.propagation.specs.Events.{WorkedOff}
 use Rattle.propagation.specs.Propagated.{Pending, Ready, Propagated}
 use Rattle.chains.proofs.Linking.{same_none, same_then}
@@ -38,8 +38,8 @@ pub record Settling (k : Domains) (rows₀ q t : List ℕ) (j : Domains) (rows r
   pub first : 1 ≤ head
   pub loops : (p : Problem) → Ready p k rows₀ q t → Looping p k j r s head
 
-pub settling_start : {k : Domains} {rows q t : List ℕ} → Good k rows q × Tabled t → Settling k rows q t k rows q t 1
-settling_start {k} {t = t} (good, tabled) = record {
+pub settling_start : {k : Domains} {rows q t : List ℕ} → Good k rows q → Tabled t → Settling k rows q t k rows q t 1
+settling_start {k} {t = t} good tabled = record {
   good = good;
   tabled = tabled;
   same = same_none;
@@ -59,13 +59,6 @@ settling_start {k} {t = t} (good, tabled) = record {
 }
 
 module _ {k : Domains} {rows₀ q t : List ℕ} {j : Domains} {rows r s : List ℕ} {head : ℕ} (d : Settling k rows₀ q t j rows r s head) where
-  -- the pair at the head
-  abbrev pair : ℕ
-  pair = get_or r head 0
-
-  pub pair-coded : head < queue_end r → Coded pair
-  pair-coded more = d.good.coded head d.first more
-
   module _ (p : Problem) (ready : Ready p k rows₀ q t) where
     loop : Looping p k j r s head
     loop = d.loops p ready
@@ -73,13 +66,13 @@ module _ {k : Domains} {rows₀ q t : List ℕ} {j : Domains} {rows r s : List �
     fitting : (f : Domains) → Goal p f → f ⊑ k → Fitting p s f × (f ⊑ j)
     fitting f g b = (record { goal = g; under = loop.toward.under f g b }, loop.toward.low f g b)
 
-    charted : head < queue_end r → Charted p j r s (head + 1) (pair / 256) (pair / 16 % 16) (pair % 16)
-    charted more = record {
+    charted : {a u v : ℕ} → Proper 10 a u v → pair_code a u v ≡ get_or r head 0 → head < queue_end r → Charted p j r s (head + 1) a u v
+    charted w read more = record {
       measured = loop.measured;
       first = omega arith;
       within = omega arith;
       closed = closed_wider (λ x b y z e t l h.
-          inr (⊎_elim inr inl (head_or_on r head _ _ _ (pair-coded more) (omega arith) b y z (omega (arith, loop.measured.ten)) h)))
+          inr (⊎_elim inr inl (head_or_on r head _ _ _ w (sym read) b y z (omega (arith, loop.measured.ten)) h)))
           (λ b y z h. h) loop.closed;
     }
 
@@ -118,23 +111,23 @@ module _ {k : Domains} {rows₀ q t : List ℕ} {j : Domains} {rows r s : List �
         }
 
   -- the pair at the head is worked off
-  module _ (more : head < queue_end r) where
-    pub settling_next : {l : Domains} {rows' r' s' : List ℕ}
-        → KeptIf s l rows' r' s' true × WorkedOff (pair / 256) (pair / 16 % 16) (pair % 16) j r s l rows' r' s' true
+  module _ {a u v : ℕ} (w : Proper 10 a u v) (read : pair_code a u v ≡ get_or r head 0) (more : head < queue_end r) where
+    pub settling_next : {l : Domains} {rows' r' s' : List ℕ} → Good l rows' r' → Tabled s' → SameMeasures s s'
+        → WorkedOff a u v j r s l rows' r' s' (Ok tt)
         → Settling k rows₀ q t l rows' r' s' (head + 1)
-    settling_next {l} ((long, same, (good, tabled)), worked) = record {
+    settling_next {l} good tabled same worked = record {
       good = good;
       tabled = tabled;
       same = same_then d.same same;
       first = omega arith;
       loops = λ p ready.
-          let (e, handled) = worked p (head + 1) (charted p ready more) in
+          let (e, handled) = worked p (head + 1) (charted p ready w read more) in
           let o = loop p ready in
           let g = e.narrowed.grown in
           record {
             measured = e.measured;
             within = omega (arith, g.up);
-            pending = advance g head d.first more _ _ _ (pair-coded more) (omega arith) o.pending handled;
+            pending = advance g head d.first more _ _ _ w (sym read) o.pending handled;
             toward = record {
               well_formed = good.laid.well_formed;
               high = below_trans l j k g.less o.toward.high;
@@ -145,8 +138,8 @@ module _ {k : Domains} {rows₀ q t : List ℕ} {j : Domains} {rows r s : List �
           };
     }
 
-    pub settling_none : ((p : Problem) (from : ℕ) → Charted p j r s from (pair / 256) (pair / 16 % 16) (pair % 16) → Refuted (Fitting p s) j)
+    pub settling_none : ((p : Problem) (from : ℕ) → Charted p j r s from a u v → Refuted (Fitting p s) j)
         → (p : Problem) → Ready p k rows₀ q t → inconsistent p (M.propagate p k) ≡ true
     settling_none worked p ready =
         no-goal p (limited p ready) k (formed p ready) (plain p ready)
-        (λ f g b. let (fit, m) = fitting p ready f g b in worked p (head + 1) (charted p ready more) f fit m)
+        (λ f g b. let (fit, m) = fitting p ready f g b in worked p (head + 1) (charted p ready w read more) f fit m)

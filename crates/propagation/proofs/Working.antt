@@ -1,5 +1,5 @@
 -- One pair of the queue is worked off: its link, where one order of it is known, and the clauses with a premise of it.
-use Rattle.std.specs.Prelude.{◌&&◌, ◌||◌, ◌⊎◌, ◌≡◌, ◌+◌, ◌*◌, ◌/◌, ◌^◌, ◌≤◌, ◌<◌}
+use Rattle.std.specs.Prelude.{◌&&◌, ◌||◌, ◌⊎◌, ◌≡◌, ◌+◌, ◌*◌, ◌/◌, ◌^◌, ◌≤◌, ◌<◌, Result, Ok, Err}
 use Rattle.prelude.specs.Names.{Bool, true, false, and-false, List, inl, inr, ⊎_elim, ⊎_map, refl, sym, ◌∙◌, ap₂, ℕ}
 use Rattle.prelude.specs.Names.{arith, bit_or}
 use Rattle.model.specs.Problem.{Problem}
@@ -21,13 +21,14 @@ use Rattle.domains.specs.Queue.{SamePair, queue_end, Good}
 use Rattle.domains.specs.Narrowed.{Narrowed, Refuted, NarrowedIf}
 use Rattle.rules.specs.Worked.{Clauses, Handled, HandledIf, Paths, Diagonal, Overlapping}
 use Rattle.chains.specs.Totals.{Tabled, Fitting}
-use Rattle.chains.specs.NewLinks.{Charted, Extended, ExtendedAlong, KeptIf}
+use Rattle.chains.specs.NewLinks.{Charted, Extended, ExtendedAlong}
+use Rattle.domains.specs.declared.store.Conflict.{Conflict}
 use Rattle.propagation.specs.Events.{InOrder, Overlapped, WorkedOff}
 use Rattle.domains.proofs.BitLaws.{bit-or, bit_shr}
-use Rattle.domains.proofs.Narrowed.{good-long, narrowed_none, grown-then, outcome_as}
+use Rattle.domains.proofs.Narrowed.{narrowed_none, grown-then, outcome_as}
 use Rattle.domains.proofs.Mirror.{row_first}
 use Rattle.rules.proofs.Handling.{hold_mono}
-use Rattle.chains.proofs.Linking.{same_none, closed_on}
+use Rattle.chains.proofs.Linking.{closed_on}
 use Rattle.rules.proofs.Mentions.{mentioning_handled}
 
 -- one order of the pair is known
@@ -115,22 +116,20 @@ module _ {p : Problem} {k : Domains} {q t : List ℕ} {from a u v : ℕ} (c : Ch
 
 pub unordered : {k : Domains} {rows q t : List ℕ} {a u v : ℕ} → Proper 10 a u v → Good k rows q → Tabled t
     → (gone k 0 a u v ≡ false) ⊎ ((gone k 1 a u v || gone k 2 a u v) ≡ false)
-    → KeptIf t k rows q t true × ExtendedAlong a u v k q t k rows q t true
+    → ExtendedAlong a u v k q t k rows q t (Ok tt)
 unordered {k} {a = a} {u} {v} s good tabled e =
-    let unknown : known k a u v ≡ false = ⊎_elim (λ e. rw e refl) (λ e. rw e (and-false (gone k 0 a u v))) e in (
-      (good-long good, same_none, (good, tabled)),
-      λ p from c. record {
-        narrowed = narrowed_none good (closed_wider (λ x e i j d w l m.
-            inr (⊎_elim (λ q. q) (λ m. absurd (clash (linked_known k a u v x e i j d m l) unknown)) m)) (λ e i j m. m) c.closed);
-        measured = c.measured;
-        tabled = tabled;
-        under = λ f h b. h.under;
-      },
-    )
+    let unknown : known k a u v ≡ false = ⊎_elim (λ e. rw e refl) (λ e. rw e (and-false (gone k 0 a u v))) e in
+    λ p from c. record {
+      narrowed = narrowed_none good (closed_wider (λ x e i j d w l m.
+          inr (⊎_elim (λ q. q) (λ m. absurd (clash (linked_known k a u v x e i j d m l) unknown)) m)) (λ e i j m. m) c.closed);
+      measured = c.measured;
+      tabled = tabled;
+      under = λ f h b. h.under;
+    }
 
 -- Rules 1 and 4: a filled pair is not known both to overlap and not to
 module _ {k : Domains} {rows q : List ℕ} (good : Good k rows q) {a u v : ℕ} (w : Proper 10 a u v) where
-  pub across-all : gone k 0 a u v ≡ true → (j : Domains) (rows' r : List ℕ) (b : Bool)
+  pub across-all : gone k 0 a u v ≡ true → (j : Domains) (rows' r : List ℕ) (b : Result (Unit {0}) Conflict)
       → HandledIf (Diagonal a u v) k q j rows' r b → NarrowedIf Lawful (Overlapped a u v k) k q j rows' r b
   unfolding says
   across-all e j rows' r b =
@@ -138,7 +137,7 @@ module _ {k : Domains} {rows q : List ℕ} (good : Good k rows q) {a u v : ℕ} 
       (λ less done. record { across = λ h. done; along = λ h. absurd (clash h (rw e at (good.laid.filled a u v w))) })
 
   module _ (left : gone k 0 a u v ≡ false) where
-    pub along-all : (j : Domains) (rows' r : List ℕ) (b : Bool) → HandledIf (Overlapping a u v) k q j rows' r b
+    pub along-all : (j : Domains) (rows' r : List ℕ) (b : Result (Unit {0}) Conflict) → HandledIf (Overlapping a u v) k q j rows' r b
         → NarrowedIf Lawful (Overlapped a u v k) k q j rows' r b
     along-all j rows' r b =
         outcome_as Lawful Lawful (Handled (Overlapping a u v) k) (Overlapped a u v k) k q j rows' r b (λ f h b. h)
@@ -158,21 +157,17 @@ handled_within k k₁ k₂ j before after h ps c r e = holds_mono j k₂ after c
 -- All rules
 module _ {k : Domains} {q t : List ℕ} {a u v : ℕ} {k₁ : Domains} {rows₁ q₁ s : List ℕ} {k₂ : Domains} {rows₂ q₂ : List ℕ}
     (least : 1 ≤ queue_end q) (w : Proper 10 a u v)
-    (e : KeptIf t k₁ rows₁ q₁ s true × ExtendedAlong a u v k q t k₁ rows₁ q₁ s true)
+    (e : ExtendedAlong a u v k q t k₁ rows₁ q₁ s (Ok tt))
     (f : Narrowed Lawful (Handled (Paths a u v) k₁) k₁ q₁ k₂ rows₂ q₂) where
-  pub worked_all : (j : Domains) (rows r : List ℕ) (b : Bool) → NarrowedIf Lawful (Overlapped a u v k₂) k₂ q₂ j rows r b
-      → KeptIf t j rows r s b × WorkedOff a u v k q t j rows r s b
-  worked_all j rows r false (long, nil) =
-      ((long, e.0.1, tt), λ p from c. extended_refuted c (extended_then c (e.1 p from c) least f) nil)
-  worked_all j rows r true g = (
-    (good-long g.grown.good, e.0.1, (g.grown.good, e.0.2.1)),
-    λ p from c.
-        let x = e.1 p from c in
-        let y = extended_then c x least f in
-        let less = y.narrowed.grown.less in (
-          extended_then c y least g,
-          mentioning_handled k j w (handled_within k k₁ k₂ j x.narrowed.grown.less g.grown.less f.done)
-              (λ h. handled_within k k₂ j j less (below_refl j) (g.done.across (gone_mono k₂ k less 0 a u v h)))
-              (λ h. handled_within k k₂ j j less (below_refl j) (g.done.along (says_mono k₂ k less overlaps a u v h))),
-        ),
-  )
+  pub worked_all : (j : Domains) (rows r : List ℕ) (b : Result (Unit {0}) Conflict) → NarrowedIf Lawful (Overlapped a u v k₂) k₂ q₂ j rows r b
+      → WorkedOff a u v k q t j rows r s b
+  worked_all j rows r (Err _) nil = λ p from c. extended_refuted c (extended_then c (e p from c) least f) nil
+  worked_all j rows r (Ok _) g = λ p from c.
+      let x = e p from c in
+      let y = extended_then c x least f in
+      let less = y.narrowed.grown.less in (
+        extended_then c y least g,
+        mentioning_handled k j w (handled_within k k₁ k₂ j x.narrowed.grown.less g.grown.less f.done)
+            (λ h. handled_within k k₂ j j less (below_refl j) (g.done.across (gone_mono k₂ k less 0 a u v h)))
+            (λ h. handled_within k k₂ j j less (below_refl j) (g.done.along (says_mono k₂ k less overlaps a u v h))),
+      )

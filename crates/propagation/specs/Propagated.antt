@@ -1,6 +1,6 @@
 -- What propagation in code comes to: domains with their rows, queue and totals, before it and after.
-use Rattle.std.specs.Prelude.{◌∷◌, ◌⊎◌, ◌≡◌, ◌<◌}
-use Rattle.prelude.specs.Names.{Bool, true, false, List, [], ℕ}
+use Rattle.std.specs.Prelude.{◌∷◌, ◌⊎◌, ◌≡◌, ◌<◌, Result, Ok, Err}
+use Rattle.prelude.specs.Names.{true, false, List, [], ℕ}
 use Rattle.model.specs.Problem.{Problem}
 use Rattle.model.specs.Domains.{Domains}
 use Rattle.model.specs.Rules.{greatest_ending}
@@ -10,7 +10,8 @@ use Rattle.model.specs.Clauses.{Rule, AllHold, Obeyed}
 use Rattle.model.specs.Toward.{Under, ClosedBut, NoPair, Closed}
 use Rattle.domains.specs.Rows.{Laid}
 use Rattle.domains.specs.Queue.{queue_end, Queued, Good}
-use Rattle.domains.specs.Narrowed.{LentArray}
+use Rattle.domains.specs.declared.store.Store.{Store}
+use Rattle.domains.specs.declared.store.Conflict.{Conflict}
 use Rattle.chains.specs.Totals.{table, Tabled, Measured}
 use Rattle.model.specs.Propagate as M
 
@@ -48,12 +49,10 @@ pub record Propagated (p : Problem) (k j : Domains) (rows t : List ℕ) : Type 0
   pub consistent : inconsistent p j ≡ false
   pub rested : Rested p j rows t
 
-abbrev pub Answered : Problem → Domains → Domains → List ℕ → List ℕ → Bool → Type 0
-Answered p k j rows t true = Propagated p k j rows t
-Answered p k j rows t false = inconsistent p (M.propagate p k) ≡ true
+abbrev pub Answered : Problem → Domains → Domains → List ℕ → List ℕ → Result (Unit {0}) Conflict → Type 0
+Answered p k j rows t (Ok _) = Propagated p k j rows t
+Answered p k j rows t (Err _) = inconsistent p (M.propagate p k) ≡ true
 
--- what a function answers of every problem for which its arrays were ready at its entry
-abbrev pub Propagates : LentArray → LentArray → LentArray → LentArray → Bool → Type 0
-Propagates k rows queue t b =
-    (p : Problem) → Ready p k.entry.now rows.entry.now queue.entry.now t.entry.now
-    → Answered p k.entry.now k.exit.now rows.exit.now t.exit.now b
+-- what a function answers of every problem for which store and totals were ready at its entry
+abbrev pub Propagates : Store → Store → List ℕ → List ℕ → Result (Unit {0}) Conflict → Type 0
+Propagates old new t s result = (p : Problem) → Ready p old.domains old.rows old.queue t → Answered p old.domains new.domains new.rows s result

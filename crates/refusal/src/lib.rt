@@ -4,7 +4,7 @@
 ghost use Rattle.std.specs.Prelude.{◌≡◌};
 ghost use Rattle.refusal.specs.Numbers.{number_of, place_of};
 
-#[derive(Clone, Copy)]
+#[derive(Clone, Copy, PartialEq, Eq)]
 pub enum Refusal {
     // 1: the bytes end before a byte that is due
     EndsEarly(usize),
@@ -59,19 +59,19 @@ impl Refusal {
         ensures { result ≡ place_of self }
     {
         match self {
-            Refusal::EndsEarly(place) => place,
-            Refusal::UnknownBit(place) => place,
-            Refusal::WrittenDefault(place) => place,
-            Refusal::BadCount(place) => place,
-            Refusal::BadItem(place) => place,
-            Refusal::NotRising(place) => place,
-            Refusal::TrailingBytes(place) => place,
-            Refusal::BadArgument => 0,
-            Refusal::InvalidInstance => 0,
-            Refusal::NotFollowing => 0,
-            Refusal::NoLag(place) => place,
-            Refusal::TooLarge(place) => place,
-            Refusal::BadMark => 0,
+            Refusal::EndsEarly(place)
+            | Refusal::UnknownBit(place)
+            | Refusal::WrittenDefault(place)
+            | Refusal::BadCount(place)
+            | Refusal::BadItem(place)
+            | Refusal::NotRising(place)
+            | Refusal::TrailingBytes(place)
+            | Refusal::NoLag(place)
+            | Refusal::TooLarge(place) => place,
+            Refusal::BadArgument
+            | Refusal::InvalidInstance
+            | Refusal::NotFollowing
+            | Refusal::BadMark => 0,
         }
     }
 }

@@ -1,75 +1,62 @@
--- Laws of the runs of stores that make a text, and of its length.
-use Rattle.std.specs.Prelude.{◌≡◌, ◌∷◌, ◌++◌, ◌+◌, ◌*◌, ◌^◌, ◌≤◌, ◌<◌}
-use Rattle.prelude.specs.Names.{refl, ◌∙◌, List, [], ℕ, suc, arith, add-one, length, take, drop, set, get_or}
-use Rattle.prelude.specs.Names.{length-append, drop_of_length-le, sets, drop-cons, get_or-take, length-take-le}
-use Rattle.formats.proofs.Stores.{sets_append, sets-front}
+-- Laws of a text that is put at the front of a buffer, part after part, and of its length.
+use Rattle.std.specs.Prelude.{◌≡◌, ◌∷◌, ◌++◌, ◌+◌, ◌-◌, ◌*◌, ◌^◌, ◌≤◌, ◌<◌}
+use Rattle.prelude.specs.Names.{refl, ◌∙◌, List, [], append_assoc, append-nil, ℕ, suc, arith, add-one, zero-add, length, take, drop, set, get_or}
+use Rattle.prelude.specs.Names.{length-append, length-take, length-drop, drop_of_length-le, drop-drop, take_all, take_at}
+use lib.Seq.{drop-append_seam}
+use borrow.Rule.Slice.PartMut.{put_mid}
+use Rattle.formats.specs.Formats.{row_bytes}
+use Rattle.formats.proofs.Stores.{row_room, sets_append, sets-front}
 use Rattle.instance.specs.declared.Packing.{Packing}
 use Rattle.instance.specs.Values.{origin}
 use Rattle.report.proofs.Decimals.{decimal_short}
 use Rattle.report.specs.Text.{with_front, text_field, text_fields, line, item_line, item_lines}
 
--- a run of stores that goes on where another ended
-pub sets-joined : (l a b : List ℕ) (at i : ℕ) → i ≡ at + length a → sets (sets l at a) i b ≡ sets l at (a ++ b)
-sets-joined l a b at i e = rw e (sets_append a b l at)
+-- a buffer without its first bytes
+abbrev pub rest_of : List ℕ → ℕ → List ℕ
+rest_of out at = take (length out - at) (drop at out)
 
--- the fields of the first n numbers, from the i-th on
-abbrev pub fields-from : List ℕ → ℕ → ℕ → List ℕ
-fields-from numbers n i = text_fields (drop i (take n numbers))
+pub rest-room : (out : List ℕ) (at n : ℕ) → at + n ≤ length out → n ≤ length (rest_of out at)
+rest-room out at n h = simp (length-take, length-drop) (omega arith)
 
--- those from the i-th on are still to be put, at k
-pub record Putting (l : List ℕ) (at : ℕ) (numbers : List ℕ) (n : ℕ) (out : List ℕ) (k i : ℕ) : Type 0 where
-  pub enough : n ≤ length numbers
-  pub within : i ≤ n
-  pub runs : sets out k (fields-from numbers n i) ≡ sets l at (fields-from numbers n 0)
-  pub ends : k + length (fields-from numbers n i) ≡ at + length (fields-from numbers n 0)
-  pub same : length out ≡ length l
+-- one text after another is a text
+pub fronts_joined : (a b l : List ℕ) {out part : List ℕ} {at : ℕ} → at ≡ length a → length a + length b ≤ length l → out ≡ with_front a l
+    → part ≡ with_front b (rest_of out at) → put_mid at (length out - at) out part ≡ with_front (a ++ b) l
+fronts_joined a b l {out} {part} {at} e h o p =
+    let same : length out ≡ length l = rw o (simp (length-append, length-drop) (omega arith)) in
+    let first : take at out ≡ a = rw (o, e) (take_at a (drop (length a) l) _ refl) in
+    let rest : drop at out ≡ drop at l = rw (o, e) (drop-append_seam a (drop (length a) l)) in
+    let all : take (length out - at) (drop at l) ≡ drop at l = take_all _ (drop at l) (simp length-drop (omega arith)) in
+    let none : drop (length out - at) (drop at l) ≡ [] = drop_of_length-le (drop at l) (simp length-drop (omega arith)) in
+    rw (p, first, rest, all, none, append-nil, drop-drop, length-append, e, append_assoc)
 
-pub putting_none : {l : List ℕ} {at : ℕ} {numbers : List ℕ} {n : ℕ} → n ≤ length numbers → Putting l at numbers n l at 0
-putting_none h = record { enough = h; within = omega arith; runs = refl; ends = refl; same = refl }
+-- and so is a byte after a text
+pub byte_after : (a l : List ℕ) (b : ℕ) → length a < length l → set (with_front a l) (length a) b ≡ with_front (a ++ b ∷ []) l
+byte_after a l b h =
+    rw (← (sets-front a l (omega arith))) (rw zero-add at (sets_append a (b ∷ []) l 0))
+    ∙ sets-front (a ++ b ∷ []) l (rw length-append (omega arith))
 
-module _ {l : List ℕ} {at : ℕ} {numbers : List ℕ} {n : ℕ} {out : List ℕ} {k i : ℕ} (p : Putting l at numbers n out k i) where
-  abbrev next_field : List ℕ
-  next_field = text_field (get_or numbers i 0)
+-- the fields, and the end of the line
+pub fields_ended : (ns : List ℕ) → text_fields ns ≡ row_bytes text_field ns ++ 0x0a ∷ []
+unfolding row_bytes
+fields_ended [] = refl
+fields_ended (n ∷ ns) = rw (fields_ended ns) (rw append_assoc)
 
-  fields-next : i < n → fields-from numbers n i ≡ next_field ++ fields-from numbers n (i + 1)
-  fields-next h =
-      let s : i < length (take n numbers) = omega (arith, length-take-le n numbers p.enough) in
-      rw (drop-cons (take n numbers) i 0 s, add-one, get_or-take n numbers i 0 h)
+pub fields-length : (ns : List ℕ) → length (text_fields ns) ≡ length (row_bytes text_field ns) + 1
+fields-length ns = rw (fields_ended ns, length-append)
 
-  pub putting_room : i < n → k + length next_field ≤ at + length (fields-from numbers n 0)
-  putting_room h = omega (arith, rw (fields-next h, length-append) at p.ends)
-
-  pub putting_next : {out' : List ℕ} {k' : ℕ} → i < n → out' ≡ sets out k next_field → k' ≡ k + length next_field → length out' ≡ length out
-      → Putting l at numbers n out' k' (i + 1)
-  putting_next h eo ek el = record {
-    enough = p.enough;
-    within = omega arith;
-    runs = rw eo (sets-joined out next_field (fields-from numbers n (i + 1)) k _ ek ∙ (rw (fields-next h) at p.runs));
-    ends = omega (arith, rw (fields-next h, length-append) at p.ends);
-    same = el ∙ p.same;
-  }
-
-  pub putting_done : n ≤ i → (k + 1 ≡ at + length (fields-from numbers n 0)) × (set out k 0x0a ≡ sets l at (fields-from numbers n 0))
-  putting_done e =
-      let d : drop i (take n numbers) ≡ [] = drop_of_length-le (take n numbers) {i = i} (omega (arith, length-take-le n numbers p.enough)) in
-      (rw d at p.ends, rw d at p.runs)
+-- the next field has room where all have, and the end of the line too
+pub field_room : (ns : List ℕ) (i : ℕ) → i < length ns
+    → length (row_bytes text_field (take i ns)) + length (text_field (get_or ns i 0)) < length (text_fields ns)
+field_room ns i h =
+    let whole : take (length ns) ns ≡ ns = take_all (length ns) ns (omega arith) in
+    omega (arith, fields-length ns, rw whole at (row_room text_field ns i (length ns) 0 h (omega arith)))
 
 -- a line: its first part, and then the fields
-pub line-put : (l first ns : List ℕ) (at : ℕ) {out out' : List ℕ} {a end : ℕ} → (a ≡ at + length first) × (out ≡ sets l at first)
-    → (end ≡ a + length (text_fields ns)) × (out' ≡ sets out a (text_fields ns))
-    → (end ≡ at + length (line first ns)) × (out' ≡ sets l at (line first ns))
+pub line-put : (first ns l : List ℕ) {out part : List ℕ} {at end : ℕ} → at ≡ length first → end ≡ length (text_fields ns) → at + end ≤ length l
+    → out ≡ with_front first l → part ≡ with_front (text_fields ns) (rest_of out at)
+    → (at + end ≡ length (line first ns)) × (put_mid at (length out - at) out part ≡ with_front (line first ns) l)
 unfolding line
-line-put l first ns at p q = (
-  rw length-append (omega (arith, p.0, q.0)),
-  rw (q.1, p.1) (sets-joined l first (text_fields ns) at _ p.0),
-)
-
-pub line-front : (l first ns : List ℕ) {out out' : List ℕ} {a end : ℕ} → (a ≡ 0 + length first) × (out ≡ sets l 0 first)
-    → (end ≡ a + length (text_fields ns)) × (out' ≡ sets out a (text_fields ns)) → end ≤ length l
-    → (end ≡ length (line first ns)) × (out' ≡ with_front (line first ns) l)
-line-front l first ns p q h =
-    let r = line-put l first ns 0 p q in
-    (omega (arith, r.0), r.1 ∙ sets-front (line first ns) l (omega (arith, r.0)))
+line-put first ns l e f h o p = (rw length-append (omega arith), fronts_joined first (text_fields ns) l e (omega arith) o p)
 
 -- numbers of at most k + 1 digits take at most k + 2 bytes each, and the line's end 1
 abbrev pub Small : ℕ → List ℕ → Type 0

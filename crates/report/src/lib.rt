@@ -20,8 +20,8 @@ pub fn packed(out: &mut [u8], steps: u32, packing: Packing, n: usize) -> usize
     ensures value { (result ≡ length (packed_text steps packing n)) × (result ≤ max_text) }
     ensures out_after { out.new ≡ with_front (packed_text steps packing n) out.old }
 {
-    let a = put::put_answer(out, b"placed", steps);
-    put::put_items(out, a, packing, n)
+    let at = put::put_answer(out, b"placed", steps);
+    at + put::put_items(&mut out[at..], packing, n)
 }
 
 // No packing exists, known after so many steps.
@@ -48,6 +48,6 @@ pub fn refused(out: &mut [u8], e: Refusal) -> usize
     ensures value { (result ≡ length (refused_text e)) × (result ≤ max_text) }
     ensures out_after { out.new ≡ with_front (refused_text e) out.old }
 {
-    let a = put::put_bytes(out, 0, b"refused");
-    put::put_fields(out, a, [e.number() as u64, e.place() as u64, 0, 0], 2)
+    let at = put::put_bytes(out, b"refused");
+    at + put::put_fields(&mut out[at..], &[u64::from(e.number()), e.place() as u64])
 }

@@ -1,5 +1,5 @@
 -- Rule 4: making r overlap each item known to overlap q and s is all that the rings q, r, s ask for.
-use Rattle.std.specs.Prelude.{◌&&◌, ◌||◌, ◌∷◌, ◌≢◌, ◌≡◌, ◌+◌, ◌*◌, ◌%◌, ◌^◌, ◌≤◌, ◌<◌}
+use Rattle.std.specs.Prelude.{◌&&◌, ◌||◌, ◌∷◌, ◌≢◌, ◌≡◌, ◌+◌, ◌*◌, ◌%◌, ◌^◌, ◌≤◌, ◌<◌, Result}
 use Rattle.prelude.specs.Names.{Bool, true, false, not, and-false, or-false, false≢true, List, [], refl, sym, ◌∙◌, ℕ}
 use Rattle.prelude.specs.Names.{arith, bit_and, bit_or, bit_xor, or_lt, eqb, eq-eqb, ne_eqb, not-true}
 use Rattle.model.specs.Domains.{Domains}
@@ -10,15 +10,16 @@ use Rattle.model.specs.Clauses.{of, g1, AllHold, Lawful}
 use Rattle.model.proofs.Below.{and_intro, and_both, clash, below_three}
 use Rattle.model.proofs.Order.{below_refl}
 use Rattle.model.proofs.Facts.{gone_mono, says_mono, holds_mono, overlaps_sym}
-use Rattle.domains.specs.Bits.{bit_at, Gives, lowest_bit, Lowest, TakenOut}
+use Rattle.domains.specs.Bits.{bit_at, Gives, Lowest, TakenOut}
 use Rattle.domains.specs.Rows.{row_at, Mirror}
 use Rattle.domains.specs.Queue.{queue_end, Good}
-use Rattle.domains.specs.Narrowed.{FilledWith, RemovedIf, All, Asked, Askable, Narrowed, NarrowedIf}
+use Rattle.domains.specs.declared.store.Conflict.{Conflict}
+use Rattle.domains.specs.Narrowed.{FilledWith, RemovedIf, All, Asked, Askable, Narrowed, Refuted}
 use Rattle.rules.specs.Worked.{Handled, Ring, OverlapAll}
 use Rattle.domains.proofs.BitLaws.{bit-and, bit-or, bit_not, bit_power, bit_shl, shl_small, and_small, gives_both}
 use Rattle.domains.proofs.Mirror.{row_first, OverlapSet, row_overlaps}
-use Rattle.domains.proofs.Narrowed.{narrowed_as, outcome-then, outcome_as}
-use Rattle.domains.proofs.Through.{Through, through_one, through_all}
+use Rattle.domains.proofs.Narrowed.{narrowed_none, narrowed-then, narrowed_as, outcome_as}
+use Rattle.domains.proofs.Through.{Through, through_none, through_one, through_all}
 use Rattle.rules.proofs.Handling.{lawful_holds}
 use Rattle.model.proofs.Domains.{gone-distinct}
 
@@ -41,7 +42,7 @@ module _ {items : ℕ} (small : items < 2 ^ 10) where
     other = λ x hx. orders_is x u hu ∙ simp (e, and-false);
   }
 
-  pub orders_outcome : (a u : ℕ) (k : Domains) (q : List ℕ) (j : Domains) (rows r : List ℕ) (b : Bool)
+  pub orders_outcome : (a u : ℕ) (k : Domains) (q : List ℕ) (j : Domains) (rows r : List ℕ) (b : Result (Unit {0}) Conflict)
       → RemovedIf (All a u (orders items)) k q j rows r b → RemovedIf (OverlapAll a u items) k q j rows r b
   unfolding says
   orders_outcome a u k q j rows r b =
@@ -58,6 +59,10 @@ module _ {items : ℕ} (small : items < 2 ^ 10) where
 -- What the rows say: t is known to overlap both q and s
 pub overlap_converse : (k : Domains) (a u v : ℕ) → Holds k (of overlaps a u v) → Holds k (of overlaps a v u)
 overlap_converse k a u v h = overlaps_sym k a u v ∙ h
+
+-- of the same pair from its other item
+pub overlap_turned : (k : Domains) {a u v d s t : ℕ} → (d ≡ a) × (s ≡ v) × (t ≡ u) → Holds k (of overlaps a u v) → Holds k (of overlaps d s t)
+overlap_turned k {a} {u} {v} (x, y, z) h = rw (x, y, z) (overlap_converse k a u v h)
 
 abbrev pub OverlapBoth : List ℕ → ℕ → ℕ → ℕ → ℕ → Type 0
 OverlapBoth rows a q s = OverlapSet (bit_and (row_at rows a q) (row_at rows a s))
@@ -162,6 +167,12 @@ pub record Corners (a q : ℕ) (r s : ℕ → ℕ) (k : Domains) (u : List ℕ) 
   pub all : (t : ℕ) → t < 10 → Holds k (of overlaps a q (r t)) → Holds k (of overlaps a (r t) (s t)) → gone k 0 a q (s t) ≡ true
       → bit_at items t ≡ true
 
+-- all are left
+pub rings_none : {a q : ℕ} {r s : ℕ → ℕ} {k : Domains} {rows u : List ℕ} {items left : ℕ} → Good k rows u → Corners a q r s k u items
+    → left ≡ items → RingsDone a q r s items left k u k rows u
+rings_none {a} {q} {r} {s} {k} {items = items} g x e =
+    rw e (narrowed_none g {D = λ j. Through 10 items items (λ t. Handled (Ring a q (r t) (s t)) k j)} (through_none x.small))
+
 module _ {a q : ℕ} {r s : ℕ → ℕ} {k : Domains} {u : List ℕ} {items left : ℕ} {j : Domains} {rows v : List ℕ}
     (c : Corners a q r s k u items) (d : RingsDone a q r s items left k u j rows v) where
   -- each item that is left makes a corner; its neighbours are read from the rows as they are, or as they were
@@ -176,18 +187,23 @@ module _ {a q : ℕ} {r s : ℕ → ℕ} {k : Domains} {u : List ℕ} {items lef
         → Neighbours k j a q (r t) (s t) (bit_and l (bit_xor b 1023))
     neighbours_then m = neighbours {k = k} {i = k} {j = j} m (below_refl k) d.grown.less corner_left
 
-    pub keepable : {m : ℕ} → Neighbours k j a q (r t) (s t) m → Good j rows v × (a < 3) × (r t < 10) × (m < 2 ^ 10) × (bit_at m (r t) ≡ false)
-    keepable n = (d.grown.good, corner_left.axis, corner_left.item_r, n.small, n.other)
+    -- the ring of t is made: it can be, and the rings of the others stay as they are; where it can't, there are no lawful domains
+    module _ {m : ℕ} (n : Neighbours k j a q (r t) (s t) m) where
+      pub keepable : (a < 3) × (r t < 10) × (m < 2 ^ 10) × (bit_at m (r t) ≡ false)
+      keepable = (corner_left.axis, corner_left.item_r, n.small, n.other)
 
-  -- one more
-  pub rings_one : {t left' m : ℕ} → Lowest left t → TakenOut left (lowest_bit left) left' → Neighbours k j a q (r t) (s t) m
-      → (i : Domains) (rows' w : List ℕ) (b : Bool) → RemovedIf (OverlapAll a (r t) m) j v i rows' w b
-      → NarrowedIf Lawful (λ i. Through 10 items left' (λ t. Handled (Ring a q (r t) (s t)) k i)) k u i rows' w b
-  rings_one {t} {left'} {m} e o n i rows' w b h =
-      outcome-then (Handled (Ring a q (r t) (s t)) k) (λ i. Through 10 items left' (λ t. Handled (Ring a q (r t) (s t)) k i)) i rows' w b c.least d
-      (outcome_as (FilledWith (OverlapAll a (r t) m)) Lawful (OverlapAll a (r t) m) (Handled (Ring a q (r t) (s t)) k) j v i rows' w b
-      (ring_asked d.grown.less n (corner_left e)) (λ _. ring_handled d.grown.less n (corner_left e) i) h)
-      (λ y p f. through_one p (rw (← e.0) at o) (λ l _ z ps cl g q. holds_mono i j y cl (z ps cl g q)) f)
+      asked : (f : Domains) → Lawful f → f ⊑ j → FilledWith (OverlapAll a (r t) m) f
+      asked = ring_asked d.grown.less n corner_left
+
+      pub rings_one : {left' : ℕ} → TakenOut left t left' → {i : Domains} {rows' w : List ℕ}
+          → Narrowed (FilledWith (OverlapAll a (r t) m)) (OverlapAll a (r t) m) j v i rows' w → RingsDone a q r s items left' k u i rows' w
+      rings_one {left'} o {i} h =
+          narrowed-then {E = Handled (Ring a q (r t) (s t)) k} {F = λ i. Through 10 items left' (λ t. Handled (Ring a q (r t) (s t)) k i)} c.least d
+          (narrowed_as asked (λ _. ring_handled d.grown.less n corner_left i) h)
+          (λ y p f. through_one p o (λ l _ z ps cl g q. holds_mono i j y cl (z ps cl g q)) f)
+
+      pub rings_refused : Refuted (FilledWith (OverlapAll a (r t) m)) j → Refuted Lawful k
+      rings_refused none f h b = let low = d.low f h b in none f (asked f h low) low
 
   -- none is left
   pub rings_all : left ≡ 0 → Narrowed Lawful (Handled (λ ps cl. (t : ℕ) × (t < 10) × Ring a q (r t) (s t) ps cl) k) k u j rows v

@@ -1,12 +1,13 @@
 -- The algebra of `Handled`, stated once for all rules: premises stay, one after another, other clauses that ask for the same.
-use Rattle.std.specs.Prelude.{◌∷◌, ◌⊎◌, ◌≡◌, ◌≤◌}
-use Rattle.prelude.specs.Names.{Bool, List, [], inl, inr, ℕ}
+use Rattle.std.specs.Prelude.{◌∷◌, ◌⊎◌, ◌≡◌, ◌≤◌, Result}
+use Rattle.prelude.specs.Names.{List, [], inl, inr, ℕ}
 use Rattle.model.specs.Domains.{Domains}
 use Rattle.model.specs.Order.{◌⊑◌}
 use Rattle.model.specs.Facts.{Fact, Holds}
 use Rattle.model.specs.Clauses.{Rule, AllHold, Lawful}
 use Rattle.model.proofs.Facts.{holds_mono}
 use Rattle.domains.specs.Queue.{queue_end}
+use Rattle.domains.specs.declared.store.Conflict.{Conflict}
 use Rattle.domains.specs.Narrowed.{Narrowed}
 use Rattle.rules.specs.Worked.{Clauses, Handled, HandledIf, next_axis, Third, Sides, Overlapping}
 use Rattle.domains.proofs.Narrowed.{outcome-then}
@@ -24,7 +25,7 @@ abbrev pub Either : Clauses → Clauses → Clauses
 Either H G ps c = H ps c ⊎ G ps c
 
 -- One worker after another
-pub worked_then : (H G : Clauses) {k : Domains} {q : List ℕ} {j : Domains} {rows r : List ℕ} (l : Domains) (rows' s : List ℕ) (b : Bool)
+pub worked_then : (H G : Clauses) {k : Domains} {q : List ℕ} {j : Domains} {rows r : List ℕ} (l : Domains) (rows' s : List ℕ) (b : Result (Unit {0}) Conflict)
     → 1 ≤ queue_end q → Narrowed Lawful (Handled H k) k q j rows r → HandledIf G j r l rows' s b
     → HandledIf (Either H G) k q l rows' s b
 worked_then H G {k} {j = j} l rows' s b least f g =
@@ -36,10 +37,10 @@ pub overlapping_worked : {a b c u v : ℕ} → b ≡ next_axis a → c ≡ next_
     → {k₁ : Domains} {rows₁ q₁ : List ℕ} → Narrowed Lawful (Handled (Third a b c u v) k) k q k₁ rows₁ q₁
     → {k₂ : Domains} {rows₂ q₂ : List ℕ} → Narrowed Lawful (Handled (Third a c b u v) k₁) k₁ q₁ k₂ rows₂ q₂
     → {k₃ : Domains} {rows₃ q₃ : List ℕ} → Narrowed Lawful (Handled (Sides a u v) k₂) k₂ q₂ k₃ rows₃ q₃
-    → (j : Domains) (rows r : List ℕ) (t : Bool) → HandledIf (Sides a v u) k₃ q₃ j rows r t
-    → HandledIf (Overlapping a u v) k q j rows r t
-overlapping_worked {a} {b} {c} {u} {v} e f {k} {q} least n₁ n₂ n₃ j rows r t o =
+    → {d s t : ℕ} → (d ≡ a) × (s ≡ v) × (t ≡ u) → (j : Domains) (rows r : List ℕ) (b : Result (Unit {0}) Conflict)
+    → HandledIf (Sides d s t) k₃ q₃ j rows r b → HandledIf (Overlapping a u v) k q j rows r b
+overlapping_worked {a} {b} {c} {u} {v} e f {k} {q} least n₁ n₂ n₃ (x, y, z) j rows r t o =
     rw (f, e) at
     (worked_then (Third a b c u v) (Either (Third a c b u v) (Either (Sides a u v) (Sides a v u))) j rows r t least n₁
     (worked_then (Third a c b u v) (Either (Sides a u v) (Sides a v u)) j rows r t n₁.grown.good.least n₂
-    (worked_then (Sides a u v) (Sides a v u) j rows r t n₂.grown.good.least n₃ o)))
+    (worked_then (Sides a u v) (Sides a v u) j rows r t n₂.grown.good.least n₃ (rw (x, y, z) at o))))

@@ -1,6 +1,6 @@
 -- Rule 1: overlap known on two axes is removed on the third. The axes stand in a circle.
-use Rattle.std.specs.Prelude.{◌≢◌, ◌≡◌, ◌+◌, ◌*◌, ◌^◌, ◌<◌}
-use Rattle.prelude.specs.Names.{Bool, true, false, List, refl, sym, ◌∙◌, ℕ, arith, eqb, eqb-true, eq-eqb, ne_eqb}
+use Rattle.std.specs.Prelude.{◌≡◌, ◌+◌, ◌*◌, ◌^◌, ◌<◌, Result}
+use Rattle.prelude.specs.Names.{true, false, List, sym, ◌∙◌, ℕ, arith, eqb, eqb-true, eq-eqb, ne_eqb}
 use Rattle.model.specs.Domains.{Domains}
 use Rattle.model.specs.Order.{Proper}
 use Rattle.model.specs.Facts.{overlaps, says, Holds}
@@ -9,15 +9,13 @@ use Rattle.model.proofs.Below.{clash, below_three}
 use Rattle.domains.specs.Bits.{bit_at}
 use Rattle.domains.specs.Rows.{row_at}
 use Rattle.domains.specs.Queue.{Good}
+use Rattle.domains.specs.declared.store.Conflict.{Conflict}
 use Rattle.domains.specs.Narrowed.{All, Asked, Askable, Narrowed, RemovedIf}
 use Rattle.rules.specs.Worked.{next_axis, Handled, HandledIf, Third}
 use Rattle.domains.proofs.BitLaws.{bit_power}
 use Rattle.domains.proofs.Narrowed.{narrowed_none, outcome_as}
 use Rattle.rules.proofs.Handling.{lawful_holds}
 use Rattle.domains.proofs.Mirror.{OverlapSet, row_overlaps}
-
-pub next_axis-is : (a : ℕ) → a < 3 → a ≢ 2 → a + 1 ≡ next_axis a
-next_axis-is = below_three _ (λ _. refl) (λ _. refl) (λ d. absurd (d refl))
 
 pub axes_next : (a : ℕ) → a < 3 → Axes a (next_axis a) (next_axis (next_axis a))
 axes_next = below_three _ (omega arith) (omega arith) (omega arith)
@@ -50,7 +48,7 @@ module _ {a b c u v : ℕ} (x : Axes a b c) (s : Proper 10 a u v) {k : Domains} 
       other = λ y hy. only (y * 10 + u) ∙ ne_eqb (y * 10 + u) v (omega (arith, s.distinct, s.item_v));
     }
 
-    pub third_worked : bit_at m v ≡ true → Holds k (of overlaps a u v) → (j : Domains) (rows' r : List ℕ) (t : Bool)
+    pub third_worked : bit_at m v ≡ true → Holds k (of overlaps a u v) → (j : Domains) (rows' r : List ℕ) (t : Result (Unit {0}) Conflict)
         → RemovedIf (All c u i) k q j rows' r t → HandledIf (Third a b c u v) k q j rows' r t
     unfolding says
     third_worked e h j rows' r t =

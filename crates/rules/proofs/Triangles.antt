@@ -1,5 +1,5 @@
 -- Rules 2 and 3: the set of relations reached from u over v, computed from two rows by and, or and shifts; removing it is all that they ask for.
-use Rattle.std.specs.Prelude.{◌&&◌, ◌||◌, ◌⊎◌, ◌≢◌, ◌≡◌, ◌+◌, ◌*◌, ◌<◌, ◌%◌, ◌^◌}
+use Rattle.std.specs.Prelude.{◌&&◌, ◌||◌, ◌⊎◌, ◌≢◌, ◌≡◌, ◌+◌, ◌*◌, ◌<◌, ◌%◌, ◌^◌, ◌≤◌, Result}
 use Rattle.prelude.specs.Names.{Bool, true, or-true, false≢true, false, and-true, and-false, or-false, and_assoc, and_comm, List}
 use Rattle.prelude.specs.Names.{inl, inr, ⊎_map, refl, sym, ◌∙◌, ap, ℕ, zero, suc, ℕ_discrete, arith, bit_and}
 use Rattle.prelude.specs.Names.{bit_or, or_lt, eqb}
@@ -10,13 +10,13 @@ use Rattle.model.specs.Relations.{gone}
 use Rattle.model.specs.Facts.{says}
 use Rattle.model.specs.Clauses.{Three, Order, d2, d1_far, d1_near, Lawful}
 use Rattle.model.proofs.Below.{and_intro, and_both, and_first, or_case, below_three}
-use Rattle.model.proofs.Slots.{proper-sym}
 use Rattle.model.proofs.Facts.{gone-converse}
 use Rattle.domains.specs.Bits.{bit_at, Gives}
 use Rattle.domains.specs.Rows.{row_at, Laid}
-use Rattle.domains.specs.Queue.{Good}
+use Rattle.domains.specs.Queue.{queue_end, Good}
+use Rattle.domains.specs.declared.store.Conflict.{Conflict}
 use Rattle.domains.specs.Narrowed.{All, Asked, Askable, Narrowed, RemovedIf}
-use Rattle.rules.specs.Worked.{Clauses, Handled, HandledIf, PathFrom, Paths, Pathable, Reached, reached}
+use Rattle.rules.specs.Worked.{Handled, HandledIf, PathsFrom, Paths, Pathable, Reached, reached}
 use Rattle.domains.proofs.Narrowed.{outcome_as}
 use Rattle.rules.proofs.Handling.{lawful_holds, Either, worked_then}
 use Rattle.model.proofs.Domains.{gone-distinct}
@@ -93,10 +93,6 @@ module _ {near far v : ℕ} (p : Pathable near far v) where
         small = or_lt 30 m l f.small g.small;
         is = λ x w hx hw. bit-or m l (x * 10 + w) ∙ simp (f.is x w hx hw, g.is x w hx hw) (at w x hx);
       }
-
--- rules 2 and 3 from u over v
-abbrev pub From : ℕ → ℕ → ℕ → Clauses
-From a u v ps c = (x : ℕ) × Order x × PathFrom x a u v ps c
 
 module _ {a u v : ℕ} (s : Proper 10 a u v) {k : Domains} {rows : List ℕ} (g : Laid k rows) where
   near : (x : ℕ) → x < 3 → bit_at (row_at rows a u) (x * 10 + v) ≡ gone k x a u v
@@ -196,7 +192,7 @@ module _ {a u v : ℕ} (s : Proper 10 a u v) {k : Domains} {rows : List ℕ} (g 
             ]
 
     -- and the clauses ask for no more
-    pub reached_handled : (j : Domains) → All a u set j → Handled (From a u v) k j
+    pub reached_handled : (j : Domains) → All a u set j → Handled (PathsFrom a u v) k j
     unfolding says
     reached_handled j all ps c (x, o, (w, t, p)) h =
         let hw : w < 10 = t.uw.item_v in
@@ -220,19 +216,18 @@ module _ {a u v : ℕ} (s : Proper 10 a u v) {k : Domains} {rows : List ℕ} (g 
               rw f (all x w hx hw (cc (order_is w hw x o)))
         ]
 
-module _ {a u v : ℕ} (s : Proper 10 a u v) {k : Domains} {rows q : List ℕ} (g : Good k rows q) {set : ℕ}
-    (r : Reached (row_at rows a u) (row_at rows a v) v set) where
-  pub from_worked : (j : Domains) (rows' p : List ℕ) (b : Bool) → RemovedIf (All a u set) k q j rows' p b → HandledIf (From a u v) k q j rows' p b
-  from_worked j rows' p b =
-      outcome_as (Asked a u set) Lawful (All a u set) (Handled (From a u v) k) k q j rows' p b (reached_asked s g.laid r)
-      (λ h d. reached_handled s g.laid r j d)
+pub from_worked : {a u v : ℕ} (s : Proper 10 a u v) {k : Domains} {rows q : List ℕ} (g : Good k rows q) {set : ℕ}
+    → Reached (row_at rows a u) (row_at rows a v) v set → (j : Domains) (rows' p : List ℕ) (b : Result (Unit {0}) Conflict)
+    → RemovedIf (All a u set) k q j rows' p b → HandledIf (PathsFrom a u v) k q j rows' p b
+from_worked {a} {u} {v} s {k} {rows} {q} g {set} r j rows' p b =
+    outcome_as (Asked a u set) Lawful (All a u set) (Handled (PathsFrom a u v) k) k q j rows' p b (reached_asked s g.laid r)
+    (λ h d. reached_handled s g.laid r j d)
 
-pub paths_worked : {a u v : ℕ} (s : Proper 10 a u v) {k : Domains} {rows q : List ℕ} (g : Good k rows q) {set : ℕ}
-    → Reached (row_at rows a u) (row_at rows a v) v set → {j : Domains} {rows' p : List ℕ} → Narrowed (Asked a u set) (All a u set) k q j rows' p
-    → {set' : ℕ} → Reached (row_at rows' a v) (row_at rows' a u) u set' → (l : Domains) (rows'' t : List ℕ) (b : Bool)
-    → RemovedIf (All a v set') j p l rows'' t b → HandledIf (Paths a u v) k q l rows'' t b
-paths_worked {a} {u} {v} s {k} {rows} {q} g r {j} {rows'} {p} f r' l rows'' t b h =
-    outcome_as Lawful Lawful (Handled (Either (From a u v) (From a v u)) k) (Handled (Paths a u v) k) k q l rows'' t b (λ i x y. x)
+pub paths_worked : {a u v : ℕ} {k : Domains} {q : List ℕ} → 1 ≤ queue_end q
+    → {j : Domains} {rows p : List ℕ} → Narrowed Lawful (Handled (PathsFrom a u v) k) k q j rows p
+    → {d s t : ℕ} → (d ≡ a) × (s ≡ v) × (t ≡ u) → (l : Domains) (rows' r : List ℕ) (b : Result (Unit {0}) Conflict)
+    → HandledIf (PathsFrom d s t) j p l rows' r b → HandledIf (Paths a u v) k q l rows' r b
+paths_worked {a} {u} {v} {k} {q} least f (x, y, z) l rows' r b h =
+    outcome_as Lawful Lawful (Handled (Either (PathsFrom a u v) (PathsFrom a v u)) k) (Handled (Paths a u v) k) k q l rows' r b (λ i x y. x)
     (λ d e ps c (x, o, m). e ps c (⊎_map (λ h. (x, o, h)) (λ h. (x, o, h)) m))
-    (worked_then (From a u v) (From a v u) l rows'' t b g.least (from_worked s g r j rows' p true f)
-    (from_worked (proper-sym s) f.grown.good r' l rows'' t b h))
+    (worked_then (PathsFrom a u v) (PathsFrom a v u) l rows' r b least f (rw (x, y, z) at h))

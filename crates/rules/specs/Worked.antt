@@ -1,12 +1,14 @@
 -- The clauses that each function of rules 1 to 4 sees to.
-use Rattle.std.specs.Prelude.{◌&&◌, ◌||◌, ◌∷◌, ◌⊎◌, ◌≡◌, ◌+◌, ◌*◌, ◌^◌, ◌<◌}
+use Rattle.std.specs.Prelude.{◌&&◌, ◌||◌, ◌∷◌, ◌⊎◌, ◌≡◌, ◌+◌, ◌*◌, ◌^◌, ◌<◌, Result}
 use Rattle.prelude.specs.Names.{Bool, true, false, List, [], ℕ, zero, suc}
 use Rattle.model.specs.Domains.{Domains}
 use Rattle.model.specs.Order.{Proper}
 use Rattle.model.specs.Facts.{overlaps, removed, forced, Fact, Holds}
 use Rattle.model.specs.Clauses.{of, Axes, Three, Order, AllHold, Lawful}
 use Rattle.domains.specs.Bits.{bit_at}
-use Rattle.domains.specs.Narrowed.{NarrowedIf, LentArray, NarrowsIf}
+use Rattle.domains.specs.Narrowed.{NarrowedIf, NarrowsIf}
+use Rattle.domains.specs.declared.store.Store.{Store}
+use Rattle.domains.specs.declared.store.Conflict.{Conflict}
 
 -- a set of clauses
 abbrev pub Clauses : Type 1
@@ -17,11 +19,11 @@ abbrev pub Handled : Clauses → Domains → Domains → Type 0
 Handled H k j = (ps : List Fact) (c : Fact) → H ps c → AllHold k ps → Holds j c
 
 -- .. and nothing is removed that lawful domains have left, or there are no lawful domains below; the same of a function, from its entry to its exit
-abbrev pub HandledIf : Clauses → Domains → List ℕ → Domains → List ℕ → List ℕ → Bool → Type 0
+abbrev pub HandledIf : Clauses → Domains → List ℕ → Domains → List ℕ → List ℕ → Result (Unit {0}) Conflict → Type 0
 HandledIf H k = NarrowedIf Lawful (Handled H k) k
 
-abbrev pub HandlesIf : Clauses → LentArray → LentArray → LentArray → Bool → Type 0
-HandlesIf H k = NarrowsIf Lawful (Handled H k.entry.now) k
+abbrev pub HandlesIf : Clauses → Store → Store → Result (Unit {0}) Conflict → Type 0
+HandlesIf H old = NarrowsIf Lawful (Handled H old.domains) old
 
 -- rules 2 and 3 from the pair u, v on
 abbrev pub PathFrom : ℕ → ℕ → ℕ → ℕ → Clauses
@@ -31,7 +33,11 @@ PathFrom x a u v ps c =
     ⊎ (((ps ≡ of (forced x) a u v ∷ of (removed x) a v w ∷ []) × (c ≡ of (removed x) a u w))
     ⊎ ((ps ≡ of (removed x) a u v ∷ of (forced x) a v w ∷ []) × (c ≡ of (removed x) a u w))))
 
--- with u, v as the first premise or, seen from the other end, as the second
+-- with u, v as the first premise, for both orders
+abbrev pub PathsFrom : ℕ → ℕ → ℕ → Clauses
+PathsFrom a u v ps c = (x : ℕ) × Order x × PathFrom x a u v ps c
+
+-- .. or, seen from the other end, as the second
 abbrev pub Paths : ℕ → ℕ → ℕ → Clauses
 Paths a u v ps c = (x : ℕ) × Order x × (PathFrom x a u v ps c ⊎ PathFrom x a v u ps c)
 

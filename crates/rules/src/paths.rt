@@ -1,12 +1,9 @@
 // Rules 2 and 3.
-ghost use Rattle.model.specs.Order.{Proper};
-ghost use Rattle.domains.specs.Queue.{Good};
-ghost use Rattle.rules.specs.Worked.{HandlesIf, Paths, Pathable, Reached};
+ghost use Rattle.rules.specs.Worked.{HandlesIf, PathsFrom, Paths, Pathable, Reached};
 
+use domains::Place;
 use domains::bits::{AFTER, BEFORE, following, has, leading};
-use domains::queue::MAX_QUEUE;
-use domains::removal::remove;
-use domains::{DOMAINS, ROWS};
+use domains::store::{Conflict, Store};
 
 // What is removed from the row of u over v, by the rows of both.
 fn beyond(near: u32, far: u32, v: usize) -> u32
@@ -22,32 +19,32 @@ fn beyond(near: u32, far: u32, v: usize) -> u32
         }
         return 0;
     }
-    let mut set: u32 = 0;
-    if has(near, 10 + v) {
-        set = leading(far) << 10;
-    }
-    if has(near, 20 + v) {
-        set = set | following(far) << 20;
-    }
-    set
+    let before = if has(near, 10 + v) {
+        leading(far) << 10
+    } else {
+        0
+    };
+    let after = if has(near, 20 + v) {
+        following(far) << 20
+    } else {
+        0
+    };
+    before | after
 }
 
-// Rules 2 and 3 with the pair u, v as a premise.
-pub fn follow(
-    k: &mut [u8; DOMAINS],
-    rows: &mut [u32; ROWS],
-    queue: &mut [u16; MAX_QUEUE],
-    a: usize,
-    u: usize,
-    v: usize,
-) -> bool
-    requires { Good k.old rows.old queue.old × Proper 10 a u v }
-    ensures { HandlesIf (Paths a u v) k rows queue result }
+// Rules 2 and 3 from u over v on.
+#[inline(always)]
+fn follow_from(store: &mut Store, place: Place) -> Result<(), Conflict>
+    ensures { HandlesIf (PathsFrom place.axis place.u place.v) store.old store.new result }
 {
-    let of_u = beyond(rows[a * 10 + u], rows[a * 10 + v], v);
-    if !remove(k, rows, queue, a, u, of_u) {
-        return false;
-    }
-    let of_v = beyond(rows[a * 10 + v], rows[a * 10 + u], u);
-    remove(k, rows, queue, a, v, of_v)
+    let Place { axis, u, v } = place;
+    store.remove(axis, u, beyond(store.row(axis, u), store.row(axis, v), v))
+}
+
+// Rules 2 and 3 with the pair as a premise.
+pub fn follow(store: &mut Store, place: Place) -> Result<(), Conflict>
+    ensures { HandlesIf (Paths place.axis place.u place.v) store.old store.new result }
+{
+    follow_from(store, place)?;
+    follow_from(store, place.turned())
 }

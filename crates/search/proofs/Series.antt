@@ -92,6 +92,12 @@ pub choice-instance : (i : Instance) → length i.items ≡ 10 → valid i ≡ t
 choice-instance i long v c {marks} {j} m e =
     (ap problem_of (e ∙ ap (turned_instance i) m) ∙ choice-turned i long (valid-says i v).items-few c, ap valid e ∙ valid-turned i long marks v)
 
+-- so its search is that of the choice's problem
+pub search-instance : (i : Instance) → length i.items ≡ 10 → valid i ≡ true → (c : ℕ) {marks : List ℕ} {j : Instance}
+    → marks ≡ choice_marks (turnable_of i) c → j ≡ turned_instance i marks → (budget : ℕ) (κ : S.Checkpoint) {r : TreeResult}
+    → r ≡ tree_result (problem_of j) budget κ → r ≡ tree_result (choice_problem (turnable_of i) c) budget κ
+search-instance i long v c m e budget κ h = h ∙ ap (λ (p : Problem). tree_result p budget κ) (choice-instance i long v c m e).0
+
 module _ (t : Turnable) (c : Checkpoint) where
   -- a call from s under what is left of the budget, m steps after the start
   abbrev from_if : Bool → ℕ → ℕ → ChoiceCheckpoint → SearchResult

@@ -1,5 +1,5 @@
 -- One call of the search as a value (document 01, "The search"; choices and marks: document 02, #106).
-use Rattle.std.specs.Prelude.{◌&&◌, ◌≡◌, ◌+◌, ◌≤◌, ◌<◌}
+use Rattle.std.specs.Prelude.{◌&&◌, ◌≡◌, ◌+◌}
 use Rattle.prelude.specs.Names.{Bool, true, false, List, [], ℕ, ltb}
 use Rattle.model.specs.Turning.{Turnable, Plan}
 use Rattle.model.specs.Run.{ChoiceCheckpoint, choice_follows}
@@ -101,11 +101,6 @@ spent_after m bs n choice = record { answer = BudgetSpent; steps = m; checkpoint
 unfoldable pub packed_after : ℕ → List ℕ → ℕ → ℕ → List Position → List ℕ → SearchResult
 packed_after m bs n choice q marks =
     record { answer = Packed; steps = m; checkpoint = noted Status.Packed n bs choice; packing = record { positions = q; marks = marks } }
-
--- "the step that would say "none" opens the next choice .. instead, until the last"
-abbrev pub GoesOnIf : Outcome → ℕ → ℕ → Bool → Type 0
-GoesOnIf o choice last true = (o ≡ Outcome.Infeasible) × (choice < last)
-GoesOnIf o choice last false = o ≡ Outcome.Infeasible → last ≤ choice
 
 -- what the search of one choice comes to, after m steps in the choices before it
 abbrev pub answer_with : Outcome → Turnable → Checkpoint → ℕ → ℕ → TreeResult → SearchResult

@@ -8,28 +8,12 @@ ghost use Rattle.instance.specs.Valid.{valid};
 ghost use Rattle.turning.specs.Turned.{turnable_of};
 ghost use Rattle.tree_paths.specs.Checkpoints.{Bits, path_of, value_path};
 ghost use Rattle.tree_search.specs.Results.{tree_result};
-ghost use Rattle.search.specs.Results.{GoesOnIf, answer_in, followed};
+ghost use Rattle.search.specs.Results.{answer_in, followed, noted};
 
-use crate::answer::SearchResult;
-use crate::results;
-use instance::{Checkpoint, Instance};
+use crate::answer::{Answer, SearchResult};
+use instance::{Checkpoint, Instance, Packing, Status};
 use refusal::Refusal;
 use tree_search::outcome::{Outcome, TreeResult};
-
-// Whether the next choice is searched: this one is infeasible and not the last.
-fn goes_on(outcome: Outcome, choice: u16, last: u16) -> bool
-    ensures { GoesOnIf outcome choice last result }
-{
-    if last <= choice {
-        return false;
-    }
-    match outcome {
-        Outcome::Packed => false,
-        Outcome::Infeasible => true,
-        Outcome::Spent => false,
-        Outcome::NotFollowing => false,
-    }
-}
 
 // What the search of one choice comes to, after `before` steps in the choices before it.
 fn answer_in(
@@ -42,18 +26,41 @@ fn answer_in(
     requires { (instance.item_count ≤ max_items) × (before + tried.steps < 4294967296) }
     ensures { result ≡ answer_in (turnable_of instance) checkpoint choice before tried }
 {
-    let outcome = tried.outcome;
-    let branches = tried.branches;
-    let positions = tried.positions;
     let steps = before + tried.steps;
-    match outcome {
+    match tried.outcome {
         Outcome::Packed => {
+            let positions = tried.positions;
             let marks = turning::marks_of(instance, choice);
-            results::packed(steps, branches, tried.length, choice, positions, marks)
+            SearchResult {
+                answer: Answer::Packed,
+                steps,
+                checkpoint: reached(tried, Status::Packed, choice),
+                packing: Packing { positions, marks },
+            }
         }
-        Outcome::Infeasible => results::infeasible(steps, choice),
-        Outcome::Spent => results::spent(steps, branches, tried.length, choice),
-        Outcome::NotFollowing => results::refused(Refusal::NotFollowing, checkpoint),
+        Outcome::Infeasible => SearchResult::infeasible(steps, choice),
+        Outcome::Spent => {
+            let checkpoint = reached(tried, Status::Open, choice);
+            SearchResult::without_packing(Answer::BudgetSpent, steps, checkpoint)
+        }
+        Outcome::NotFollowing => SearchResult::refused(Refusal::NotFollowing, checkpoint),
+    }
+}
+
+// The path that the search of a choice came to.
+fn reached(tried: TreeResult, status: Status, choice: u16) -> Checkpoint
+    ensures { result ≡ noted status tried.length tried.branches choice }
+{
+    let TreeResult {
+        length,
+        branches,
+        ..
+    } = tried;
+    Checkpoint {
+        status,
+        length,
+        branches,
+        choice,
     }
 }
 
@@ -72,26 +79,25 @@ fn try_choice(
     tree_search::run(turning::turned(instance, marks), branches, length, budget)
 }
 
-// The call on an open checkpoint: its choice from its path on, and each later choice from its root, until one is not infeasible or was the last.
+// The call on an open checkpoint: its choice from its path on, and each later choice from its root, until one is not infeasible or was the last:
+// "the step that would say "none" opens the next choice .. instead, until the last".
 pub fn run(instance: Instance, checkpoint: Checkpoint, budget: u32) -> SearchResult
     requires { (valid instance ≡ true) × Bits checkpoint.length checkpoint.branches × (checkpoint.choice ≤ last_choice (turnable_of instance)) }
     ensures { result ≡ followed (turnable_of instance) budget checkpoint (stage checkpoint.choice (S.open_at (value_path checkpoint))) }
 {
     let last = turning::last_choice(instance);
-    let branches = checkpoint.branches;
     let mut length = checkpoint.length;
-    let mut choice = checkpoint.choice;
     let mut left = budget;
-    loop {
-        let tried = try_choice(instance, choice, branches, length, left);
-        let outcome = tried.outcome;
-        if !goes_on(outcome, choice, last) {
+    for choice in checkpoint.choice..last {
+        let tried = try_choice(instance, choice, checkpoint.branches, length, left);
+        if !matches!(tried.outcome, Outcome::Infeasible) {
             return answer_in(instance, checkpoint, choice, budget - left, tried);
         }
-        left = left - tried.steps;
-        choice = choice + 1;
+        left -= tried.steps;
         length = 0;
     }
+    let tried = try_choice(instance, last, checkpoint.branches, length, left);
+    answer_in(instance, checkpoint, last, budget - left, tried)
 }
 
 // The call on an infeasible checkpoint: its choice must be the last.
@@ -100,9 +106,9 @@ pub fn repeat_infeasible(instance: Instance, checkpoint: Checkpoint) -> SearchRe
     ensures { (budget : ℕ) → result ≡ followed (turnable_of instance) budget checkpoint (stage checkpoint.choice S.infeasible) }
 {
     if turning::last_choice(instance) != checkpoint.choice {
-        return results::refused(Refusal::NotFollowing, checkpoint);
+        return SearchResult::refused(Refusal::NotFollowing, checkpoint);
     }
-    results::infeasible(0, checkpoint.choice)
+    SearchResult::infeasible(0, checkpoint.choice)
 }
 
 // The call on a packed checkpoint: its path must be packed in its choice.
@@ -111,10 +117,8 @@ pub fn repeat_packed(instance: Instance, checkpoint: Checkpoint) -> SearchResult
     ensures { (budget : ℕ)
         → result ≡ followed (turnable_of instance) budget checkpoint (stage checkpoint.choice (S.packed_at (value_path checkpoint))) }
 {
-    let branches = checkpoint.branches;
-    let choice = checkpoint.choice;
-    let marks = turning::marks_of(instance, choice);
+    let marks = turning::marks_of(instance, checkpoint.choice);
     let turned = turning::turned(instance, marks);
-    let again = tree_search::repeat(turned, branches, checkpoint.length);
-    answer_in(instance, checkpoint, choice, 0, again)
+    let again = tree_search::repeat(turned, checkpoint.branches, checkpoint.length);
+    answer_in(instance, checkpoint, checkpoint.choice, 0, again)
 }

@@ -12,7 +12,6 @@ use tree_paths::path;
 
 pub mod answer;
 mod choices;
-mod results;
 
 // One call: the answer, the steps taken, the checkpoint that they lead to and, where packed, the packing.
 pub fn search(instance: Instance, checkpoint: Checkpoint, budget: u32) -> SearchResult
@@ -20,16 +19,12 @@ pub fn search(instance: Instance, checkpoint: Checkpoint, budget: u32) -> Search
     ensures full { Full instance }
 {
     if !instance.is_valid() {
-        return results::refused(Refusal::InvalidInstance, checkpoint);
+        return SearchResult::refused(Refusal::InvalidInstance, checkpoint);
     }
-    if !path::is_well_formed(checkpoint) {
-        return results::refused(Refusal::NotFollowing, checkpoint);
+    if !path::is_well_formed(checkpoint) || turning::last_choice(instance) < checkpoint.choice {
+        return SearchResult::refused(Refusal::NotFollowing, checkpoint);
     }
-    if turning::last_choice(instance) < checkpoint.choice {
-        return results::refused(Refusal::NotFollowing, checkpoint);
-    }
-    let status = checkpoint.status;
-    match status {
+    match checkpoint.status {
         Status::Open => choices::run(instance, checkpoint, budget),
         Status::Infeasible => choices::repeat_infeasible(instance, checkpoint),
         Status::Packed => choices::repeat_packed(instance, checkpoint),

@@ -1,5 +1,5 @@
 -- "Reading goes left to right and gives the first fault; at one place the lower number": what reading a sheet gives, by the faults of its bytes.
-use Rattle.std.specs.Prelude.{◌≡◌, ◌⊎◌, ◌↔◌, ◌+◌, ◌*◌, ◌≤◌, ◌<◌}
+use Rattle.std.specs.Prelude.{Option, None, Some, ◌≡◌, ◌⊎◌, ◌↔◌, ◌+◌, ◌*◌, ◌≤◌, ◌<◌}
 use Rattle.prelude.specs.Names.{refl, sym, ◌∙◌, Bool, true, false, not, cond, false≢true, and-false, not-not, List, [], inl, inr}
 use Rattle.prelude.specs.Names.{iff_refl, ℕ, zero, suc, arith, dec_le, dec_lt, add-zero, add_assoc, eq-or-lt_of_le, eqb, leb, ltb, length}
 use Rattle.prelude.specs.Names.{get_or, drop, eqb-true, eq-eqb, ne_eqb, lt-ltb, ltb-true, le-ltb, leb-true, le-leb}
@@ -15,8 +15,7 @@ use Rattle.formats.proofs.Spans.{default-before_large, spans_two_tests}
 use Rattle.formats.proofs.Spans.{first-inside, no_lag-inside, spans_done, spans_byte, spans_two_bytes, spans_then, spans_one_test}
 use Rattle.formats.proofs.Spans.{spans_untested, Unknown, spans_map, Miscounted, spans_count, Parts, spans_row, OrTrailing, gives_whole}
 use Rattle.parts.specs.declared.Size.{Size}
-use Rattle.parts.specs.declared.Previous.{Previous}
-use Rattle.parts.specs.declared.Previous.TheVariants.{Nothing, Was}
+use Rattle.parts.specs.declared.Precedence.{Precedence}
 use Rattle.parts.specs.Parts.{number_as, number, byte_number, measure, measures, may_turn, item_fields, item, precedence, precedence_tests}
 use Rattle.parts.specs.Parts.{lags_zero, lag_row, lag_list}
 use Rattle.parts.specs.Precedences.{Arc, unlagged, names_items, above, rises}
@@ -171,9 +170,9 @@ module _ (s : List ℕ) where
   abbrev nth : ℕ → Arc
   nth k = precedence_at s (precedence_place s k)
 
-  abbrev previous : ℕ → Previous
-  previous zero = Nothing
-  previous (suc k) = Was (unlagged (nth k))
+  abbrev previous : ℕ → Option Precedence
+  previous zero = None
+  previous (suc k) = Some (unlagged (nth k))
 
   abbrev PrecedenceFault : ℕ → Refusal → Type 0
   PrecedenceFault k e =

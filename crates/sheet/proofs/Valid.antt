@@ -1,5 +1,5 @@
 -- Which sheets may be written, part by part.
-use Rattle.std.specs.Prelude.{◌≡◌, ◌&&◌, ◌∷◌}
+use Rattle.std.specs.Prelude.{Option, None, Some, ◌≡◌, ◌&&◌, ◌∷◌}
 use Rattle.prelude.specs.Names.{refl, sym, ◌∙◌, Bool, true, false, and-true, and-false, and_assoc, and_comm, List, [], ℕ}
 use Rattle.prelude.specs.Names.{leb, eqb, eqb-suc-zero, length}
 use lib.Dec.{leb-zero}
@@ -7,8 +7,7 @@ use Rattle.formats.specs.Formats.{Format, Test, byte, tested, passes_all, keyed,
 use Rattle.formats.specs.Fields.{optional_valid, fields_valid}
 use Rattle.formats.proofs.Maps.{with_map-valid}
 use Rattle.parts.specs.declared.Item.{Item}
-use Rattle.parts.specs.declared.Previous.{Previous}
-use Rattle.parts.specs.declared.Previous.TheVariants.{Nothing, Was}
+use Rattle.parts.specs.declared.Precedence.{Precedence}
 use Rattle.parts.specs.Sizes.{size_in_range, all_in_range}
 use Rattle.parts.specs.Precedences.{Arc, unlagged, all_allowed}
 use Rattle.parts.specs.Parts.{measures, item, precedence, precedence_tests}
@@ -27,11 +26,11 @@ unfolding row_valid all_in_range tested passes_all
 items-valid [] = refl
 items-valid (i ∷ is) = rw (item-valid i, items-valid is, and-true)
 
-precedences-valid : (n : ℕ) (l : List Arc) (last : Previous)
-    → row_valid precedence (precedence_tests n) (λ _ a. Was (unlagged a)) last (length l) l ≡ all_allowed n last l
+precedences-valid : (n : ℕ) (l : List Arc) (last : Option Precedence)
+    → row_valid precedence (precedence_tests n) (λ _ a. Some (unlagged a)) last (length l) l ≡ all_allowed n last l
 unfolding row_valid all_allowed
 precedences-valid n [] last = refl
-precedences-valid n (a ∷ l) last = rw (precedence-valid n last a, precedences-valid n l (Was (unlagged a)))
+precedences-valid n (a ∷ l) last = rw (precedence-valid n last a, precedences-valid n l (Some (unlagged a)))
 
 and_left_comm : (a b c : Bool) → (a && (b && c)) ≡ (b && (a && c))
 and_left_comm true b c = refl
@@ -40,7 +39,7 @@ and_left_comm false b c = sym (and-false b)
 -- not "over 10 pieces, over 90 orders, a measure 0, or an order that would get 5 or 6", nor a measure above 4,095; and there is a lag for each order
 pub sheet-valid : (x : Sheet) → sheet.valid x
     ≡ (leb (length x.items) max_items && (leb (length x.precedences) max_precedences && (eqb (length x.lags) (length x.precedences)
-    && (size_in_range x.container && (all_in_range x.items && all_allowed (length x.items) Nothing x.precedences)))))
+    && (size_in_range x.container && (all_in_range x.items && all_allowed (length x.items) None x.precedences)))))
 unfolding sheet sheet_fields measures item_list precedence_list yard_number walkway fields_valid size_in_range
 sheet-valid x =
     with_map-valid sheet_fields x

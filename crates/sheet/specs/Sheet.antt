@@ -1,10 +1,10 @@
 -- The sheet (document 01, "Sheet bytes"; from document 02: the lags, #101; the walkway, #105; which pieces may be turned, #106).
+use Rattle.std.specs.Prelude.{None, Some}
 use Rattle.prelude.specs.Names.{ℕ, List, [], eqb, length}
 use Rattle.formats.specs.Formats.{Format, Test, counted}
 use Rattle.formats.specs.Fields.{Optional, Fields, made, field, with_map}
 use Rattle.parts.specs.declared.Size.{Size}
 use Rattle.parts.specs.declared.Item.{Item}
-use Rattle.parts.specs.declared.Previous.TheVariants.{Nothing, Was}
 use Rattle.parts.specs.Precedences.{Arc, unlagged}
 use Rattle.parts.specs.Parts.{number, byte_number, measures, item, precedence, precedence_tests, lag_list}
 
@@ -41,7 +41,7 @@ item_list = list_of item (λ (_ : Unit {0}) _. []) (λ p _. p) tt max_items
 
 -- "count (1 to 90), then orders"; left out means "no orders". They are tested with n items, each after the one before
 unfoldable pub precedence_list : ℕ → Optional (List Arc)
-precedence_list n = list_of precedence (precedence_tests n) (λ _ a. Was (unlagged a)) Nothing max_precedences
+precedence_list n = list_of precedence (precedence_tests n) (λ _ a. Some (unlagged a)) None max_precedences
 
 -- "yard number, 2 bytes"; left out means 0; 3: "yard number 0"
 unfoldable pub yard_number : Optional ℕ

@@ -1,12 +1,19 @@
 -- The answers in numbers, 0 in place of what an answer does not hold.
-use Rattle.std.specs.Prelude.{◌⊎◌}
+use Rattle.std.specs.Prelude.{◌⊎◌, Result, Ok, Err}
 use Rattle.prelude.specs.Names.{cond, List, inl, inr, ℕ, ltb, length, get_or, ℤ, pos}
+use Rattle.refusal.specs.declared.Refusal.{Refusal}
+use Rattle.refusal.specs.Numbers.{number_of, place_of}
 use Rattle.instance.specs.declared.Instance.{Instance}
 use Rattle.instance.specs.Answers.{read_result, read_values}
 use Rattle.instance.specs.Sheets.{decode}
 use Rattle.writer.specs.Answers.{write_answer, write_values, written_room}
 use Rattle.packing.specs.Clearance.{clearance_answer, clearance_values}
 use Rattle.test_values.specs.Values.{instance_in, packing_at}
+
+-- what an answer holds, or number and place of a refusal: of reading, writing and the clearance, the values that the paper gives them
+abbrev pub values_of : {A : Type 0} → Result A Refusal → A ⊎ (ℕ × ℕ)
+values_of (Ok x) = inl x
+values_of (Err e) = inr (number_of e, place_of e)
 
 -- number and place of a refusal
 abbrev pub number_in : {A : Type 0} → A ⊎ (ℕ × ℕ) → ℕ

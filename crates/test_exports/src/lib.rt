@@ -8,21 +8,38 @@ ghost use Rattle.packing.specs.Clearance.{clearance_answer};
 ghost use Rattle.writer.specs.Answers.{written_room};
 ghost use Rattle.item_record.specs.Record.{item_record, item_record_code};
 ghost use Rattle.test_values.specs.Values.{instance_in, packing_at};
-ghost use Rattle.test_exports.specs.Exports.{number_in, place_in, length_in, clearance_in, sheet_values, written_values, cleared_values};
+ghost use Rattle.test_exports.specs.Exports.{values_of, number_in, place_in, length_in, clearance_in, sheet_values, written_values, cleared_values};
 ghost use Rattle.test_exports.specs.Exports.{rewrite_length, rewrite_room, record_byte};
 
-use instance::{Instance, ReadAnswer};
-use packing::ClearanceAnswer;
+use instance::Instance;
+use refusal::Refusal;
 
-mod answers;
+// The number of an answer's refusal; 0 where it is not refused.
+fn number_of<T: Drop>(answer: Result<T, Refusal>) -> u32
+    ensures { result ≡ number_in (values_of answer) }
+{
+    match answer {
+        Ok(_) => 0,
+        Err(e) => u32::from(e.number()),
+    }
+}
+
+// Its place; 0 where it is not refused.
+fn place_of<T: Drop>(answer: Result<T, Refusal>) -> usize
+    ensures { result ≡ place_in (values_of answer) }
+{
+    match answer {
+        Ok(_) => 0,
+        Err(e) => e.place(),
+    }
+}
 
 // The number of a sheet's refusal; 0 where it reads.
 #[unsafe(no_mangle)]
 pub extern "C" fn exports_read_number(sheet: &[u8]) -> u32
     ensures { result ≡ number_in (sheet_values sheet.now) }
 {
-    let code = answers::read_code(Instance::read(sheet));
-    answers::wide(code.number)
+    number_of(Instance::read(sheet))
 }
 
 // Its place; 0 where it reads.
@@ -30,8 +47,7 @@ pub extern "C" fn exports_read_number(sheet: &[u8]) -> u32
 pub extern "C" fn exports_read_place(sheet: &[u8]) -> usize
     ensures { result ≡ place_in (sheet_values sheet.now) }
 {
-    let code = answers::read_code(Instance::read(sheet));
-    code.place
+    place_of(Instance::read(sheet))
 }
 
 // Reads a sheet and writes it again: how many bytes, 0 where one of the two is refused.
@@ -40,12 +56,9 @@ pub extern "C" fn exports_rewrite(sheet: &[u8], room: &mut [u8]) -> usize
     ensures value { result ≡ rewrite_length (sheet_values sheet.now) (length room.old) }
     ensures room_after { room.new ≡ rewrite_room (sheet_values sheet.now) room.old }
 {
-    let result = Instance::read(sheet);
-    let answer = result.answer;
-    let instance = result.instance;
-    match answer {
-        ReadAnswer::Read => answers::write_length(writer::write(instance, room)),
-        ReadAnswer::Refused(_) => 0,
+    match Instance::read(sheet) {
+        Ok(instance) => writer::write(instance, room).unwrap_or(0),
+        Err(_) => 0,
     }
 }
 
@@ -55,7 +68,7 @@ pub extern "C" fn exports_write(value: &[u8], room: &mut [u8]) -> usize
     ensures value { result ≡ length_in (written_values value.now (length room.old)) }
     ensures room_after { room.new ≡ written_room (instance_in value.now) room.old }
 {
-    answers::write_length(writer::write(test_values::instance_in(value), room))
+    writer::write(test_values::instance_in(value), room).unwrap_or(0)
 }
 
 // The number of the refusal; 0 where it is written.
@@ -64,8 +77,7 @@ pub extern "C" fn exports_write_number(value: &[u8], room: &mut [u8]) -> u32
     ensures value { result ≡ number_in (written_values value.now (length room.old)) }
     ensures room_after { room.new ≡ written_room (instance_in value.now) room.old }
 {
-    let code = answers::write_code(writer::write(test_values::instance_in(value), room));
-    answers::wide(code.number)
+    number_of(writer::write(test_values::instance_in(value), room))
 }
 
 // Its place; 0 where it is written.
@@ -74,8 +86,7 @@ pub extern "C" fn exports_write_place(value: &[u8], room: &mut [u8]) -> usize
     ensures value { result ≡ place_in (written_values value.now (length room.old)) }
     ensures room_after { room.new ≡ written_room (instance_in value.now) room.old }
 {
-    let code = answers::write_code(writer::write(test_values::instance_in(value), room));
-    code.place
+    place_of(writer::write(test_values::instance_in(value), room))
 }
 
 // Number and place of the refusal of item k's record; 0 and 0 where it is not refused.
@@ -83,28 +94,24 @@ pub extern "C" fn exports_write_place(value: &[u8], room: &mut [u8]) -> usize
 pub extern "C" fn exports_record_number(sheet: &[u8], k: usize) -> u32
     ensures { result ≡ (item_record_code sheet.now k).number }
 {
-    let code = item_record::item_record_refusal(sheet, k);
-    answers::wide(code.number)
+    u32::from(item_record::item_record_refusal(sheet, k).number)
 }
 
 #[unsafe(no_mangle)]
 pub extern "C" fn exports_record_place(sheet: &[u8], k: usize) -> usize
     ensures { result ≡ (item_record_code sheet.now k).place }
 {
-    let code = item_record::item_record_refusal(sheet, k);
-    code.place
+    item_record::item_record_refusal(sheet, k).place
 }
 
 // Byte i of item k's record; 256 past its end.
+#[tactic(auto, unfolding(crate::specs::Exports::record_byte))]
 #[unsafe(no_mangle)]
 pub extern "C" fn exports_record_byte(sheet: &[u8], k: usize, i: usize) -> u32
     ensures { result ≡ record_byte (item_record sheet.now k) i }
 {
     let record = item_record::item_record(sheet, k);
-    if record.len() <= i {
-        return 256;
-    }
-    answers::wide(record[i])
+    record.get(i).map_or(256, |byte| u32::from(*byte))
 }
 
 // The check of a value with a packing: 0 no, 1 yes, 100 plus the number of a refusal.
@@ -114,10 +121,13 @@ pub extern "C" fn exports_check(value: &[u8], plan: &[u8]) -> u32
 {
     let instance = test_values::instance_in(value);
     let packing = test_values::packing_at(plan, 0);
-    answers::check_code(packing::check(instance, packing))
+    match packing::check(instance, packing) {
+        Ok(feasible) => u32::from(feasible),
+        Err(e) => 100 + u32::from(e.number()),
+    }
 }
 
-fn clearance_of(value: &[u8], plan: &[u8], u: usize, v: usize, axis: u8) -> ClearanceAnswer
+fn clearance_of(value: &[u8], plan: &[u8], u: usize, v: usize, axis: u8) -> Result<i32, Refusal>
     ensures { result ≡ clearance_answer (instance_in value.now) (packing_at plan.now 0) u v axis }
 {
     let instance = test_values::instance_in(value);
@@ -130,7 +140,7 @@ fn clearance_of(value: &[u8], plan: &[u8], u: usize, v: usize, axis: u8) -> Clea
 pub extern "C" fn exports_clearance(value: &[u8], plan: &[u8], u: usize, v: usize, axis: u8) -> i32
     ensures { result ≡ clearance_in (cleared_values value.now plan.now u v axis) }
 {
-    answers::clearance_integer(clearance_of(value, plan, u, v, axis))
+    clearance_of(value, plan, u, v, axis).unwrap_or(0)
 }
 
 // The number of its refusal; 0 where it is not refused.
@@ -144,8 +154,7 @@ pub extern "C" fn exports_clearance_number(
 ) -> u32
     ensures { result ≡ number_in (cleared_values value.now plan.now u v axis) }
 {
-    let code = answers::clearance_code(clearance_of(value, plan, u, v, axis));
-    answers::wide(code.number)
+    number_of(clearance_of(value, plan, u, v, axis))
 }
 
 // Its place; 0 where it is not refused.
@@ -159,6 +168,5 @@ pub extern "C" fn exports_clearance_place(
 ) -> usize
     ensures { result ≡ place_in (cleared_values value.now plan.now u v axis) }
 {
-    let code = answers::clearance_code(clearance_of(value, plan, u, v, axis));
-    code.place
+    place_of(clearance_of(value, plan, u, v, axis))
 }

@@ -1,10 +1,8 @@
-// Printing: words, numbers and bytes, each after a space. A function that only prints has no contract, and the gate compares its
-// output.
+// What the tests print. A function that only prints has no contract, and the gate compares its output.
 #![tactic(auto)]
 
-ghost use Rattle.std.specs.Prelude.{◌≡◌, drop};
-ghost use Rattle.model.specs.Below.{all_in};
-ghost use Rattle.test_lines.specs.Rest.{size_zero, item_zero, precedence_zero, rest_zero};
+ghost use Rattle.std.specs.Prelude.{◌≡◌};
+ghost use Rattle.test_lines.specs.Rest.{rest_zero};
 
 use instance::{Instance, Packing};
 use parts::{Item, Precedence, Size};
@@ -12,34 +10,25 @@ use refusal::Refusal;
 use std::io;
 use std::io::Write;
 
-pub fn word<W: Write>(out: &mut W, text: &[u8]) -> io::Result<()> {
-    out.write_all(text)
-}
+const NO_ITEM: Item = Item {
+    size: Size {
+        width: 0,
+        depth: 0,
+        shifts: 0,
+    },
+    may_turn: false,
+};
 
-pub fn line_end<W: Write>(out: &mut W) -> io::Result<()> {
-    out.write_all(b"\n")
-}
+const NO_PRECEDENCE: Precedence = Precedence {
+    predecessor: 0,
+    successor: 0,
+    lag: 0,
+};
 
-pub fn number<W: Write>(out: &mut W, n: usize) -> io::Result<()> {
-    write!(out, " {n}")
-}
-
-// A signed number.
-pub fn signed<W: Write>(out: &mut W, n: i32) -> io::Result<()> {
-    write!(out, " {n}")
-}
-
-fn wide(x: u8) -> u64
-    ensures { result ≡ x }
-{
-    x as u64
-}
-
-// The first n bytes, as two hexadecimal digits each.
-pub fn bytes<W: Write>(out: &mut W, s: &[u8], n: usize) -> io::Result<()> {
-    out.write_all(b" ")?;
-    for &x in s.iter().take(n) {
-        let byte = wide(x);
+// A space and the bytes, two hexadecimal digits each.
+pub fn bytes<W: Write>(out: &mut W, s: &[u8]) -> io::Result<()> {
+    write!(out, " ")?;
+    for byte in s {
         write!(out, "{byte:02x}")?;
     }
     Ok(())
@@ -47,166 +36,75 @@ pub fn bytes<W: Write>(out: &mut W, s: &[u8], n: usize) -> io::Result<()> {
 
 // The ten positions, each with its mark.
 pub fn packing<W: Write>(out: &mut W, packing: Packing) -> io::Result<()> {
-    let positions = packing.positions;
-    let marks = packing.marks;
-    for u in 0..Instance::MAX_ITEMS {
-        let position = positions[u];
-        number(out, position.x as usize)?;
-        number(out, position.y as usize)?;
-        number(out, position.t as usize)?;
-        number(out, marks[u] as usize)?;
+    for (position, mark) in packing.positions.iter().zip(packing.marks.iter()) {
+        write!(out, " {} {} {} {mark}", position.x, position.y, position.t)?;
     }
     Ok(())
 }
 
 // A refusal without a line end.
 pub fn refused<W: Write>(out: &mut W, refusal: Refusal) -> io::Result<()> {
-    word(out, b"refused")?;
-    number(out, refusal.number() as usize)?;
-    number(out, refusal.place())
+    write!(out, "refused {} {}", refusal.number(), refusal.place())
 }
 
 fn measures<W: Write>(out: &mut W, size: Size) -> io::Result<()> {
-    number(out, size.width as usize)?;
-    number(out, size.depth as usize)?;
-    number(out, size.shifts as usize)
+    write!(out, " {} {} {}", size.width, size.depth, size.shifts)
 }
 
-// Its measures, and a word where it may be turned.
-fn print_item<W: Write>(out: &mut W, item: Item) -> io::Result<()> {
-    measures(out, item.size)?;
-    if item.may_turn {
-        word(out, b" turn")?;
-    }
-    Ok(())
-}
-
-fn items_below<W: Write>(
-    out: &mut W,
-    items: [Item; Instance::MAX_ITEMS],
-    n: usize,
-) -> io::Result<()> {
-    for &item in items.iter().take(n) {
-        print_item(out, item)?;
-    }
-    Ok(())
-}
-
-// Its lag is printed where it is above 0.
-fn print_precedence<W: Write>(out: &mut W, precedence: Precedence) -> io::Result<()> {
-    number(out, precedence.predecessor as usize)?;
-    number(out, precedence.successor as usize)?;
-    if precedence.lag != 0 {
-        word(out, b" lag")?;
-        number(out, precedence.lag as usize)?;
-    }
-    Ok(())
-}
-
-fn precedences_below<W: Write>(
-    out: &mut W,
-    precedences: [Precedence; Instance::MAX_PRECEDENCES],
-    m: usize,
-) -> io::Result<()> {
-    for &precedence in precedences.iter().take(m) {
-        print_precedence(out, precedence)?;
-    }
-    Ok(())
-}
-
-fn is_size_zero(size: Size) -> bool
-    ensures { result ≡ size_zero size }
-{
-    if size.width != 0 {
-        return false;
-    }
-    if size.depth != 0 {
-        return false;
-    }
-    size.shifts == 0
-}
-
-fn is_item_zero(item: Item) -> bool
-    ensures { result ≡ item_zero item }
-{
-    let may_turn = item.may_turn;
-    if !is_size_zero(item.size) {
-        return false;
-    }
-    !may_turn
-}
-
-fn is_precedence_zero(precedence: Precedence) -> bool
-    ensures { result ≡ precedence_zero precedence }
-{
-    if precedence.predecessor != 0 {
-        return false;
-    }
-    if precedence.successor != 0 {
-        return false;
-    }
-    precedence.lag == 0
-}
-
-fn items_zero_from(items: [Item; Instance::MAX_ITEMS], n: usize) -> bool
-    ensures { result ≡ all_in item_zero (drop n items) }
-{
-    let mut i = n;
-    while i < Instance::MAX_ITEMS {
-        if !is_item_zero(items[i]) {
-            return false;
+// How many, their measures, and a word where one may be turned.
+fn items<W: Write>(out: &mut W, instance: &Instance) -> io::Result<()> {
+    write!(out, " items {}", instance.item_count)?;
+    for item in instance.items.iter().take(instance.item_count) {
+        measures(out, item.size)?;
+        if item.may_turn {
+            write!(out, " turn")?;
         }
-        i += 1;
     }
-    true
+    Ok(())
 }
 
-fn precedences_zero_from(precedences: [Precedence; Instance::MAX_PRECEDENCES], m: usize) -> bool
-    ensures { result ≡ all_in precedence_zero (drop m precedences) }
-{
-    let mut i = m;
-    while i < Instance::MAX_PRECEDENCES {
-        if !is_precedence_zero(precedences[i]) {
-            return false;
+// How many, the items of each, and its lag where that is above 0.
+fn precedences<W: Write>(out: &mut W, instance: &Instance) -> io::Result<()> {
+    write!(out, " precedences {}", instance.precedence_count)?;
+    for precedence in instance.precedences.iter().take(instance.precedence_count) {
+        write!(out, " {} {}", precedence.predecessor, precedence.successor)?;
+        if precedence.lag != 0 {
+            write!(out, " lag {}", precedence.lag)?;
         }
-        i += 1;
     }
-    true
+    Ok(())
 }
 
 // Whether the entries past the counts are 0, and no item among them may be turned.
-fn is_rest_zero(instance: Instance) -> bool
-    ensures { result ≡ rest_zero instance }
+fn is_rest_zero(instance: &Instance) -> bool
+    ensures { result ≡ rest_zero instance.now }
 {
-    let items = instance.items;
-    if !items_zero_from(items, instance.item_count) {
-        return false;
-    }
-    let precedences = instance.precedences;
-    precedences_zero_from(precedences, instance.precedence_count)
+    let items = instance
+        .items
+        .iter()
+        .skip(instance.item_count)
+        .all(|item| *item == NO_ITEM);
+    let precedences = instance
+        .precedences
+        .iter()
+        .skip(instance.precedence_count)
+        .all(|precedence| *precedence == NO_PRECEDENCE);
+    items && precedences
 }
 
 // An instance, with a word on the entries past its counts; its walkway is printed where it is above 0.
-pub fn read_instance<W: Write>(out: &mut W, instance: Instance) -> io::Result<()> {
-    word(out, b"read")?;
-    let container = instance.container;
-    measures(out, container)?;
-    word(out, b" items")?;
-    number(out, instance.item_count)?;
-    let items = instance.items;
-    items_below(out, items, instance.item_count)?;
-    word(out, b" precedences")?;
-    number(out, instance.precedence_count)?;
-    let precedences = instance.precedences;
-    precedences_below(out, precedences, instance.precedence_count)?;
-    word(out, b" yard")?;
-    number(out, instance.yard_number as usize)?;
+pub fn read_instance<W: Write>(out: &mut W, instance: &Instance) -> io::Result<()> {
+    write!(out, "read")?;
+    measures(out, instance.container)?;
+    items(out, instance)?;
+    precedences(out, instance)?;
+    write!(out, " yard {}", instance.yard_number)?;
     if instance.walkway != 0 {
-        word(out, b" walkway")?;
-        number(out, instance.walkway as usize)?;
+        write!(out, " walkway {}", instance.walkway)?;
     }
     if is_rest_zero(instance) {
-        return word(out, b" rest zero");
+        write!(out, " rest zero")
+    } else {
+        write!(out, " rest not zero")
     }
-    word(out, b" rest not zero")
 }

@@ -1,29 +1,23 @@
--- Laws of an array that is filled entry by entry.
-use Rattle.std.specs.Prelude.{◌≡◌, ◌+◌, ◌≤◌, ◌<◌}
-use Rattle.prelude.specs.Names.{refl, sym, ◌∙◌, List, ℕ, le_of_eq, add-one, arith, length, take, set, length-set, take_all}
-use lib.Seq.{take-suc-set}
+-- The array that `array::from_fn` makes of a function is the table of that function.
+use Rattle.std.specs.Prelude.{◌≡◌, ◌+◌, ◌<◌}
+use Rattle.prelude.specs.Names.{refl, sym, ap, subst, ◌∙◌, List, ℕ, zero, suc, add-one, le_of_eq, arith, length, take, take-suc, take_all}
+use Rattle.std.specs.Fn.{Mut, Called}
+use Rattle.std.specs.Array.{IsFromFnResult, IsFromFnResultFrom}
 use Rattle.test_values.specs.Values.{tabulate}
 
--- of n entries the first i are those of a table
-pub record Filled {A : Type 0} (n : ℕ) (f : ℕ → A) (xs : List A) (i : ℕ) : Type 0 where
-  pub room : length xs ≡ n
-  pub within : i ≤ n
-  pub filled : take i xs ≡ tabulate i f
-
-module _ {A : Type 0} {n : ℕ} {f : ℕ → A} {xs : List A} where
-  pub fill_none : length xs ≡ n → Filled n f xs 0
+module _ {F B : Type 0} (g : Mut F (ℕ × Unit {0}) B) (f : F) (h : ℕ → B) (n : ℕ)
+    (same : (i : ℕ) (y : B) (q : F) → i < n → Called g f (i, tt) y q → (y ≡ h i) × (q ≡ f)) where
+  -- the first i entries are those of the table, and the calls that made the other k are known
+  table_from : (ys : List B) (i k : ℕ) → length ys ≡ i + k → i + k ≡ n → take i ys ≡ tabulate i h → IsFromFnResultFrom g f ys i k → ys ≡ tabulate n h
   unfolding tabulate
-  fill_none l = record { room = l; within = omega arith; filled = refl }
+  table_from ys i zero long e front made =
+      let e' : i ≡ n = omega arith in
+      sym (take_all i ys (le_of_eq (omega arith))) ∙ front ∙ ap (λ j. tabulate j h) e'
+  table_from ys i (suc k) long e front (q, y, at, called, rest) =
+      let here = same i y q (omega arith) called in
+      table_from ys (i + 1) k (omega arith) (omega arith) (rw (add-one, take-suc ys i y (omega arith), front, at.1 y, here.0))
+      (subst (λ p. IsFromFnResultFrom g p ys (i + 1) k) here.1 rest)
 
-  pub fill_next : {i : ℕ} {x : A} → Filled n f xs i → i < n → x ≡ f i → Filled n f (set xs i x) (i + 1)
+  pub table : (ys : List B) → IsFromFnResult g f ys n → ys ≡ tabulate n h
   unfolding tabulate
-  fill_next {i} {x} φ l e = record {
-    room = length-set xs i x ∙ φ.room;
-    within = omega arith;
-    filled = rw (add-one, take-suc-set xs i x (omega (arith, φ.room)), φ.filled, e);
-  }
-
-  pub fill_all : {i : ℕ} → Filled n f xs i → n ≤ i → xs ≡ tabulate n f
-  fill_all {i} φ l =
-      let e : i ≡ n = omega (arith, φ.within) in
-      sym (take_all n xs (le_of_eq φ.room)) ∙ rw e at φ.filled
+  table ys made = table_from ys 0 n (omega (arith, made.long)) (omega arith) refl made.each

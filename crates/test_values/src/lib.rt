@@ -1,76 +1,71 @@
 // Instances and packings from bytes at fixed places, for the tests: any value of the types, also one that no sheet gives.
 // The low byte is first; a byte past the end counts as 0.
+// Bytes and a place in them are two arguments, as in the clauses of what is called from outside; a struct of both would be taken apart at
+// once. The bounds on places are there so that a few can be added.
 #![tactic(auto)]
 
-ghost use Rattle.std.specs.Prelude.{◌≡◌, ◌+◌, ◌*◌, ◌<◌, get_or};
-ghost use Rattle.sheet.specs.Sheet.{max_items, max_precedences};
+ghost use Rattle.std.specs.Prelude.{◌≡◌, ◌+◌, ◌*◌, ◌<◌, ◌≤◌, ◌^◌, get_or};
 ghost use Rattle.sheet.specs.Places.{byte_at, word_at};
 ghost use Rattle.test_values.specs.Values.{tabulate, four_at, number_at, size_in, item_in, position_in, precedence_in, instance_in, packing_at};
 
 use instance::{Instance, Packing, Position};
 use parts::{Item, Precedence, Size};
+use std::array;
 
 // How many bytes an instance has, and a packing.
 pub const INSTANCE_BYTES: usize = 365;
 
 pub const PACKING_BYTES: usize = 70;
 
-fn wide(x: u8) -> u16
-    ensures { (result ≡ x) × (result < 256) }
-{
-    x as u16
-}
-
-fn wider(x: u16) -> usize
-    ensures { (result ≡ x) × (result < 65536) }
-{
-    x as usize
-}
-
 pub fn byte_at(s: &[u8], at: usize) -> u8
     ensures { result ≡ get_or s.now at 0 }
 {
-    if at < s.len() {
-        return s[at];
-    }
-    0
+    s.get(at).copied().unwrap_or(0)
+}
+
+// N bytes.
+fn bytes_at<const N: usize>(s: &[u8], at: usize) -> [u8; N]
+    requires { at + N ≤ 2 ^ 64 }
+    ensures { result ≡ tabulate N (λ i. byte_at s.now (at + i)) }
+{
+    array::from_fn(|i| byte_at(s, at + i))
 }
 
 // Two bytes.
+#[tactic(auto, using(crate::proofs::Words::word_of_bytes))]
 pub fn word_at(s: &[u8], at: usize) -> u16
     requires { at < 18446744073709551615 }
     ensures { result ≡ word_at s.now at }
 {
-    wide(byte_at(s, at)) + 256 * wide(byte_at(s, at + 1))
+    u16::from_le_bytes(bytes_at(s, at))
 }
 
 // Four bytes.
+#[tactic(auto, using(crate::proofs::Words::four_of_bytes))]
 pub fn four_at(s: &[u8], at: usize) -> usize
     requires { at < 2000 }
     ensures { (result ≡ four_at s.now at) × (result < 4294967296) }
 {
-    wider(word_at(s, at)) + 65536 * wider(word_at(s, at + 2))
+    u32::from_le_bytes(bytes_at(s, at)) as usize
 }
 
 // Eight bytes: any number.
+#[tactic(auto, using(crate::proofs::Words::number_of_bytes))]
 pub fn number_at(s: &[u8], at: usize) -> usize
     requires { at < 1000 }
     ensures { result ≡ number_at s.now at }
 {
-    four_at(s, at) + 4294967296 * four_at(s, at + 4)
+    usize::from_le_bytes(bytes_at(s, at))
 }
 
 fn size_at(s: &[u8], at: usize) -> Size
     requires { at < 1000 }
     ensures { result ≡ size_in s.now at }
 {
-    let width = word_at(s, at);
-    let depth = word_at(s, at + 2);
-    let shifts = word_at(s, at + 4);
     Size {
-        width,
-        depth,
-        shifts,
+        width: word_at(s, at),
+        depth: word_at(s, at + 2),
+        shifts: word_at(s, at + 4),
     }
 }
 
@@ -79,105 +74,47 @@ fn item_at(s: &[u8], at: usize, turn: usize) -> Item
     requires { at < 1000 }
     ensures { result ≡ item_in s.now at turn }
 {
-    let size = size_at(s, at);
-    let may_turn = byte_at(s, turn) != 0;
-    Item { size, may_turn }
+    Item {
+        size: size_at(s, at),
+        may_turn: byte_at(s, turn) != 0,
+    }
 }
 
 fn position_at(s: &[u8], at: usize) -> Position
     requires { at < 1000 }
     ensures { result ≡ position_in s.now at }
 {
-    let x = word_at(s, at);
-    let y = word_at(s, at + 2);
-    let t = word_at(s, at + 4);
-    Position { x, y, t }
+    Position {
+        x: word_at(s, at),
+        y: word_at(s, at + 2),
+        t: word_at(s, at + 4),
+    }
 }
 
 fn precedence_at(s: &[u8], at: usize) -> Precedence
     requires { at < 1000 }
     ensures { result ≡ precedence_in s.now at }
 {
-    let predecessor = byte_at(s, at);
-    let successor = byte_at(s, at + 1);
-    let lag = byte_at(s, at + 2);
     Precedence {
-        predecessor,
-        successor,
-        lag,
+        predecessor: byte_at(s, at),
+        successor: byte_at(s, at + 1),
+        lag: byte_at(s, at + 2),
     }
-}
-
-fn items_in(s: &[u8]) -> [Item; Instance::MAX_ITEMS]
-    ensures { result ≡ tabulate max_items (λ i. item_in s.now (14 + 6 * i) (355 + i)) }
-{
-    let mut items = lists::no_items();
-    let mut i: usize = 0;
-    while i < Instance::MAX_ITEMS {
-        items[i] = item_at(s, 14 + 6 * i, 355 + i);
-        i = i + 1;
-    }
-    items
-}
-
-fn precedences_in(s: &[u8]) -> [Precedence; Instance::MAX_PRECEDENCES]
-    ensures { result ≡ tabulate max_precedences (λ i. precedence_in s.now (82 + 3 * i)) }
-{
-    let mut precedences = lists::no_precedences();
-    let mut i: usize = 0;
-    while i < Instance::MAX_PRECEDENCES {
-        precedences[i] = precedence_at(s, 82 + 3 * i);
-        i = i + 1;
-    }
-    precedences
 }
 
 // The instance at the start of the bytes.
 pub fn instance_in(s: &[u8]) -> Instance
     ensures { result ≡ instance_in s.now }
 {
-    let container = size_at(s, 0);
-    let item_count = number_at(s, 6);
-    let items = items_in(s);
-    let precedence_count = number_at(s, 74);
-    let precedences = precedences_in(s);
-    let yard_number = word_at(s, 352);
-    let walkway = byte_at(s, 354);
     Instance {
-        container,
-        items,
-        item_count,
-        precedences,
-        precedence_count,
-        yard_number,
-        walkway,
+        container: size_at(s, 0),
+        items: array::from_fn(|i| item_at(s, 14 + 6 * i, 355 + i)),
+        item_count: number_at(s, 6),
+        precedences: array::from_fn(|i| precedence_at(s, 82 + 3 * i)),
+        precedence_count: number_at(s, 74),
+        yard_number: word_at(s, 352),
+        walkway: byte_at(s, 354),
     }
-}
-
-fn positions_at(s: &[u8], at: usize) -> [Position; Instance::MAX_ITEMS]
-    requires { at < 500 }
-    ensures { result ≡ tabulate max_items (λ u. position_in s.now (at + 6 * u)) }
-{
-    let mut positions = [Position { x: 0, y: 0, t: 0 }; Instance::MAX_ITEMS];
-    let mut u: usize = 0;
-    while u < Instance::MAX_ITEMS {
-        positions[u] = position_at(s, at + 6 * u);
-        u = u + 1;
-    }
-    positions
-}
-
-fn marks_at(s: &[u8], at: usize) -> [u8; Instance::MAX_ITEMS]
-    requires { at < 1000 }
-    ensures { result ≡ tabulate max_items (λ u. byte_at s.now (at + u)) }
-{
-    let mut marks = [0u8; Instance::MAX_ITEMS];
-    let mut u: usize = 0;
-    while u < Instance::MAX_ITEMS {
-        marks[u] = byte_at(s, at + u);
-        u = u + 1;
-    }
-    marks
 }
 
 // The packing that starts at a place.
@@ -185,7 +122,8 @@ pub fn packing_at(s: &[u8], at: usize) -> Packing
     requires { at < 500 }
     ensures { result ≡ packing_at s.now at }
 {
-    let positions = positions_at(s, at);
-    let marks = marks_at(s, at + 60);
-    Packing { positions, marks }
+    Packing {
+        positions: array::from_fn(|u| position_at(s, at + 6 * u)),
+        marks: bytes_at(s, at + 60),
+    }
 }

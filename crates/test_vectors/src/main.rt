@@ -1,16 +1,20 @@
 // Runs the cases on standard input and prints a line for each. tests/make_vectors.py says what a case is.
 #![tactic(auto)]
 
-ghost use Rattle.std.specs.Prelude.{◌≡◌, ◌≤◌, length};
+ghost use Rattle.std.specs.Prelude.{◌≡◌, ◌↔◌, ◌+◌, ◌<◌, ◌≤◌, ◌++◌, drop, length, slice_index, IfOk, IfSome, IsSome, MatchResult};
+ghost use Rattle.sheet.specs.Places.{word_at};
+ghost use Rattle.instance.specs.Answers.{read_result};
+ghost use Rattle.instance.specs.Sheets.{decode};
 ghost use Rattle.writer.specs.Answers.{write_answer};
 
-use instance::{Instance, ReadAnswer};
-use makespan::finish::Finish;
-use packing::{CheckAnswer, ClearanceAnswer};
+use instance::Instance;
+use refusal::Refusal;
 use search::answer::Answer;
 use std::io;
-use std::io::{BufWriter, Write};
-use writer::WriteAnswer;
+use std::io::{BufWriter, Read, Write};
+
+// No more of the input is read.
+const MOST_INPUT: u64 = 2_097_152;
 
 const MOST_ROOM: usize = 400;
 
@@ -18,153 +22,113 @@ const MOST_ROOM: usize = 400;
 const GUARD: usize = 4;
 
 fn report_read<W: Write>(out: &mut W, s: &[u8]) -> io::Result<()> {
-    let r = Instance::read(s);
-    let answer = r.answer;
-    match answer {
-        ReadAnswer::Read => test_lines::read_instance(out, r.instance),
-        ReadAnswer::Refused(e) => test_lines::refused(out, e),
+    match Instance::read(s) {
+        Ok(instance) => test_lines::read_instance(out, &instance),
+        Err(e) => test_lines::refused(out, e),
     }
 }
 
-fn print_written<W: Write>(out: &mut W, answer: WriteAnswer) -> io::Result<()> {
-    match answer {
-        WriteAnswer::Written(n) => {
-            test_lines::word(out, b"written")?;
-            test_lines::number(out, n)
-        }
-        WriteAnswer::Refused(e) => test_lines::refused(out, e),
-    }
-}
-
-// Writes into the first `room` bytes.
-fn write_part(instance: Instance, space: &mut [u8], room: usize) -> WriteAnswer
-    requires { room ≤ length space.old }
-    ensures { result ≡ write_answer instance room }
-{
-    writer::write(instance, &mut space[..room])
-}
-
+// Writes into the first bytes of the space, as many as the case says.
 fn report_write<W: Write>(out: &mut W, s: &[u8]) -> io::Result<()> {
     let instance = test_values::instance_in(s);
-    let room = test_values::word_at(s, test_values::INSTANCE_BYTES) as usize;
+    let room = usize::from(test_values::word_at(s, test_values::INSTANCE_BYTES));
     let fill = test_values::byte_at(s, test_values::INSTANCE_BYTES + 2);
-    if MOST_ROOM < room {
-        return test_lines::word(out, b"no such room");
+    if room > MOST_ROOM {
+        return write!(out, "no such room");
     }
     let mut space = [fill; MOST_ROOM + GUARD];
-    let answer = write_part(instance, &mut space, room);
-    print_written(out, answer)?;
-    test_lines::bytes(out, &space, room + GUARD)
+    match writer::write(instance, &mut space[..room]) {
+        Ok(n) => write!(out, "written {n}"),
+        Err(e) => test_lines::refused(out, e),
+    }?;
+    test_lines::bytes(out, &space[..room + GUARD])
 }
 
 fn report_record<W: Write>(out: &mut W, s: &[u8]) -> io::Result<()> {
-    if s.len() < 8 {
-        return test_lines::word(out, b"no such case");
-    }
-    let k = test_values::number_at(s, 0);
-    let sheet = &s[8..];
+    let Some((k, sheet)) = s.split_first_chunk::<8>() else {
+        return write!(out, "no such case");
+    };
+    let k = usize::from_le_bytes(*k);
     let code = item_record::item_record_refusal(sheet, k);
-    test_lines::word(out, b"record")?;
-    test_lines::number(out, code.number as usize)?;
-    test_lines::number(out, code.place)?;
+    write!(out, "record {} {}", code.number, code.place)?;
     let record = item_record::item_record(sheet, k);
-    if record.len() == 0 {
+    if record.is_empty() {
         return Ok(());
     }
-    test_lines::bytes(out, record, record.len())
+    test_lines::bytes(out, record)
 }
 
 fn report_check<W: Write>(out: &mut W, s: &[u8]) -> io::Result<()> {
-    let answer = packing::check(
-        test_values::instance_in(s),
-        test_values::packing_at(s, test_values::INSTANCE_BYTES),
-    );
-    match answer {
-        CheckAnswer::Feasible => test_lines::word(out, b"feasible"),
-        CheckAnswer::NotFeasible => test_lines::word(out, b"not feasible"),
-        CheckAnswer::Refused(e) => test_lines::refused(out, e),
+    let instance = test_values::instance_in(s);
+    let packing = test_values::packing_at(s, test_values::INSTANCE_BYTES);
+    match packing::check(instance, packing) {
+        Ok(true) => write!(out, "feasible"),
+        Ok(false) => write!(out, "not feasible"),
+        Err(e) => test_lines::refused(out, e),
     }
 }
 
 fn report_clearance<W: Write>(out: &mut W, s: &[u8]) -> io::Result<()> {
+    let instance = test_values::instance_in(s);
+    let packing = test_values::packing_at(s, test_values::INSTANCE_BYTES);
     let rest = test_values::INSTANCE_BYTES + test_values::PACKING_BYTES;
     let u = test_values::number_at(s, rest);
     let v = test_values::number_at(s, rest + 8);
     let axis = test_values::byte_at(s, rest + 16);
-    let answer = packing::clearance(
-        test_values::instance_in(s),
-        test_values::packing_at(s, test_values::INSTANCE_BYTES),
-        u,
-        v,
-        axis,
-    );
-    match answer {
-        ClearanceAnswer::Clearance(n) => {
-            test_lines::word(out, b"clearance")?;
-            test_lines::signed(out, n)
-        }
-        ClearanceAnswer::Refused(e) => test_lines::refused(out, e),
+    match packing::clearance(instance, packing, u, v, axis) {
+        Ok(n) => write!(out, "clearance {n}"),
+        Err(e) => test_lines::refused(out, e),
     }
 }
 
-fn rewrite<W: Write>(out: &mut W, instance: Instance) -> io::Result<()> {
-    let mut space = [0u8; Instance::MAX_BYTES];
-    let answer = writer::write(instance, &mut space);
-    match answer {
-        WriteAnswer::Written(n) => {
-            test_lines::word(out, b"rewritten")?;
-            test_lines::number(out, n)?;
-            test_lines::bytes(out, &space, n)
-        }
-        WriteAnswer::Refused(e) => test_lines::refused(out, e),
-    }
+// Reads a sheet and writes it again: how many bytes.
+#[tactic(auto, unfolding(writer::specs::Answers::write_answer))]
+fn rewrite(sheet: &[u8], space: &mut [u8]) -> Result<usize, Refusal>
+    ensures value { MatchResult (read_result (decode sheet.now)) (λ i. result ≡ write_answer i (length space.old)) (λ e. result ≡ Err e) }
+    ensures within { IfOk result (λ n. n ≤ length space.new) }
+{
+    writer::write(Instance::read(sheet)?, space)
 }
 
 fn report_rewrite<W: Write>(out: &mut W, s: &[u8]) -> io::Result<()> {
-    let r = Instance::read(s);
-    let answer = r.answer;
-    match answer {
-        ReadAnswer::Read => rewrite(out, r.instance),
-        ReadAnswer::Refused(e) => test_lines::refused(out, e),
+    let mut space = [0; Instance::MAX_BYTES];
+    match rewrite(s, &mut space) {
+        Ok(n) => {
+            write!(out, "rewritten {n}")?;
+            test_lines::bytes(out, &space[..n])
+        }
+        Err(e) => test_lines::refused(out, e),
     }
 }
 
 fn report_valid<W: Write>(out: &mut W, s: &[u8]) -> io::Result<()> {
-    let instance = test_values::instance_in(s);
-    if instance.is_valid() {
-        return test_lines::word(out, b"valid");
+    if test_values::instance_in(s).is_valid() {
+        write!(out, "valid")
+    } else {
+        write!(out, "not valid")
     }
-    test_lines::word(out, b"not valid")
 }
 
 // What the program prints for a sheet.
 fn report_run<W: Write>(out: &mut W, s: &[u8]) -> io::Result<()> {
     let mut text = [0u8; report::MAX_TEXT];
     let m = planner::sheet_text(&mut text, s);
-    test_lines::word(out, &text[..m])
-}
-
-fn print_finish<W: Write>(out: &mut W, code: usize, finish: Finish) -> io::Result<()> {
-    test_lines::word(out, b"finish")?;
-    test_lines::number(out, code)?;
-    test_lines::number(out, finish.length as usize)?;
-    test_lines::number(out, finish.steps as usize)?;
-    test_lines::packing(out, finish.packing)
+    out.write_all(&text[..m])
 }
 
 fn report_finish<W: Write>(out: &mut W, s: &[u8]) -> io::Result<()> {
     let instance = test_values::instance_in(s);
     let budget = test_values::four_at(s, test_values::INSTANCE_BYTES) as u32;
     let finish = makespan::earliest_finish(instance, budget);
-    let answer = finish.answer;
-    match answer {
-        Answer::BudgetSpent => print_finish(out, 0, finish),
-        Answer::Packed => print_finish(out, 1, finish),
-        Answer::Infeasible => print_finish(out, 2, finish),
-        Answer::Refused(e) => test_lines::refused(out, e),
+    if let Answer::Refused(e) = finish.answer {
+        return test_lines::refused(out, e);
     }
+    let code = finish.answer.number();
+    write!(out, "finish {code} {} {}", finish.length, finish.steps)?;
+    test_lines::packing(out, finish.packing)
 }
 
+// What a case asks for is its first byte, as tests/make_vectors.py writes it. It is met here alone, so no enum stands for it.
 fn report<W: Write>(out: &mut W, op: u8, s: &[u8]) -> io::Result<()> {
     match op {
         1 => report_read(out, s),
@@ -176,36 +140,37 @@ fn report<W: Write>(out: &mut W, op: u8, s: &[u8]) -> io::Result<()> {
         7 => report_valid(out, s),
         8 => report_run(out, s),
         9 => report_finish(out, s),
-        _ => test_lines::word(out, b"no such case"),
+        _ => write!(out, "no such case"),
     }?;
-    test_lines::line_end(out)
+    writeln!(out)
 }
 
-// One case after another, while whole ones are left.
-fn report_all<W: Write>(out: &mut W, s: &[u8]) -> io::Result<()> {
-    let mut at: usize = 0;
-    while 3 <= s.len() - at {
-        let start = at + 3;
-        let n = test_values::word_at(s, at + 1) as usize;
-        if s.len() - start < n {
-            return Ok(());
-        }
-        report(out, s[at], &s[start..start + n])?;
-        at = start + n;
+// What the first case asks for, its bytes, and what is left after it; nothing where no whole case is left.
+fn split_case(s: &[u8]) -> Option<(u8, &[u8], &[u8])>
+    ensures whole { IsSome result ↔ (3 + word_at s.now 1 ≤ length s.now) }
+    ensures parts { IfSome result (λ r. (r.0 ≡ slice_index s.now 0) × (length r.1.now ≡ word_at s.now 1) × (drop 3 s.now ≡ r.1.now ++ r.2.now)) }
+    ensures shorter { IfSome result (λ r. length r.2.now < length s.now) }
+{
+    let (head, rest) = s.split_first_chunk::<3>()?;
+    let [op, low, high] = *head;
+    let len = u16::from_le_bytes([low, high]);
+    let (case, rest) = rest.split_at_checked(usize::from(len))?;
+    Some((op, case, rest))
+}
+
+fn report_all<W: Write>(out: &mut W, cases: &[u8]) -> io::Result<()> {
+    let mut left = cases;
+    while let Some((op, case, rest)) = split_case(left) {
+        report(out, op, case)?;
+        left = rest;
     }
     Ok(())
 }
 
-fn space() -> [u8; 2097152]
-    ensures { 2097152 ≡ length result }
-{
-    [0; 2097152]
-}
-
 fn main(rt: HostRuntime) -> io::Result<()> {
-    let mut buffer = space();
-    let n = planner::read_full(&mut rt.stdin(), &mut buffer)?;
+    let mut cases = Vec::new(rt.alloc());
+    rt.stdin().take(MOST_INPUT).read_to_end(&mut cases)?;
     let mut out = BufWriter::new(rt.alloc(), io::writer(&rt))?;
-    report_all(&mut out, &buffer[..n])?;
+    report_all(&mut out, &cases)?;
     out.flush()
 }

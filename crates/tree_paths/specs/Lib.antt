@@ -1,3 +1,4 @@
 -- Checkpoints and the paths in them, and what a look at a path shows.
 pub mod Checkpoints
 pub mod Looks
+pub mod States

@@ -2,17 +2,17 @@
 ghost use Rattle.std.specs.Prelude.{List, ◌≤◌};
 ghost use Rattle.model.specs.Branching.{Branch};
 ghost use Rattle.model.specs.Problem.{Problem};
-ghost use Rattle.domains.specs.Queue.{Long};
 ghost use Rattle.chains.specs.Totals.{SameMeasures};
 ghost use Rattle.propagation.specs.Propagated.{Ready};
 ghost use Rattle.tree_paths.specs.Looks.{Lookable, Looked};
 
-use chains::totals::TOTALS;
-use domains::queue::MAX_QUEUE;
-use domains::{DOMAINS, Place, ROWS};
-use nodes::branching::{Branching, choose};
+use chains::totals::Totals;
+use domains::Place;
+use domains::store::Store;
+use nodes::branching::choose;
 use propagation::propagate;
 
+// An enum of three, and no Result of an Option: the search matches all three at once.
 #[derive(Clone, Copy)]
 pub enum Outlook {
     Conflict,
@@ -21,25 +21,18 @@ pub enum Outlook {
 }
 
 // Propagates, and tells what the domains show; the pairs before number `from` are separated.
-pub fn look(
-    k: &mut [u8; DOMAINS],
-    rows: &mut [u32; ROWS],
-    queue: &mut [u16; MAX_QUEUE],
-    t: &mut [u16; TOTALS],
-    n: usize,
-    from: usize,
-) -> Outlook
-    requires { (n ≤ 10) × ((p : Problem) × Ready p k.old rows.old queue.old t.old) }
-    ensures long { Long k.new rows.new queue.new × SameMeasures t.old t.new }
+pub fn look(store: &mut Store, totals: &mut Totals, n: usize, from: usize) -> Outlook
+    requires { (n ≤ 10) × ((p : Problem) × Ready p store.old.domains store.old.rows store.old.queue totals.old.numbers) }
+    ensures measures { SameMeasures totals.old.numbers totals.new.numbers }
     ensures looked { (p : Problem) (path : List Branch)
-        → Lookable p n k.old rows.old queue.old t.old path from
-        → Looked p path k.new rows.new t.new result }
+        → Lookable p n store.old.domains store.old.rows store.old.queue totals.old.numbers path from
+        → Looked p path store.new.domains store.new.rows totals.new.numbers result }
 {
-    if !propagate(k, rows, queue, t) {
+    if propagate(store, totals).is_err() {
         return Outlook::Conflict;
     }
-    match choose(k, n, from) {
-        Branching::Packed => Outlook::Complete,
-        Branching::At(place) => Outlook::Fork(place),
+    match choose(&store.domains, n, from) {
+        None => Outlook::Complete,
+        Some(place) => Outlook::Fork(place),
     }
 }

@@ -13,9 +13,8 @@ fn length_allowed(status: Status, length: usize) -> bool
     ensures { result ≡ length_allowed status length }
 {
     match status {
-        Status::Open => true,
         Status::Infeasible => length == 0,
-        Status::Packed => true,
+        Status::Open | Status::Packed => true,
     }
 }
 
@@ -23,16 +22,9 @@ fn length_allowed(status: Status, length: usize) -> bool
 pub fn is_well_formed(checkpoint: Checkpoint) -> bool
     ensures { result ≡ well_formed checkpoint }
 {
-    let length = checkpoint.length;
-    let status = checkpoint.status;
-    if Instance::MAX_BRANCHES < length {
-        return false;
-    }
-    if !length_allowed(status, length) {
-        return false;
-    }
-    let branches = checkpoint.branches;
-    all_branches(branches, length)
+    checkpoint.length <= Instance::MAX_BRANCHES
+        && length_allowed(checkpoint.status, checkpoint.length)
+        && all_branches(checkpoint.branches, checkpoint.length)
 }
 
 // Whether each of the first n is 0 or 1.
@@ -40,12 +32,10 @@ fn all_branches(branches: [u8; Instance::MAX_BRANCHES], n: usize) -> bool
     requires { n ≤ max_branches }
     ensures { result ≡ all_branches n branches }
 {
-    let mut i: usize = n;
-    while 0 < i {
-        if 1 < branches[i - 1] {
+    for i in 0..n {
+        if 1 < branches[i] {
             return false;
         }
-        i = i - 1;
     }
     true
 }
@@ -58,11 +48,9 @@ pub fn path_branches(
     requires { Bits length given }
     ensures { result ≡ branches_of (path_of length given) }
 {
-    let mut branches = [0u8; Instance::MAX_BRANCHES];
-    let mut i: usize = 0;
-    while i < length {
+    let mut branches = [0; Instance::MAX_BRANCHES];
+    for i in 0..length {
         branches[i] = given[i];
-        i = i + 1;
     }
     branches
 }
@@ -72,14 +60,12 @@ pub fn back(branches: &mut [u8; Instance::MAX_BRANCHES], length: usize) -> usize
     requires { (L.length branches.old ≡ max_branches) × (length ≤ max_branches) }
     ensures { (path : List Branch) → PathIn path branches.old length → Backed (S.backtrack path) branches.new result }
 {
-    let mut left = length;
-    while 0 < left {
-        if branches[left - 1] == 0 {
-            branches[left - 1] = 1;
-            return left;
+    for last in (0..length).rev() {
+        if branches[last] == 0 {
+            branches[last] = 1;
+            return last + 1;
         }
-        branches[left - 1] = 0;
-        left = left - 1;
+        branches[last] = 0;
     }
     0
 }

@@ -4,3 +4,4 @@ pub mod Positions
 pub mod Outcomes
 pub mod Stepping
 pub mod Complete
+pub mod Frontiers

@@ -49,6 +49,10 @@ result_of p r = record {
   positions = positions_with p r.answer;
 }
 
+-- an outcome after so many steps, at a path of n branches, and all items at the origin
+abbrev pub ended : Outcome → ℕ → List ℕ → ℕ → TreeResult
+ended o m bs n = record { outcome = o; steps = m; length = n; branches = bs; positions = origins }
+
 -- a path that does not follow the problem
 unfoldable pub not_following : TreeResult
 not_following = record { outcome = NotFollowing; steps = 0; length = 0; branches = branches_of []; positions = origins }

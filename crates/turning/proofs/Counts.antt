@@ -1,9 +1,8 @@
 -- How many choices there are, and the digits of a choice.
 use Rattle.std.specs.Prelude.{◌&&◌, ◌≡◌, ◌+◌, ◌-◌, ◌*◌, ◌%◌, ◌^◌, ◌≤◌, ◌<◌}
-use Rattle.prelude.specs.Names.{Bool, true, false, cond, List, refl, ap, ◌∙◌, ℕ, zero, suc, arith}
-use Rattle.prelude.specs.Names.{eqb, get_or}
+use Rattle.prelude.specs.Names.{Bool, true, false, cond, List, refl, ◌∙◌, ℕ, zero, suc, arith}
+use Rattle.prelude.specs.Names.{eqb, get_or, take, length, length-take, get_or-take}
 use Rattle.prelude.specs.Names.{le_trans, pow_mono, lt-ltb, le-ltb, add-one}
-use Rattle.model.specs.Below.{all_below}
 use Rattle.model.specs.Domains.{odd}
 use Rattle.model.specs.Turning.{digits_from, marks_of, choice_count, last_choice}
 use Rattle.parts.specs.Sizes.{no_item}
@@ -12,18 +11,6 @@ use Rattle.parts.specs.declared.Item.{Item}
 use Rattle.instance.specs.declared.Instance.{Instance}
 use Rattle.instance.specs.Meaning.{problem_of}
 use Rattle.turning.specs.Turned.{may_turn_of, may_turn_in, turnable_of, count_with, mark_of, digit_of, digits_after}
-
--- a test of all below i: of the last, and of those before it
-pub below_last : (f : ℕ → Bool) (i : ℕ) {b : Bool} → 0 < i → f (i - 1) ≡ b → all_below i f ≡ (b && all_below (i - 1) f)
-below_last f zero h e = absurd (omega arith)
-below_last f (suc j) {b} h e =
-    let z : suc j - 1 ≡ j = omega arith in
-    let d : f j ≡ b = rw z at e in
-    rw z (ap (λ (x : Bool). elim x as (λ _. Bool) [ true ↦ all_below j f | false ↦ false ]) d ∙ by b)
-  where
-    by : (b : Bool) → elim b as (λ _. Bool) [ true ↦ all_below j f | false ↦ false ] ≡ (b && all_below j f)
-    by true = refl
-    by false = refl
 
 -- at most doubled by each item
 pub count_power : (f : ℕ → Bool) (k u : ℕ) → choice_count f u k ≤ 2 ^ k
@@ -52,6 +39,13 @@ count_some f (suc k) u = go (f u) (count_some f k (suc u))
 pub may_turn-at : (n : ℕ) (items : List Item) (u : ℕ) → u < n → may_turn_of n items u ≡ (get_or items u no_item).may_turn
 may_turn-at n items u h = rw (lt-ltb u n h)
 
+-- the same of an item that is read from those of the count
+pub may_turn-taken : (n : ℕ) (items : List Item) (u : ℕ) {b : Bool} → u < length (take n items) → (get_or (take n items) u no_item).may_turn ≡ b
+    → may_turn_of n items u ≡ b
+may_turn-taken n items u l e =
+    let h : u < n = omega (arith, length-take n items) in
+    may_turn-at n items u h ∙ (rw (get_or-take n items u no_item h) at e)
+
 pub may_not-past : (n : ℕ) (items : List Item) (u : ℕ) → n ≤ u → may_turn_of n items u ≡ false
 may_not-past n items u h = rw (le-ltb u n h)
 
@@ -59,9 +53,18 @@ pub last_choice-is : (i : Instance) → last_choice (turnable_of i) ≡ choice_c
 unfolding last_choice turnable_of problem_of
 last_choice-is i = refl
 
--- the count from an item on
-pub count_next : (f : ℕ → Bool) (u v k : ℕ) {b : Bool} → v ≡ suc u → f u ≡ b → count_with b (choice_count f v k) ≡ choice_count f u (suc k)
-count_next f u v k h e = rw (h, e)
+-- the count with an item more at the end
+count_last : (f : ℕ → Bool) (u k : ℕ) → choice_count f u (suc k) ≡ count_with (f (u + k)) (choice_count f u k)
+count_last f u zero = let e : u + 0 ≡ u = omega arith in rw e
+count_last f u (suc k) = let e : u + suc k ≡ suc u + k = omega arith in rw e (by (f u) (f (suc u + k)) _ (count_last f (suc u) k))
+  where
+    by : (a b : Bool) (y : ℕ) {x : ℕ} → x ≡ count_with b y → count_with a x ≡ count_with b (count_with a y)
+    by true true y e = omega arith
+    by true false y e = omega arith
+    by false b y e = e
+
+pub count_more : (f : ℕ → Bool) (k : ℕ) {b : Bool} → f k ≡ b → choice_count f 0 (k + 1) ≡ count_with b (choice_count f 0 k)
+count_more f k e = let z : 0 + k ≡ k = omega arith in rw (add-one, ← e) (rw z at (count_last f 0 k))
 
 -- the digit of an item that may turn is its mark
 odd_mark : (m : ℕ) → m < 2 → m ≡ mark_of (eqb m 1)

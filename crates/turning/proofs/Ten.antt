@@ -26,9 +26,6 @@ pub record FilledTo {A : Type 0} (d : A) (f : ℕ → A) (given : List A) (xs : 
   pub left : (k : ℕ) → u ≤ k → get_or xs k d ≡ get_or given k d
 
 module _ {A : Type 0} {d : A} {f : ℕ → A} {given : List A} where
-  pub fill_none : length given ≡ 10 → FilledTo d f given given 0
-  fill_none l = record { room = l; filled = λ k h. absurd (omega arith); left = λ k h. refl }
-
   pub fill_next : {xs : List A} {u : ℕ} {x : A} → FilledTo d f given xs u → u < 10 → x ≡ f u → FilledTo d f given (set xs u x) (u + 1)
   fill_next {xs} {u} {x} φ l e = record {
     room = length-set xs u x ∙ φ.room;
@@ -37,6 +34,14 @@ module _ {A : Type 0} {d : A} {f : ℕ → A} {given : List A} where
       | no n ↦ get_or-set_other xs u k x d n ∙ φ.filled k (omega arith)
     ];
     left = λ k h. let n : k ≡ u → ⊥ = λ s. omega arith in get_or-set_other xs u k x d n ∙ φ.left k (omega arith);
+  }
+
+  -- an entry that stays
+  pub fill_same : {xs : List A} {u : ℕ} → FilledTo d f given xs u → get_or given u d ≡ f u → FilledTo d f given xs (u + 1)
+  fill_same {xs} {u} φ e = record {
+    room = φ.room;
+    filled = λ k h. elim (ℕ_discrete k u) [ yes s ↦ rw s (φ.left u (omega arith) ∙ e) | no n ↦ φ.filled k (omega arith) ];
+    left = λ k h. φ.left k (omega arith);
   }
 
   -- all ten, where those past u are those of f too

@@ -1,60 +1,29 @@
 // Items that may be turned: the choices of an instance, the marks of a choice, and an instance with its marked items turned.
+//
+// A mark is a byte and not a truth value: a plan comes from C as bytes, and a mark above 1 is refusal 13 of `packing::check` and `packing::clearance`.
 #![tactic(auto)]
 
-ghost use Rattle.std.specs.Prelude.{◌≡◌, true, ◌≤◌, ◌<◌};
+ghost use Rattle.std.specs.Prelude.{◌≡◌, ◌≤◌, ◌<◌};
 ghost use Rattle.sheet.specs.Sheet.{max_items};
 ghost use Rattle.model.specs.Turning.{last_choice};
-ghost use Rattle.turning.specs.Turned.{turnable_of, choice_marks, is_turned, turned_item, turned_items, turned_instance, mark_allowed};
-ghost use Rattle.turning.specs.Turned.{marks_allowed, count_with, digit_of, digits_after};
+ghost use Rattle.turning.specs.Turned.{turnable_of, choice_marks, is_turned, turned_item, turned_instance, mark_allowed, marks_allowed};
 
 use instance::Instance;
 use parts::{Item, Size};
-
-// How many choices there are with an item more.
-fn doubled(turns: bool, count: u16) -> u16
-    requires { count ≤ 512 }
-    ensures { result ≡ count_with turns count }
-{
-    if turns {
-        return 2 * count;
-    }
-    count
-}
+use std::array;
 
 // The last choice: there are twice as many for each item that may turn.
 pub fn last_choice(instance: Instance) -> u16
     requires { instance.item_count ≤ max_items }
     ensures { (result ≡ last_choice (turnable_of instance)) × (result < 1024) }
 {
-    let items = instance.items;
-    let mut u = instance.item_count;
-    let mut count: u16 = 1;
-    while 0 < u {
-        u = u - 1;
-        let item = items[u];
-        count = doubled(item.may_turn, count);
+    let mut count = 1;
+    for item in &instance.items[..instance.item_count] {
+        if item.may_turn {
+            count *= 2;
+        }
     }
     count - 1
-}
-
-// The mark of an item, by what is left of a choice.
-fn digit(turns: bool, left: u16) -> u8
-    ensures { result ≡ digit_of turns left }
-{
-    if turns {
-        return (left % 2) as u8;
-    }
-    0
-}
-
-// What is left of it after the item.
-fn after_digit(turns: bool, left: u16) -> u16
-    ensures { result ≡ digits_after turns left }
-{
-    if turns {
-        return left / 2;
-    }
-    left
 }
 
 // The marks of a choice: "the lowest-numbered turnable piece being the lowest binary digit, 1 for turned".
@@ -62,16 +31,13 @@ pub fn marks_of(instance: Instance, choice: u16) -> [u8; Instance::MAX_ITEMS]
     requires { instance.item_count ≤ max_items }
     ensures { result ≡ choice_marks (turnable_of instance) choice }
 {
-    let n = instance.item_count;
-    let items = instance.items;
-    let mut marks = [0u8; Instance::MAX_ITEMS];
+    let mut marks = [0; Instance::MAX_ITEMS];
     let mut left = choice;
-    let mut u: usize = 0;
-    while u < n {
-        let item = items[u];
-        marks[u] = digit(item.may_turn, left);
-        left = after_digit(item.may_turn, left);
-        u = u + 1;
+    for (u, item) in instance.items[..instance.item_count].iter().enumerate() {
+        if item.may_turn {
+            marks[u] = (left % 2) as u8;
+            left /= 2;
+        }
     }
     marks
 }
@@ -80,13 +46,11 @@ pub fn marks_of(instance: Instance, choice: u16) -> [u8; Instance::MAX_ITEMS]
 fn mark_allowed(turns: bool, mark: u8) -> bool
     ensures { result ≡ mark_allowed turns mark }
 {
-    if mark == 0 {
-        return true;
+    match mark {
+        0 => true,
+        1 => turns,
+        _ => false,
     }
-    if mark == 1 {
-        return turns;
-    }
-    false
 }
 
 // Whether the marks of all items may stand on them.
@@ -94,16 +58,12 @@ pub fn marks_allowed(instance: Instance, marks: [u8; Instance::MAX_ITEMS]) -> bo
     requires { instance.item_count ≤ max_items }
     ensures { result ≡ marks_allowed instance marks }
 {
-    let items = instance.items;
-    let mut u = instance.item_count;
-    while 0 < u {
-        u = u - 1;
-        let item = items[u];
-        if !mark_allowed(item.may_turn, marks[u]) {
-            return false;
-        }
-    }
-    true
+    instance
+        .items
+        .iter()
+        .zip(&marks)
+        .take(instance.item_count)
+        .all(|(item, mark)| mark_allowed(item.may_turn, *mark))
 }
 
 // An item with width and depth exchanged, where its mark is 1.
@@ -113,40 +73,18 @@ fn turned_item(item: Item, mark: u8) -> Item
     if mark != 1 {
         return item;
     }
-    let given = item.size;
     let size = Size {
-        width: given.depth,
-        depth: given.width,
-        shifts: given.shifts,
+        width: item.size.depth,
+        depth: item.size.width,
+        ..item.size
     };
-    Item {
-        size,
-        may_turn: item.may_turn,
-    }
-}
-
-fn turned_items(
-    items: [Item; Instance::MAX_ITEMS],
-    marks: [u8; Instance::MAX_ITEMS],
-) -> [Item; Instance::MAX_ITEMS]
-    ensures { result ≡ turned_items items marks }
-{
-    let mut next = items;
-    let mut u: usize = 0;
-    while u < Instance::MAX_ITEMS {
-        next[u] = turned_item(items[u], marks[u]);
-        u = u + 1;
-    }
-    next
+    Item { size, ..item }
 }
 
 // The instance with its marked items turned.
 pub fn turned(instance: Instance, marks: [u8; Instance::MAX_ITEMS]) -> Instance
     ensures { result ≡ turned_instance instance marks }
 {
-    let items = instance.items;
-    let exchanged = turned_items(items, marks);
-    let mut next = instance;
-    next.items = exchanged;
-    next
+    let items = array::from_fn(|u| turned_item(instance.items[u], marks[u]));
+    Instance { items, ..instance }
 }

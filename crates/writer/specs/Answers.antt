@@ -1,24 +1,23 @@
 -- What writing answers, and what it leaves in the lent room.
-use Rattle.std.specs.Prelude.{◌&&◌, ◌++◌, ◌⊎◌}
+use Rattle.std.specs.Prelude.{◌&&◌, ◌++◌, ◌⊎◌, Result, Ok, Err}
 use Rattle.prelude.specs.Names.{cond, not, List, inl, inr, ℕ, leb, ltb, length, drop}
+use Rattle.refusal.specs.declared.Refusal.{Refusal}
 use Rattle.refusal.specs.declared.Refusal.TheVariants.{BadArgument, InvalidInstance}
 use Rattle.refusal.specs.Numbers.{number_of, place_of}
 use Rattle.instance.specs.declared.Instance.{Instance}
 use Rattle.instance.specs.Sheets.{encode}
 use Rattle.instance.specs.Valid.{valid}
-use Rattle.writer.specs.declared.WriteAnswer.{WriteAnswer}
-use Rattle.writer.specs.declared.WriteAnswer.TheVariants as W
 
 -- 9, then 8; else "Writing returns the sheet's length"
-unfoldable pub write_answer : Instance → ℕ → WriteAnswer
+unfoldable pub write_answer : Instance → ℕ → Result ℕ Refusal
 write_answer i room =
-    cond (not (valid i)) (W.Refused InvalidInstance)
-    (cond (ltb room (length (encode i))) (W.Refused BadArgument) (W.Written (length (encode i))))
+    cond (not (valid i)) (Err InvalidInstance)
+    (cond (ltb room (length (encode i))) (Err BadArgument) (Ok (length (encode i))))
 
 -- the paper's values of writing: the sheet's length, or number and place of a refusal
-abbrev pub write_values : WriteAnswer → ℕ ⊎ (ℕ × ℕ)
-write_values (W.Written n) = inl n
-write_values (W.Refused e) = inr (number_of e, place_of e)
+abbrev pub write_values : Result ℕ Refusal → ℕ ⊎ (ℕ × ℕ)
+write_values (Ok n) = inl n
+write_values (Err e) = inr (number_of e, place_of e)
 
 -- "and fills that many bytes and no byte after them"; a refusal leaves the room as it was
 unfoldable pub written_room : Instance → List ℕ → List ℕ

@@ -15,73 +15,76 @@ use refusal::Refusal;
 
 mod counted;
 
-// What writing gives: how many bytes were written.
+// An instance that is valid: it has a sheet.
 #[derive(Clone, Copy)]
-pub enum WriteAnswer {
-    Written(usize),
-    Refused(Refusal),
+struct Sheet {
+    instance: Instance,
+    ghost is_valid: { valid instance ≡ true },
 }
 
-fn map_of(instance: Instance) -> u8
-    requires { valid instance ≡ true }
-    ensures { result ≡ flags sheet_fields (sheet_of instance) }
-{
-    let container = instance.container;
-    let precedences = instance.precedences;
-    let counts = parts::write::flag_of_byte(instance.item_count)
-        + 2 * parts::write::flag_of_byte(instance.precedence_count);
-    parts::write::size_flags_of(container)
-        + 8 * counts
-        + 32 * parts::write::flag_of(0, instance.yard_number)
-        + 64 * counted::flag_of_lags(precedences, instance.precedence_count)
-        + 128 * parts::write::flag_of_byte(parts::index(instance.walkway))
+impl Sheet {
+    // The map byte: a bit for each field that is written.
+    #[tactic(auto, using(crate::proofs::Sheets::sheets))]
+    fn map(self) -> u8
+        ensures { result ≡ flags sheet_fields (sheet_of self.instance) }
+    {
+        let instance = &self.instance;
+        let counts = u8::from(instance.item_count != 0)
+            + 2 * u8::from(instance.precedence_count != 0);
+        parts::write::size_flags_of(instance.container)
+            + 8 * counts
+            + 32 * u8::from(instance.yard_number != 0)
+            + 64 * u8::from(counted::has_lags(&instance.precedences[..instance.precedence_count]))
+            + 128 * u8::from(instance.walkway != 0)
+    }
+
+    #[tactic(auto, using(crate::proofs::Sheets::sheets))]
+    fn len(self) -> usize
+        ensures { (result ≡ length (encode self.instance)) × (result ≤ longest_sheet) }
+    {
+        let instance = &self.instance;
+        let precedences = &instance.precedences[..instance.precedence_count];
+        1 + parts::write::size_len(instance.container)
+            + counted::items_len(&instance.items[..instance.item_count])
+            + counted::precedences_len(precedences)
+            + 2 * usize::from(instance.yard_number != 0)
+            + counted::lags_len(precedences)
+            + usize::from(instance.walkway != 0)
+    }
+
+    // The whole sheet, at the front of the room.
+    #[tactic(auto, using(crate::proofs::Sheets::sheets))]
+    fn write(self, out: &mut [u8]) -> usize
+        requires { length (encode self.instance) ≤ length out.old }
+        ensures value { result ≡ length (encode self.instance) }
+        ensures out_after { out.new ≡ sets out.old 0 (encode self.instance) }
+    {
+        let instance = &self.instance;
+        let items = &instance.items[..instance.item_count];
+        let precedences = &instance.precedences[..instance.precedence_count];
+        out[0] = self.map();
+        let a = parts::write::write_size(out, 1, instance.container);
+        let b = counted::write_items(out, a, items);
+        let c = counted::write_precedences(out, b, precedences);
+        let d = parts::write::write_field(out, c, 0, instance.yard_number);
+        let e = counted::write_lags(out, d, precedences);
+        parts::write::write_byte(out, e, usize::from(instance.walkway))
+    }
 }
 
-// The length of the sheet.
-fn sheet_len(instance: Instance) -> usize
-    requires { valid instance ≡ true }
-    ensures { (result ≡ length (encode instance)) × (result ≤ longest_sheet) }
-{
-    let container = instance.container;
-    let items = instance.items;
-    let precedences = instance.precedences;
-    1 + parts::write::size_len(container)
-        + counted::items_len(items, instance.item_count)
-        + counted::precedences_len(instance.precedence_count)
-        + parts::write::field_len(0, instance.yard_number)
-        + counted::lags_len(precedences, instance.precedence_count)
-        + parts::write::byte_len(parts::index(instance.walkway))
-}
-
-// The whole sheet, at the front of the room.
-fn write_sheet(out: &mut [u8], instance: Instance) -> usize
-    requires { (valid instance ≡ true) × (length (encode instance) ≤ length out.old) }
-    ensures value { result ≡ length (encode instance) }
-    ensures out_after { out.new ≡ sets out.old 0 (encode instance) }
-{
-    let container = instance.container;
-    let items = instance.items;
-    let precedences = instance.precedences;
-    out[0] = map_of(instance);
-    let a = parts::write::write_size(out, 1, container);
-    let b = counted::write_items(out, a, items, instance.item_count);
-    let c = counted::write_precedences(out, b, precedences, instance.precedence_count);
-    let d = parts::write::write_field(out, c, 0, instance.yard_number);
-    let e = counted::write_lags(out, d, precedences, instance.precedence_count);
-    parts::write::write_byte(out, e, parts::index(instance.walkway))
-}
-
-// Writes the sheet into the lent room, if it is an instance and the room is long enough.
-pub fn write(instance: Instance, out: &mut [u8]) -> WriteAnswer
+// Writes the sheet into the lent room, if it is an instance and the room is long enough; returns how many bytes it wrote.
+#[tactic(auto, using(crate::proofs::Sheets::sheets), unfolding(crate::specs::Answers::write_answer, crate::specs::Answers::written_room))]
+pub fn write(instance: Instance, out: &mut [u8]) -> Result<usize, Refusal>
     ensures value { result ≡ write_answer instance (length out.old) }
     ensures out_after { out.new ≡ written_room instance out.old }
     ensures full { Full instance }
 {
     if !instance.is_valid() {
-        return WriteAnswer::Refused(Refusal::InvalidInstance);
+        return Err(Refusal::InvalidInstance);
     }
-    if out.len() < sheet_len(instance) {
-        return WriteAnswer::Refused(Refusal::BadArgument);
+    let sheet = Sheet { instance };
+    if out.len() < sheet.len() {
+        return Err(Refusal::BadArgument);
     }
-    WriteAnswer::Written(write_sheet(out, instance))
+    Ok(sheet.write(out))
 }

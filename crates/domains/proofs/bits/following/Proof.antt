@@ -1,9 +1,0 @@
--- `domains::bits::following` meets its contract.
-use Rattle.std.specs.Prelude.{◌/◌, ◌^◌}
-use Rattle.prelude.specs.Names.{arith}
-use Rattle.domains.proofs.BitLaws.{bit-and, bit_shr, and_small-right}
-use Rattle.domains.proofs.bits.following.Tie as tie
-
-pub following_spec : {M : Type 1} → Rattle.domains.proofs.bits.following.Statement.statement M
-following_spec = tie.close (tie.spec
-    (λ c. let m = c.args.row in record { small = and_small-right 10 m (m / 2 ^ 20) (omega arith); is = λ v h. simp (bit-and, bit_shr) }))

@@ -1,0 +1,8 @@
+use Rattle.std.specs.Prelude.{◌/◌, ◌^◌}
+use Rattle.prelude.specs.Names.{and-true, arith, bit_and}
+use Rattle.domains.proofs.BitLaws.{bit-and, bit_shr, bit_ones, and_small-right}
+use Rattle.domains.proofs.bits.leading.Goals as goal
+
+pub returns : goal.returns
+returns c = let m = c.args.row in
+    record { small = and_small-right 10 (bit_and m (m / 2 ^ 10)) 1023 (omega arith); is = λ v h. simp (bit-and, bit_shr, bit_ones 10 v h, and-true) }

@@ -1,9 +1,0 @@
--- `test_exports::exports_read_place` meets its contract, by that of `Instance::read`.
-use Rattle.prelude.specs.Names.{rules}
-use Rattle.test_exports.proofs.exports_read_place.Tie as tie
-
-returns : tie.Need-returns
-returns c = rw (c.read_code-code.ensures.1, c.read.ensures)
-
-pub exports_read_place_spec : {M : Type 1} → Rattle.test_exports.proofs.exports_read_place.Statement.statement M
-exports_read_place_spec = tie.close (tie.spec (λ c κs. search rules) (λ c κs. search rules) returns)

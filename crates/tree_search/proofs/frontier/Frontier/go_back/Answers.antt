@@ -1,0 +1,40 @@
+-- Where a branch is left, there is a snapshot to go back to; it is loaded, and the second branch taken.
+use Rattle.prelude.specs.Names.{arith}
+use Rattle.tree_search.proofs.Frontiers.{branches_held, none_left, last_level, last_laid, last_tabled, last_rises, last_branchable, went_back}
+use Rattle.tree_search.proofs.frontier.Frontier.go_back.Goals as goal
+
+pub back-self-requires : goal.back-self-requires
+back-self-requires c = branches_held c.requires.2
+
+pub returns-then-self-eq0 : goal.returns-then-self-eq0
+returns-then-self-eq0 c = λ p path h. none_left h c.back-self.ensures c.if-self-eq0.true
+
+pub overflow_sub-self : goal.overflow_sub-self
+overflow_sub-self c = (last_level c.requires.2 c.back-self.ensures c.if-self-eq0.false).0
+
+pub offset_bounds-snapshots-self : goal.offset_bounds-snapshots-self
+offset_bounds-snapshots-self c = omega (arith, (last_level c.requires.2 c.back-self.ensures c.if-self-eq0.false).1)
+
+pub listed : goal.listed
+listed c = omega (arith, (last_level c.requires.2 c.back-self.ensures c.if-self-eq0.false).1, c.requires.2.stands.room)
+
+pub bounds-snapshots-self : goal.bounds-snapshots-self
+bounds-snapshots-self c = (last_level c.requires.2 c.back-self.ensures c.if-self-eq0.false).1
+
+pub load-requires-clause-laid : goal.load-requires-clause-laid
+load-requires-clause-laid c = last_laid c.requires.2 c.back-self.ensures c.if-self-eq0.false c.index-snapshots-self.result
+
+pub load-requires-clause-tabled : goal.load-requires-clause-tabled
+load-requires-clause-tabled c = last_tabled c.requires.2 c.back-self.ensures c.if-self-eq0.false c.index-snapshots-self.result
+
+pub pair_number-self-requires : goal.pair_number-self-requires
+pair_number-self-requires c = last_rises c.requires.2 c.back-self.ensures c.if-self-eq0.false c.index-snapshots-self.result
+
+pub apply_branch-requires : goal.apply_branch-requires
+apply_branch-requires c =
+    rw c.load.ensures.domains (last_branchable c.requires.2 c.back-self.ensures c.if-self-eq0.false c.index-snapshots-self.result)
+
+pub returns : goal.returns
+returns c = λ p path h.
+    went_back h c.back-self.ensures c.if-self-eq0.false c.index-snapshots-self.result c.load.new.store c.apply_branch.new.store c.load.new.totals
+    c.load.ensures.domains c.load.ensures.totals c.apply_branch.ensures c.pair_number-self.ensures

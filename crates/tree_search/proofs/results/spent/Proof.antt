@@ -1,8 +1,0 @@
--- `tree_search::results::spent` meets its contract.
-use Rattle.prelude.specs.Names.{rules}
-use Rattle.tree_search.specs.Results.{spent_after}
-use Rattle.tree_search.proofs.results.spent.Tie as tie
-
-pub spent_spec : {M : Type 1} → Rattle.tree_search.proofs.results.spent.Statement.statement M
-unfolding spent_after
-spent_spec = tie.close (tie.spec (λ c κs. search rules) (λ c. rw c.origins-positions.ensures))
