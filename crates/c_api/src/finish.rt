@@ -1,13 +1,13 @@
 // The earliest finish for a C program.
-ghost use Rattle.std.specs.Prelude.{◌≡◌, true};
+ghost use Rattle.std.specs.Prelude.{◌≡◌};
 ghost use Rattle.formats.specs.Reading.{Bytes};
-ghost use Rattle.instance.specs.Valid.{valid};
 ghost use Rattle.c_api.specs.Calls.{code_of};
 ghost use Rattle.c_api.specs.Finishes.{finish_fits, finish_code, length_after, finish_steps_after, finish_plan_after};
 
 use crate::{code_of, outputs_fit, put_answer};
 use buffers::words;
 use instance::Instance;
+use instance::valid::ValidInstance;
 use refusal::Refusal;
 
 // The shortest time, in shifts, in which the sheet has a plan: 0 spent, 1 placed, 2 none, 100 plus the number of a refusal.
@@ -28,11 +28,10 @@ pub fn hallplan_finish(
 }
 
 // Whether the lent buffers are as long as they must be.
-fn finish_fits(instance: Instance, shifts: usize, steps: usize, plan: usize) -> bool
-    requires { valid instance ≡ true }
-    ensures { result ≡ finish_fits instance shifts steps plan }
+fn finish_fits(valid: ValidInstance, shifts: usize, steps: usize, plan: usize) -> bool
+    ensures { result ≡ finish_fits valid.instance shifts steps plan }
 {
-    shifts == buffers::FINISH_BYTES && outputs_fit(instance, steps, plan)
+    shifts == buffers::FINISH_BYTES && outputs_fit(valid, steps, plan)
 }
 
 // The number of the sheet's earliest finish; what it leaves in the lent buffers.
@@ -49,7 +48,8 @@ fn finish_sheet(
     ensures plan_after { plan.new ≡ finish_plan_after sheet.now allowance shifts.old steps.old plan.old }
 {
     let instance = Instance::read(sheet)?;
-    if !finish_fits(instance, shifts.len(), steps.len(), plan.len()) {
+    let valid = ValidInstance { instance };
+    if !finish_fits(valid, shifts.len(), steps.len(), plan.len()) {
         return Err(Refusal::BadArgument);
     }
     let finish = makespan::earliest_finish(instance, allowance);

@@ -4,15 +4,15 @@
 ghost use Rattle.sheet.specs.Sheet.{max_items};
 ghost use Rattle.buffers.specs.Bytes.{packing_bytes, step_bytes};
 ghost use Rattle.buffers.specs.Lengths.{note_length, steps_length, piece_length};
-ghost use Rattle.std.specs.Prelude.{◌≡◌, true, ◌*◌, ◌≤◌, length};
+ghost use Rattle.std.specs.Prelude.{◌≡◌, ◌*◌, ◌≤◌, length};
 ghost use Rattle.formats.specs.Reading.{Bytes};
-ghost use Rattle.instance.specs.Valid.{valid};
 ghost use Rattle.search.specs.Results.{answer_number};
 ghost use Rattle.c_api.specs.Calls.{check_code, pieces_code, search_code, note_after, steps_after, plan_after};
 ghost use Rattle.c_api.specs.Calls.{code_of, outputs_fit, lengths_fit};
 ghost use Rattle.c_api.specs.Calls.{PathFits, when_packed, note_left, steps_left, plan_left};
 
 use buffers::{checkpoints, plans, words};
+use instance::valid::ValidInstance;
 use instance::{Instance, Packing};
 use refusal::Refusal;
 use search::answer::{Answer, SearchResult};
@@ -84,19 +84,17 @@ fn count_pieces(sheet: &[u8]) -> Result<u32, Refusal>
 // Whether the step bytes and the plan bytes are as many as they must be. They stay two slices, and no struct of both, since C hands each over by itself, and
 // each contract would have to say of such a struct what it borrows.
 #[tactic(auto, using(crate::proofs::Sheets::few_items))]
-fn outputs_fit(instance: Instance, steps: usize, plan: usize) -> bool
-    requires { valid instance ≡ true }
-    ensures { result ≡ outputs_fit instance steps plan }
+fn outputs_fit(valid: ValidInstance, steps: usize, plan: usize) -> bool
+    ensures { result ≡ outputs_fit valid.instance steps plan }
 {
-    steps == buffers::STEP_BYTES && plan == buffers::PIECE_BYTES * instance.item_count
+    steps == buffers::STEP_BYTES && plan == buffers::PIECE_BYTES * valid.instance.item_count
 }
 
 // Whether the buffers lent to the search are as long as they must be.
-fn lengths_fit(instance: Instance, note: usize, steps: usize, plan: usize) -> bool
-    requires { valid instance ≡ true }
-    ensures { result ≡ lengths_fit instance note steps plan }
+fn lengths_fit(valid: ValidInstance, note: usize, steps: usize, plan: usize) -> bool
+    ensures { result ≡ lengths_fit valid.instance note steps plan }
 {
-    note == buffers::NOTE_BYTES && outputs_fit(instance, steps, plan)
+    note == buffers::NOTE_BYTES && outputs_fit(valid, steps, plan)
 }
 
 // The number of the search's call on the sheet; what it leaves in the lent buffers.
@@ -113,7 +111,8 @@ fn search_sheet(
     ensures plan_after { plan.new ≡ plan_after sheet.now note.old allowance steps.old plan.old }
 {
     let instance = Instance::read(sheet)?;
-    if !lengths_fit(instance, note.len(), steps.len(), plan.len()) {
+    let valid = ValidInstance { instance };
+    if !lengths_fit(valid, note.len(), steps.len(), plan.len()) {
         return Err(Refusal::BadArgument);
     }
     if !checkpoints::is_checkpoint(note) {

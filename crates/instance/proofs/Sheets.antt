@@ -31,6 +31,12 @@ valid-says i h =
     let (g, k) = both_true (all_in_range (items_of i)) _ f in
     record { items-few = leb-true _ _ a; precedences-few = leb-true _ _ c; container-in_range = e; items_in_range = g; precedences-allowed = k }
 
+pub items-few : (i : Instance) → valid i ≡ true → i.item_count ≤ max_items
+items-few i h = (valid-says i h).items-few
+
+pub precedences-few : (i : Instance) → valid i ≡ true → i.precedence_count ≤ max_precedences
+precedences-few i h = (valid-says i h).precedences-few
+
 -- each of the precedences that are allowed names two items below n
 pub allowed_at : (n : ℕ) (last : Option Precedence) (os : List Precedence) → all_allowed n last (map arc_of os) ≡ true → (k : ℕ) → k < length os
     → let o = get_or os k no_precedence in (o.predecessor < n) × (o.successor < n) × (o.predecessor ≢ o.successor)

@@ -4,3 +4,4 @@ pub mod Meaning
 pub mod Sheets
 pub mod Answers
 pub mod Reads
+pub mod Validated

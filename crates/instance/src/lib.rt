@@ -5,12 +5,16 @@ ghost use Rattle.std.specs.Prelude.{◌≡◌};
 ghost use Rattle.instance.specs.Answers.{read_result};
 ghost use Rattle.instance.specs.Sheets.{decode};
 ghost use Rattle.instance.specs.Valid.{valid};
+ghost use Rattle.instance.specs.Validated.{Validated};
 ghost use Rattle.instance.specs.Values.{opening_checkpoint, origin_packing};
 
+use crate::valid::ValidInstance;
 use lists::{Items, Precedences};
 use parts::read::Rest;
 use parts::{Item, Precedence, Size, bit_is_set};
 use refusal::Refusal;
+
+pub mod valid;
 
 // A sheet. Entries past the counts are no part of it. A count stands beside each array: a value may count more than there is room for, which gets
 // refusal 9, and `valid`, `instance_of` and `SameInstance` speak of the fields.
@@ -130,6 +134,16 @@ impl Instance {
             && parts::valid::size_in_range(self.container)
             && lists::all_in_range(&self.items[..self.item_count])
             && lists::all_in_order(&self.precedences[..self.precedence_count], self.item_count)
+    }
+
+    // The value as a valid instance; or refusal 9, where one of that number's conditions holds.
+    pub fn validated(self) -> Result<ValidInstance, Refusal>
+        ensures { Validated self result }
+    {
+        if !self.is_valid() {
+            return Err(Refusal::InvalidInstance);
+        }
+        Ok(ValidInstance { instance: self })
     }
 }
 

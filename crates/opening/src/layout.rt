@@ -2,7 +2,6 @@
 ghost use Rattle.std.specs.Prelude.{◌≡◌, true, map, ◌+◌, ◌≤◌, ◌<◌, get_or, length, replicate};
 ghost use Rattle.parts.specs.Precedences.{arc_of, all_allowed};
 ghost use Rattle.parts.specs.Sizes.{max_measure};
-ghost use Rattle.instance.specs.Valid.{valid};
 ghost use Rattle.instance.specs.Meaning.{problem_of};
 ghost use Rattle.model.specs.Wide.{wide};
 ghost use Rattle.opening.specs.Layout.{with_walkway, put, put_item, max_spaced, Measures, LaidOut, LargeIf};
@@ -11,7 +10,7 @@ ghost use Rattle.opening.specs.Layout.{RowStepped, Stepped, put_lag, LagsLaid, F
 use chains::totals::{CAPACITY, GAPPED, NUMBERS, SIZES, STARTS, STEPS, Totals};
 use domains::ROWS;
 use domains::store::Conflict;
-use instance::Instance;
+use instance::valid::ValidInstance;
 use parts::{Precedence, Size};
 
 // Measures with the walkway behind them, on x and y.
@@ -28,7 +27,7 @@ fn with_walkway(size: Size, walkway: u8) -> Size
 
 // A measure at its place, and as the totals of the item alone.
 fn put_size(t: &mut [u16; NUMBERS], i: usize, size: u16)
-    requires { (length t.old ≡ 696) × (i < 30) }
+    requires { i < 30 }
     ensures { t.new ≡ put t.old i size }
 {
     t[i] = size;
@@ -38,7 +37,7 @@ fn put_size(t: &mut [u16; NUMBERS], i: usize, size: u16)
 
 // The measures of an item.
 fn put_item(t: &mut [u16; NUMBERS], u: usize, size: Size)
-    requires { (length t.old ≡ 696) × (u < 10) }
+    requires { u < 10 }
     ensures { t.new ≡ put_item t.old u size }
 {
     put_size(t, u, size.width);
@@ -48,10 +47,11 @@ fn put_item(t: &mut [u16; NUMBERS], u: usize, size: Size)
 
 // The measures of an instance with its walkway, 0 past its items, with chains of one item each. The container is longer by one walkway: the one
 // behind the last item.
-fn put_items(t: &mut [u16; NUMBERS], instance: Instance)
-    requires { (t.old ≡ replicate 696 0) × (valid instance ≡ true) }
-    ensures { LaidOut (wide (problem_of instance)) t.new × Measures t.new }
+fn put_items(t: &mut [u16; NUMBERS], valid: ValidInstance)
+    requires { t.old ≡ replicate 696 0 }
+    ensures { LaidOut (wide (problem_of valid.instance)) t.new × Measures t.new }
 {
+    let instance = valid.instance;
     let walkway = instance.walkway;
     let capacity = with_walkway(instance.container, walkway);
     t[CAPACITY] = capacity.width;
@@ -64,7 +64,6 @@ fn put_items(t: &mut [u16; NUMBERS], instance: Instance)
 
 // Whether an item is above the container's measure.
 fn any_large(t: &[u16; NUMBERS]) -> bool
-    requires { length t.now ≡ 696 }
     ensures { LargeIf t.now result }
 {
     for i in 0..ROWS {
@@ -77,7 +76,7 @@ fn any_large(t: &[u16; NUMBERS]) -> bool
 
 // A row of steps is the measures on an axis.
 fn put_row(t: &mut [u16; NUMBERS], i: usize, a: usize)
-    requires { (length t.old ≡ 696) × (i < 60) × (a < 3) }
+    requires { (i < 60) × (a < 3) }
     ensures { RowStepped i a t.old t.new }
 {
     let sizes = SIZES + a * 10;
@@ -86,7 +85,6 @@ fn put_row(t: &mut [u16; NUMBERS], i: usize, a: usize)
 
 // All sixty rows: of each direction, axis and item.
 fn put_steps(t: &mut [u16; NUMBERS])
-    requires { length t.old ≡ 696 }
     ensures { Stepped 60 t.old t.new }
 {
     for i in 0..60 {
@@ -96,7 +94,7 @@ fn put_steps(t: &mut [u16; NUMBERS])
 
 // The lag of two items on t, from either end, where it is the greatest of theirs so far.
 fn put_lag(t: &mut [u16; NUMBERS], u: usize, v: usize, lag: u8)
-    requires { (length t.old ≡ 696) × (u < 10) × (v < 10) × (get_or t.old (80 + u) 0 ≤ max_spaced) × (get_or t.old (80 + v) 0 ≤ max_spaced) }
+    requires { (u < 10) × (v < 10) × (get_or t.old (80 + u) 0 ≤ max_spaced) × (get_or t.old (80 + v) 0 ≤ max_spaced) }
     ensures { (t.new ≡ put_lag t.old u v lag) × (lag ≤ 255) }
 {
     let ends = STEPS + (20 + u) * 10 + v;
@@ -111,7 +109,7 @@ fn put_lag(t: &mut [u16; NUMBERS], u: usize, v: usize, lag: u8)
 
 // The lags of precedences, where no lag was put yet.
 fn put_lags(t: &mut [u16; NUMBERS], precedences: &[Precedence])
-    requires t_len { (length t.old ≡ 696) × (all_allowed 10 None (map arc_of precedences.now) ≡ true) }
+    requires allowed { all_allowed 10 None (map arc_of precedences.now) ≡ true }
     requires measures { Measures t.old }
     ensures { LagsLaid precedences.now t.old t.new }
 {
@@ -123,16 +121,16 @@ fn put_lags(t: &mut [u16; NUMBERS], precedences: &[Precedence])
 }
 
 // An instance laid out: its measures, walkway included, with the steps of its chains; or that an item is above the container's measure.
-pub fn lay_out(instance: Instance) -> Result<Totals, Conflict>
-    requires { valid instance ≡ true }
-    ensures { FitsIf (problem_of instance) result }
+pub fn lay_out(valid: ValidInstance) -> Result<Totals, Conflict>
+    ensures { FitsIf (problem_of valid.instance) result }
 {
     let mut numbers = [0; NUMBERS];
-    put_items(&mut numbers, instance);
+    put_items(&mut numbers, valid);
     if any_large(&numbers) {
         return Err(Conflict);
     }
     put_steps(&mut numbers);
+    let instance = &valid.instance;
     put_lags(
         &mut numbers,
         &instance.precedences[..instance.precedence_count],

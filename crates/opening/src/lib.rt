@@ -3,7 +3,6 @@
 
 ghost use Rattle.std.specs.Prelude.{◌≡◌, true, map};
 ghost use Rattle.parts.specs.Precedences.{arc_of, all_allowed};
-ghost use Rattle.instance.specs.Valid.{valid};
 ghost use Rattle.instance.specs.Meaning.{problem_of};
 ghost use Rattle.opening.specs.Openings.{Fixes, Cuts, RootedIf};
 
@@ -11,7 +10,7 @@ use chains::totals::{STARTS, Totals};
 use domains::ROWS;
 use domains::bits::bit;
 use domains::store::{Conflict, Store};
-use instance::Instance;
+use instance::valid::ValidInstance;
 use parts::Precedence;
 
 mod layout;
@@ -49,12 +48,12 @@ fn cut_pairs(store: &mut Store, totals: &Totals) -> Result<(), Conflict>
 }
 
 // The root of the search; or that the opening domains are inconsistent.
-pub fn root_of(instance: Instance) -> Result<Root, Conflict>
-    requires { valid instance ≡ true }
-    ensures { RootedIf (problem_of instance) result }
+pub fn root_of(valid: ValidInstance) -> Result<Root, Conflict>
+    ensures { RootedIf (problem_of valid.instance) result }
 {
-    let totals = layout::lay_out(instance)?;
+    let totals = layout::lay_out(valid)?;
     let mut store = Store::full();
+    let instance = &valid.instance;
     fix_precedences(
         &mut store,
         &instance.precedences[..instance.precedence_count],

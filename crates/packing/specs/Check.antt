@@ -6,6 +6,7 @@ use Rattle.refusal.specs.declared.Refusal.TheVariants.{InvalidInstance, BadMark}
 use Rattle.refusal.specs.Numbers.{number_of}
 use Rattle.instance.specs.declared.Instance.{Instance}
 use Rattle.instance.specs.declared.Packing.{Packing}
+use Rattle.instance.specs.declared.valid.ValidInstance.{ValidInstance}
 use Rattle.instance.specs.Valid.{valid}
 use Rattle.instance.specs.Meaning.{problem_of, positions_of}
 use Rattle.model.specs.Turning.{turned}
@@ -24,8 +25,8 @@ abbrev pub turned_by : Instance → Packing → M.Problem
 turned_by i q = turned (problem_of i) (marks_in q.marks)
 
 -- the instance with its marked items turned, or 13 where a mark may not stand
-abbrev pub TurnsMarked : Instance → List ℕ → Result Instance Refusal → Type 0
-TurnsMarked i marks r = MatchResult r (λ turned. (marks_allowed i marks ≡ true) × (turned ≡ turned_instance i marks))
+abbrev pub TurnsMarked : Instance → List ℕ → Result ValidInstance Refusal → Type 0
+TurnsMarked i marks r = MatchResult r (λ turned. (marks_allowed i marks ≡ true) × (turned.instance ≡ turned_instance i marks))
     (λ e. (marks_allowed i marks ≡ false) × (e ≡ BadMark))
 
 unfoldable pub check_answer : Instance → Packing → Result Bool Refusal

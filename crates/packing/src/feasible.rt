@@ -1,33 +1,32 @@
 // Whether a packing is feasible, by its three conditions.
 ghost use Rattle.sheet.specs.Sheet.{max_items};
-ghost use Rattle.std.specs.Prelude.{true, ◌≡◌, ◌≤◌, ◌<◌};
+ghost use Rattle.std.specs.Prelude.{◌≡◌, ◌<◌};
 ghost use Rattle.model.specs.Problem.{inside_test, apart_on_some_axis, apart_test, ordered_test, feasible};
 ghost use Rattle.instance.specs.Meaning.{problem_of, positions_of};
-ghost use Rattle.instance.specs.Valid.{valid};
 ghost use Rattle.packing.specs.Axes.{axis_number};
 ghost use Rattle.packing.specs.Parts.{inside_on, apart_from_lower, precedence_kept};
 
 use crate::axes::{Axis, Placed};
+use instance::valid::ValidInstance;
 use instance::{Instance, Packing};
 use parts::Precedence;
 
 // On one axis every item ends within the container.
-fn inside_on_axis(instance: Instance, packing: Packing, axis: Axis) -> bool
-    requires { instance.item_count ≤ max_items }
-    ensures { result ≡ inside_on (problem_of instance) (positions_of packing) (axis_number axis) }
+fn inside_on_axis(valid: ValidInstance, packing: Packing, axis: Axis) -> bool
+    ensures { result ≡ inside_on (problem_of valid.instance) (positions_of packing) (axis_number axis) }
 {
+    let instance = valid.instance;
     let limit = u32::from(axis.measure_of(instance.container));
     (0..instance.item_count).all(|u| Placed::new(&instance, &packing, u).end(axis) <= limit)
 }
 
 // On every axis every item ends within the container.
-fn inside(instance: Instance, packing: Packing) -> bool
-    requires { instance.item_count ≤ max_items }
-    ensures { result ≡ inside_test (problem_of instance) (positions_of packing) }
+fn inside(valid: ValidInstance, packing: Packing) -> bool
+    ensures { result ≡ inside_test (problem_of valid.instance) (positions_of packing) }
 {
     Axis::ALL
         .iter()
-        .all(|axis| inside_on_axis(instance, packing, *axis))
+        .all(|axis| inside_on_axis(valid, packing, *axis))
 }
 
 // Two items are apart on some axis: on x and y by the walkway.
@@ -49,10 +48,10 @@ fn apart_from_lower_items(instance: Instance, packing: Packing, u: usize) -> boo
 }
 
 // Each two items are apart on some axis.
-fn apart(instance: Instance, packing: Packing) -> bool
-    requires { instance.item_count ≤ max_items }
-    ensures { result ≡ apart_test (problem_of instance) (positions_of packing) }
+fn apart(valid: ValidInstance, packing: Packing) -> bool
+    ensures { result ≡ apart_test (problem_of valid.instance) (positions_of packing) }
 {
+    let instance = valid.instance;
     (0..instance.item_count).all(|u| apart_from_lower_items(instance, packing, u))
 }
 
@@ -67,10 +66,10 @@ fn is_kept(instance: Instance, packing: Packing, o: Precedence) -> bool
 }
 
 // Each precedence is kept on t, with its lag.
-fn ordered(instance: Instance, packing: Packing) -> bool
-    requires { valid instance ≡ true }
-    ensures { result ≡ ordered_test (problem_of instance) (positions_of packing) }
+fn ordered(valid: ValidInstance, packing: Packing) -> bool
+    ensures { result ≡ ordered_test (problem_of valid.instance) (positions_of packing) }
 {
+    let instance = valid.instance;
     instance
         .precedences
         .iter()
@@ -79,9 +78,8 @@ fn ordered(instance: Instance, packing: Packing) -> bool
 }
 
 // All three.
-pub fn is_feasible(instance: Instance, packing: Packing) -> bool
-    requires { valid instance ≡ true }
-    ensures { result ≡ feasible (problem_of instance) (positions_of packing) }
+pub fn is_feasible(valid: ValidInstance, packing: Packing) -> bool
+    ensures { result ≡ feasible (problem_of valid.instance) (positions_of packing) }
 {
-    inside(instance, packing) && apart(instance, packing) && ordered(instance, packing)
+    inside(valid, packing) && apart(valid, packing) && ordered(valid, packing)
 }

@@ -1,12 +1,12 @@
 // The check of a packing, and the clearance of two items.
 #![tactic(auto)]
 
-ghost use Rattle.std.specs.Prelude.{◌≡◌, ◌≤◌};
-ghost use Rattle.sheet.specs.Sheet.{max_items};
+ghost use Rattle.std.specs.Prelude.{◌≡◌};
 ghost use Rattle.packing.specs.Check.{check_answer, Decides, TurnsMarked};
 ghost use Rattle.packing.specs.Clearance.{clearance_answer, Answers};
 
 use crate::axes::Axis;
+use instance::valid::ValidInstance;
 use instance::{Instance, Packing};
 use refusal::Refusal;
 
@@ -15,14 +15,14 @@ mod feasible;
 mod signed;
 
 // The instance with the items turned that the packing marks.
-fn turned_by(instance: Instance, packing: Packing) -> Result<Instance, Refusal>
-    requires { instance.item_count ≤ max_items }
-    ensures { TurnsMarked instance packing.marks result }
+fn turned_by(valid: ValidInstance, packing: Packing) -> Result<ValidInstance, Refusal>
+    ensures { TurnsMarked valid.instance packing.marks result }
 {
-    if !turning::marks_allowed(instance, packing.marks) {
+    if !turning::marks_allowed(valid.instance, packing.marks) {
         return Err(Refusal::BadMark);
     }
-    Ok(turning::turned(instance, packing.marks))
+    let instance = turning::turned(valid.instance, packing.marks);
+    Ok(ValidInstance { instance })
 }
 
 // Whether the packing is feasible, with the marked items turned. Positions and marks past the instance's count are ignored.
@@ -30,10 +30,8 @@ pub fn check(instance: Instance, packing: Packing) -> Result<bool, Refusal>
     ensures value { result ≡ check_answer instance packing }
     ensures decides { Decides instance packing result }
 {
-    if !instance.is_valid() {
-        return Err(Refusal::InvalidInstance);
-    }
-    let turned = turned_by(instance, packing)?;
+    let valid = instance.validated()?;
+    let turned = turned_by(valid, packing)?;
     Ok(feasible::is_feasible(turned, packing))
 }
 
@@ -48,13 +46,11 @@ pub fn clearance(
     ensures value { result ≡ clearance_answer instance packing u v axis }
     ensures answers { Answers instance packing u v axis result }
 {
-    if !instance.is_valid() {
-        return Err(Refusal::InvalidInstance);
-    }
+    let valid = instance.validated()?;
     if instance.item_count <= u || instance.item_count <= v {
         return Err(Refusal::BadItem(0));
     }
     let axis = Axis::try_from(axis)?;
-    let turned = turned_by(instance, packing)?;
-    Ok(signed::clearance_on(turned, packing, u, v, axis))
+    let turned = turned_by(valid, packing)?;
+    Ok(signed::clearance_on(turned.instance, packing, u, v, axis))
 }

@@ -92,12 +92,6 @@ pub choice-instance : (i : Instance) → length i.items ≡ 10 → valid i ≡ t
 choice-instance i long v c {marks} {j} m e =
     (ap problem_of (e ∙ ap (turned_instance i) m) ∙ choice-turned i long (valid-says i v).items-few c, ap valid e ∙ valid-turned i long marks v)
 
--- so its search is that of the choice's problem
-pub search-instance : (i : Instance) → length i.items ≡ 10 → valid i ≡ true → (c : ℕ) {marks : List ℕ} {j : Instance}
-    → marks ≡ choice_marks (turnable_of i) c → j ≡ turned_instance i marks → (budget : ℕ) (κ : S.Checkpoint) {r : TreeResult}
-    → r ≡ tree_result (problem_of j) budget κ → r ≡ tree_result (choice_problem (turnable_of i) c) budget κ
-search-instance i long v c m e budget κ h = h ∙ ap (λ (p : Problem). tree_result p budget κ) (choice-instance i long v c m e).0
-
 module _ (t : Turnable) (c : Checkpoint) where
   -- a call from s under what is left of the budget, m steps after the start
   abbrev from_if : Bool → ℕ → ℕ → ChoiceCheckpoint → SearchResult
@@ -192,13 +186,13 @@ module _ (t : Turnable) (c : Checkpoint) where
 -- The call on a finished checkpoint
 module _ (i : Instance) (c : Checkpoint) (budget : ℕ) where
   -- packed: as its path is in its choice
-  pub packed_in : c.choice ≤ last_choice (turnable_of i) → {r : TreeResult}
-      → r ≡ tree_result (choice_problem (turnable_of i) c.choice) budget (S.packed_at (value_path c))
-      → answer_in (turnable_of i) c c.choice 0 r ≡ followed (turnable_of i) budget c (stage c.choice (S.packed_at (value_path c)))
-  packed_in h {r} q =
-      ends_in (turnable_of i) c c.choice 0 budget (S.packed_at (value_path c)) q h refl (λ o. absurd (not-infeasible _ budget (value_path c) q o))
+  pub packed_in : (path : List Branch) → c.choice ≤ last_choice (turnable_of i) → {r : TreeResult}
+      → r ≡ tree_result (choice_problem (turnable_of i) c.choice) budget (S.packed_at path)
+      → answer_in (turnable_of i) c c.choice 0 r ≡ followed (turnable_of i) budget c (stage c.choice (S.packed_at path))
+  packed_in path h {r} q =
+      ends_in (turnable_of i) c c.choice 0 budget (S.packed_at path) q h refl (λ o. absurd (not-infeasible _ budget path q o))
       (choice-listed i c.choice)
-      ∙ from_start (turnable_of i) c budget (stage c.choice (S.packed_at (value_path c)))
+      ∙ from_start (turnable_of i) c budget (stage c.choice (S.packed_at path))
 
   -- infeasible: with the last choice, and with no other
   pub infeasible_last : {last : ℕ} → last ≡ last_choice (turnable_of i) → last ≡ c.choice

@@ -8,7 +8,7 @@ ghost use Rattle.search.specs.Results.{search_result};
 use crate::answer::SearchResult;
 use instance::{Checkpoint, Instance, Status};
 use refusal::Refusal;
-use tree_paths::path;
+use tree_paths::path::Path;
 
 pub mod answer;
 mod choices;
@@ -18,15 +18,18 @@ pub fn search(instance: Instance, checkpoint: Checkpoint, budget: u32) -> Search
     ensures value { result ≡ search_result instance checkpoint budget }
     ensures full { Full instance }
 {
-    if !instance.is_valid() {
+    let Ok(valid) = instance.validated() else {
         return SearchResult::refused(Refusal::InvalidInstance, checkpoint);
-    }
-    if !path::is_well_formed(checkpoint) || turning::last_choice(instance) < checkpoint.choice {
+    };
+    let Some(path) = Path::of(checkpoint) else {
+        return SearchResult::refused(Refusal::NotFollowing, checkpoint);
+    };
+    if turning::last_choice(valid.instance) < checkpoint.choice {
         return SearchResult::refused(Refusal::NotFollowing, checkpoint);
     }
     match checkpoint.status {
-        Status::Open => choices::run(instance, checkpoint, budget),
-        Status::Infeasible => choices::repeat_infeasible(instance, checkpoint),
-        Status::Packed => choices::repeat_packed(instance, checkpoint),
+        Status::Open => choices::run(valid, checkpoint, path, budget),
+        Status::Infeasible => choices::repeat_infeasible(valid, checkpoint),
+        Status::Packed => choices::repeat_packed(valid, checkpoint, path),
     }
 }

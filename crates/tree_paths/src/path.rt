@@ -8,6 +8,33 @@ ghost use Rattle.tree_paths.specs.Checkpoints.{well_formed, all_branches, length
 
 use instance::{Checkpoint, Instance, Status};
 
+// A path of branches, 0 for first and 1 for second, the first branch first. Entries past the length are no part of it.
+#[derive(Clone, Copy)]
+pub struct Path {
+    pub branches: [u8; Instance::MAX_BRANCHES],
+    pub length: usize,
+    ghost bits: { Bits length branches },
+}
+
+impl Path {
+    ghost use Rattle.tree_paths.specs.Paths.{PathOf};
+
+    // The path of a checkpoint; or none, where the value is no checkpoint.
+    pub fn of(checkpoint: Checkpoint) -> Option<Path>
+        ensures { PathOf checkpoint result }
+    {
+        if !is_well_formed(checkpoint) {
+            return None;
+        }
+        let Checkpoint {
+            length,
+            branches,
+            ..
+        } = checkpoint;
+        Some(Path { branches, length })
+    }
+}
+
 // Whether the length is allowed with the status.
 fn length_allowed(status: Status, length: usize) -> bool
     ensures { result ≡ length_allowed status length }
@@ -41,16 +68,12 @@ fn all_branches(branches: [u8; Instance::MAX_BRANCHES], n: usize) -> bool
 }
 
 // The branches of the path, with 0 past its length.
-pub fn path_branches(
-    given: [u8; Instance::MAX_BRANCHES],
-    length: usize,
-) -> [u8; Instance::MAX_BRANCHES]
-    requires { Bits length given }
-    ensures { result ≡ branches_of (path_of length given) }
+pub fn path_branches(path: Path) -> [u8; Instance::MAX_BRANCHES]
+    ensures { result ≡ branches_of (path_of path.length path.branches) }
 {
     let mut branches = [0; Instance::MAX_BRANCHES];
-    for i in 0..length {
-        branches[i] = given[i];
+    for i in 0..path.length {
+        branches[i] = path.branches[i];
     }
     branches
 }

@@ -1,22 +1,21 @@
 // The search of one problem: along a path from the root, and then the steps of a call.
 #![tactic(auto)]
 
-ghost use Rattle.std.specs.Prelude.{◌≡◌, true, List, [], ℕ};
+ghost use Rattle.std.specs.Prelude.{◌≡◌, List, [], ℕ};
 ghost use Rattle.model.specs.Problem.{Problem};
 ghost use Rattle.model.specs.Run as R;
 ghost use Rattle.model.specs.Search as S;
-ghost use Rattle.instance.specs.Valid.{valid};
 ghost use Rattle.instance.specs.Meaning.{problem_of};
-ghost use Rattle.tree_paths.specs.Checkpoints.{Bits, path_of};
+ghost use Rattle.tree_paths.specs.Checkpoints.{path_of};
 ghost use Rattle.tree_search.specs.Results.{tree_result};
 
 use crate::frontier::Frontier;
 use crate::outcome::{Outcome, TreeResult};
-use instance::Instance;
+use instance::valid::ValidInstance;
 use nodes::snapshots::{MAX_LEVELS, Snapshot};
 use nodes::starts::starts_of;
 use tree_paths::outlook::Outlook;
-use tree_paths::path;
+use tree_paths::path::{Path, path_branches};
 
 mod frontier;
 pub mod outcome;
@@ -36,30 +35,23 @@ fn dead_end(length: usize, budget: u32) -> TreeResult
 
 // The call on an open path: from the root along it, and then the steps, while the budget lasts. The frontier's branches are those to take at each
 // branching point: the path's, and past it 0, the first.
-pub fn run(
-    instance: Instance,
-    given: [u8; Instance::MAX_BRANCHES],
-    length: usize,
-    budget: u32,
-) -> TreeResult
-    requires instance_value { valid instance ≡ true }
-    requires bits { Bits length given }
-    ensures { result ≡ tree_result (problem_of instance) budget (S.open_at (path_of length given)) }
+pub fn run(valid: ValidInstance, path: Path, budget: u32) -> TreeResult
+    ensures { result ≡ tree_result (problem_of valid.instance) budget (S.open_at (path_of path.length path.branches)) }
 {
-    let Ok(root) = opening::root_of(instance) else {
-        return dead_end(length, budget);
+    let Ok(root) = opening::root_of(valid) else {
+        return dead_end(path.length, budget);
     };
-    let n = instance.item_count;
+    let n = valid.instance.item_count;
     let mut snapshots = [Snapshot::blank(); MAX_LEVELS];
     let mut frontier = Frontier {
         store: root.store,
         totals: root.totals,
         kept: 0,
-        branches: path::path_branches(given, length),
+        branches: path_branches(path),
         depth: 0,
         from: 0,
     };
-    if !frontier.follow(&mut snapshots, n, length) {
+    if !frontier.follow(&mut snapshots, n, path.length) {
         return TreeResult::of(Outcome::NotFollowing, 0);
     }
     for steps in 0..budget {
@@ -82,12 +74,10 @@ pub fn run(
 }
 
 // The call on a packed path: one step from it, which is none of this call, must come to it again.
-pub fn repeat(instance: Instance, given: [u8; Instance::MAX_BRANCHES], length: usize) -> TreeResult
-    requires instance_value { valid instance ≡ true }
-    requires bits { Bits length given }
-    ensures { (budget : ℕ) → result ≡ tree_result (problem_of instance) budget (S.packed_at (path_of length given)) }
+pub fn repeat(valid: ValidInstance, path: Path) -> TreeResult
+    ensures { (budget : ℕ) → result ≡ tree_result (problem_of valid.instance) budget (S.packed_at (path_of path.length path.branches)) }
 {
-    let again = run(instance, given, length, 1);
+    let again = run(valid, path, 1);
     match again.outcome {
         Outcome::Packed => TreeResult { steps: 0, ..again },
         Outcome::Infeasible | Outcome::Spent | Outcome::NotFollowing => {

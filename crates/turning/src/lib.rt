@@ -1,6 +1,7 @@
 // Items that may be turned: the choices of an instance, the marks of a choice, and an instance with its marked items turned.
 //
 // A mark is a byte and not a truth value: a plan comes from C as bytes, and a mark above 1 is refusal 13 of `packing::check` and `packing::clearance`.
+// Whoever counts up to ten items may ask, and no valid instance is asked for: docs/READING.md names these functions, and they may ask no more than that.
 #![tactic(auto)]
 
 ghost use Rattle.std.specs.Prelude.{◌≡◌, ◌≤◌, ◌<◌};

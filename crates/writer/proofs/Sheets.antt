@@ -1,6 +1,6 @@
 -- The bytes of an instance's sheet, part by part.
 use Rattle.std.specs.Int.{from_bool}
-use Rattle.std.specs.Prelude.{◌≡◌, ◌∷◌, ◌++◌, ◌+◌, ◌*◌, ◌≤◌}
+use Rattle.std.specs.Prelude.{◌≡◌, ◌∷◌, ◌++◌, ◌+◌, ◌*◌}
 use Rattle.prelude.specs.Names.{refl, ◌∙◌, true, List, [], append-nil, append_assoc, ℕ, suc, arith, length, set}
 use Rattle.prelude.specs.Names.{length-append, length-set, map, not, eqb, sets, ne_eqb}
 use lib.ListN.{length-map}
@@ -10,12 +10,12 @@ use Rattle.formats.proofs.Stores.{sets-front, stores, joined, stores_joined}
 use Rattle.parts.specs.Precedences.{lag_of}
 use Rattle.parts.specs.Parts.{number, byte_number, count_bytes, count_flag, measures, size_fields, lags_zero, lag_list}
 use Rattle.parts.proofs.Writers.{number-flag, byte_number-flag, number-count, byte_number-count, bit-most, precedences-length}
-use Rattle.sheet.specs.Sheet.{max_items, max_precedences, list_of, item_list, precedence_list, yard_number, walkway, sheet_fields, sheet}
+use Rattle.sheet.specs.Sheet.{list_of, item_list, precedence_list, yard_number, walkway, sheet_fields, sheet}
 use Rattle.instance.specs.declared.Instance.{Instance}
 use Rattle.instance.specs.Valid.{valid, items_of, precedences_of}
 use Rattle.instance.specs.Sheets.{sheet_of, encode}
 use Rattle.instance.specs.Reads.{Full}
-use Rattle.instance.proofs.Sheets.{valid-says, items-counted, precedences-counted, encode-most}
+use Rattle.instance.proofs.Sheets.{items-few, precedences-few, items-counted, precedences-counted, encode-most}
 use Rattle.writer.proofs.Lags.{lags-flag}
 use Rattle.writer.specs.Lists.{items_bytes, precedences_bytes, lags_bytes}
 
@@ -81,13 +81,6 @@ module _ (i : Instance) (h : valid i ≡ true) (full : Full i) where
   -- stored one after the other, they are the sheet
   pub encode_stored : (l : List ℕ) → stores (set l 0 (flags sheet_fields (sheet_of i))) 1 field-runs ≡ sets l 0 (encode i)
   encode_stored l = stores_joined (set l 0 (flags sheet_fields (sheet_of i))) 1 field-runs ∙ rw encode-is
-
--- its counts are within the limits
-pub items-few : (i : Instance) → valid i ≡ true → i.item_count ≤ max_items
-items-few i h = (valid-says i h).items-few
-
-pub precedences-few : (i : Instance) → valid i ≡ true → i.precedence_count ≤ max_precedences
-precedences-few i h = (valid-says i h).precedences-few
 
 -- what the proofs of the writer cite
 pub ruleset sheets = (map-bits, bit-most, number-count, byte_number-count, encode-length, encode-most, encode_stored, items-few, precedences-few, items-counted, precedences-counted, length-set, sets-front)

@@ -15,8 +15,8 @@ returns-in_err-instance c =
     let e = search_refused c.args.sheet.now c.in_err-instance.ensures c.args.note.now c.args.allowance c.args.steps.now c.args.plan.now in
     record { value = rw (p.1, p.2, e); note_after = rw e; steps_after = rw e; plan_after = rw e }
 
-pub lengths_fit-requires : goal.lengths_fit-requires
-lengths_fit-requires c = read_valid c.args.sheet.now c.in_ok-instance.ensures (λ j. (c.type_inv.sheet j).fits)
+pub invariant_of-valid : goal.invariant_of-valid
+invariant_of-valid c = record { is_valid = read_valid c.args.sheet.now c.in_ok-instance.ensures (λ j. (c.type_inv.sheet j).fits) }
 
 pub returns-then-not-lengths_fit : goal.returns-then-not-lengths_fit
 unfolding result_refused

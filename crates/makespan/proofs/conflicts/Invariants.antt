@@ -3,7 +3,7 @@ use Rattle.makespan.proofs.Bisection.{Between}
 use Rattle.makespan.proofs.conflicts.Given as goal
 
 abbrev pub invariant-loop-low : goal.invariant-loop-low
-invariant-loop-low l = Between l.fn.instance l.shortened l.low l.high
+invariant-loop-low l = Between l.fn.valid.instance l.shortened l.low l.high
 
 abbrev pub decreases-loop-low : goal.decreases-loop-low
 decreases-loop-low l = l.high - l.low

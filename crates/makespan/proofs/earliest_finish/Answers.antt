@@ -1,5 +1,5 @@
 use Rattle.std.specs.Prelude.{◌≡◌, ◌+◌, ◌/◌}
-use Rattle.prelude.specs.Names.{true, sym, ap, ◌∙◌, ℕ, arith}
+use Rattle.prelude.specs.Names.{true, ap, ◌∙◌, ℕ, arith}
 use Rattle.model.specs.Earliest.{earliest_finish}
 use Rattle.instance.proofs.Arrays.{length_mapped}
 use Rattle.instance.proofs.Sheets.{valid-says}
@@ -19,23 +19,23 @@ valid_finish : (i : Instance) (budget : ℕ) → valid i ≡ true → {r : Finis
 unfolding finish_result
 valid_finish i budget v e = rw v e
 
-pub returns-then-not-is_valid-clause-value : goal.returns-then-not-is_valid-clause-value
+pub returns-in_default-clause-value : goal.returns-in_default-clause-value
 unfolding finish_result finish_refused
-returns-then-not-is_valid-clause-value c = rw (← c.if-not-is_valid.ensures) c.without_packing.ensures
+returns-in_default-clause-value c = rw c.in_default.ensures.0 c.without_packing.ensures
 
 pub last_choice-requires : goal.last_choice-requires
-last_choice-requires c = (valid-says _ (sym c.if-not-is_valid.ensures)).items-few
+last_choice-requires c = (valid-says _ c.in-Ok.valid.is_valid).items-few
 
 pub returns-then-affordable-from-clause-value : goal.returns-then-affordable-from-clause-value
 unfolding spent_finish turnable_of
 returns-then-affordable-from-clause-value c =
+    let i = c.in-Ok.valid.instance in
     let a = c.args in
-    let v : valid a.instance ≡ true = sym c.if-not-is_valid.ensures in
-    let sound : Sound (turnable_of a.instance).given = valid-sound a.instance v (search length_mapped) in
-    let choices : c.from-choices.result + 1 ≡ choices_of (turnable_of a.instance) = omega (arith, c.from-choices.ensures, c.last_choice.ensures.0) in
-    valid_finish a.instance a.budget v (c.without_packing-then-affordable-from.ensures
-    ∙ within_known (turnable_of a.instance) sound c.conflicts-known.result a.budget c.conflicts-known.ensures _ (ap (λ (w : ℕ). a.budget / w) choices)
-    (omega (arith, c.if-affordable-from.true, c.from.ensures)))
+    let sound : Sound (turnable_of i).given = valid-sound i c.in-Ok.valid.is_valid (rw c.in-Ok.ensures (search length_mapped)) in
+    let choices : c.from-choices.result + 1 ≡ choices_of (turnable_of i) = omega (arith, c.from-choices.ensures, c.last_choice.ensures.0) in
+    rw (← c.in-Ok.ensures) (valid_finish i a.budget c.in-Ok.valid.is_valid (c.without_packing-then-affordable-from.ensures
+    ∙ within_known (turnable_of i) sound c.conflicts-known.result a.budget c.conflicts-known.ensures _ (ap (λ (w : ℕ). a.budget / w) choices)
+    (omega (arith, c.if-affordable-from.true, c.from.ensures))))
 
 pub returns-clause-value : goal.returns-clause-value
-returns-clause-value c = valid_finish c.args.instance c.args.budget (sym c.if-not-is_valid.ensures) c.try_lengths.ensures
+returns-clause-value c = rw (← c.in-Ok.ensures) (valid_finish c.in-Ok.valid.instance c.args.budget c.in-Ok.valid.is_valid c.try_lengths.ensures)

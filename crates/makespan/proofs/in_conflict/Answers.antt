@@ -28,9 +28,9 @@ not-none (Refused e) h = refl
 pub returns-in-Infeasible : goal.returns-in-Infeasible
 returns-in-Infeasible c =
     let s = c.search-first.ensures in
-    rw c.in-Infeasible.is at (told c.args.instance c.args.choices c.requires.0 c.requires.1 c.opening.ensures s.value s.full)
+    rw c.in-Infeasible.is at (told c.args.valid.instance c.args.choices c.args.valid.is_valid c.requires c.opening.ensures s.value s.full)
 
 pub returns-in_default : goal.returns-in_default
 returns-in_default c =
     let s = c.search-first.ensures in
-    rw (not-none _ c.in_default.not-Infeasible) at (told c.args.instance c.args.choices c.requires.0 c.requires.1 c.opening.ensures s.value s.full)
+    rw (not-none _ c.in_default.not-Infeasible) at (told c.args.valid.instance c.args.choices c.args.valid.is_valid c.requires c.opening.ensures s.value s.full)

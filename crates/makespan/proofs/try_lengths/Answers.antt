@@ -24,8 +24,8 @@ loop-length-init c =
     record {
       same = refl;
       afford = omega arith;
-      asked = past_known (turnable_of a.instance) (valid-sound a.instance c.requires.0 (search length_mapped)) a.known a.budget
-          c.requires.3 c.requires.1 c.requires.2;
+      asked = past_known (turnable_of a.valid.instance) (valid-sound a.valid.instance c.args.valid.is_valid (search length_mapped)) a.known a.budget
+          c.requires.2 c.requires.0 c.requires.1;
     }
 
 pub overflow_sub-result : goal.overflow_sub-result
@@ -34,40 +34,40 @@ overflow_sub-result c = c.loop-length.invariant.afford
 pub overflow_add-result : goal.overflow_add-result
 overflow_add-result c =
     let s = c.search-tried.ensures in
-    let tried = tried-here c.loop-length.invariant c.requires.0 c.loop-length-test.true c.opening.ensures s.value s.full in
+    let tried = tried-here c.loop-length.invariant c.args.valid.is_valid c.loop-length-test.true c.opening.ensures s.value s.full in
     omega (arith, steps_fit tried, c.loop-length.invariant.afford)
 
 pub returns-in-Packed : goal.returns-in-Packed
 unfolding packed_finish
 returns-in-Packed c =
     let s = c.search-tried.ensures in
-    let tried = tried-here c.loop-length.invariant c.requires.0 c.loop-length-test.true c.opening.ensures s.value s.full in
+    let tried = tried-here c.loop-length.invariant c.args.valid.is_valid c.loop-length-test.true c.opening.ensures s.value s.full in
     packed_here tried c.in-Packed.is
 
 pub overflow_sub-left-in-Infeasible : goal.overflow_sub-left-in-Infeasible
 overflow_sub-left-in-Infeasible c =
     let s = c.search-tried.ensures in
-    let tried = tried-here c.loop-length.invariant c.requires.0 c.loop-length-test.true c.opening.ensures s.value s.full in
+    let tried = tried-here c.loop-length.invariant c.args.valid.is_valid c.loop-length-test.true c.opening.ensures s.value s.full in
     steps_fit tried
 
 pub returns-in-BudgetSpent : goal.returns-in-BudgetSpent
 unfolding spent_finish
 returns-in-BudgetSpent c =
     let s = c.search-tried.ensures in
-    let tried = tried-here c.loop-length.invariant c.requires.0 c.loop-length-test.true c.opening.ensures s.value s.full in
+    let tried = tried-here c.loop-length.invariant c.args.valid.is_valid c.loop-length-test.true c.opening.ensures s.value s.full in
     c.without_packing.ensures ∙ spent_here tried c.in-BudgetSpent.is
 
 pub returns-in-Refused : goal.returns-in-Refused
 returns-in-Refused c =
     let s = c.search-tried.ensures in
-    let tried = tried-here c.loop-length.invariant c.requires.0 c.loop-length-test.true c.opening.ensures s.value s.full in
+    let tried = tried-here c.loop-length.invariant c.args.valid.is_valid c.loop-length-test.true c.opening.ensures s.value s.full in
     absurd (refused-not tried _ c.in-Refused.is)
 
 pub loop-length-preserved : goal.loop-length-preserved
 loop-length-preserved c =
     let l = c.loop-length in
     let s = c.search-tried.ensures in
-    let tried = tried-here l.invariant c.requires.0 c.loop-length-test.true c.opening.ensures s.value s.full in
+    let tried = tried-here l.invariant c.args.valid.is_valid c.loop-length-test.true c.opening.ensures s.value s.full in
     record {
       same = ap (λ j. with_shifts j (l.length + 1)) l.invariant.same;
       afford = omega (arith, l.invariant.afford);
@@ -82,6 +82,6 @@ unfolding no_finish
 returns c =
     let a = c.args in
     let l = c.loop-length in
-    let t = turnable_of a.instance in
-    c.without_packing-2.ensures ∙ (none_left t a.instance.container.shifts l.length a.budget l.left c.loop-length-test.false
+    let t = turnable_of a.valid.instance in
+    c.without_packing-2.ensures ∙ (none_left t a.valid.instance.container.shifts l.length a.budget l.left c.loop-length-test.false
     ∙ ap (finish_of t) (sym l.invariant.asked))

@@ -10,12 +10,12 @@ use Rattle.tree_search.proofs.repeat.Goals as goal
 pub returns-in-Packed : goal.returns-in-Packed
 unfolding packed_after
 returns-in-Packed c = λ budget.
-    rw c.in-Packed.is (again_packed (problem_of c.args.instance) (path_of c.args.length c.args.given) c.run-again.ensures budget c.in-Packed.is)
+    rw c.in-Packed.is (again_packed (problem_of c.args.valid.instance) (path_of c.args.path.length c.args.path.branches) c.run-again.ensures budget c.in-Packed.is)
 
 pub returns-in-Infeasible : goal.returns-in-Infeasible
 unfolding not_following
 returns-in-Infeasible c = λ budget.
-    c.of.ensures ∙ again_not (problem_of c.args.instance) (path_of c.args.length c.args.given) c.run-again.ensures budget
+    c.of.ensures ∙ again_not (problem_of c.args.valid.instance) (path_of c.args.path.length c.args.path.branches) c.run-again.ensures budget
     (λ n. elim c.in-Infeasible.is [
       | inl m ↦ let z : ◌≡◌ {A = ℕ} 0 1 = cc in omega arith
       | inr m ↦ elim m [

@@ -45,28 +45,28 @@ at_root i sound bits root at room held = record {
 
 pub follow-requires : goal.follow-requires
 follow-requires c =
-    let i = c.args.instance in
-    let sound = valid-sound i c.requires.instance_value (search (length_mapped, c.well_formed)) in
-    (problem_of i, c.args.given, at_root i sound c.requires.bits c.in-Ok.root c.in-Ok.ensures (length-replicate {A = Snapshot} 90 c.blank-snapshots.result) c.path_branches.ensures)
+    let i = c.args.valid.instance in
+    let sound = valid-sound i c.args.valid.is_valid (search (length_mapped, c.well_formed)) in
+    (problem_of i, c.args.path.branches, at_root i sound c.args.path.bits c.in-Ok.root c.in-Ok.ensures (length-replicate {A = Snapshot} 90 c.blank-snapshots.result) c.path_branches.ensures)
 
 pub returns-then-not-follow : goal.returns-then-not-follow
 unfolding not_following
 returns-then-not-follow c =
-    let i = c.args.instance in
-    let sound = valid-sound i c.requires.instance_value (search (length_mapped, c.well_formed)) in
-    c.of.ensures ∙ result_unfollowed (problem_of i) c.args.budget (S.open_at (path_of c.args.length c.args.given))
-    (c.if-not-follow.ensures (problem_of i) c.args.given
-    (at_root i sound c.requires.bits c.in-Ok.root c.in-Ok.ensures (length-replicate {A = Snapshot} 90 c.blank-snapshots.result) c.path_branches.ensures))
+    let i = c.args.valid.instance in
+    let sound = valid-sound i c.args.valid.is_valid (search (length_mapped, c.well_formed)) in
+    c.of.ensures ∙ result_unfollowed (problem_of i) c.args.budget (S.open_at (path_of c.args.path.length c.args.path.branches))
+    (c.if-not-follow.ensures (problem_of i) c.args.path.branches
+    (at_root i sound c.args.path.bits c.in-Ok.root c.in-Ok.ensures (length-replicate {A = Snapshot} 90 c.blank-snapshots.result) c.path_branches.ensures))
 
 pub loop-steps-init : goal.loop-steps-init
 unfolding problem_of
 loop-steps-init c =
-    let i = c.args.instance in
-    let sound = valid-sound i c.requires.instance_value (search (length_mapped, c.well_formed)) in
-    let (here, held) = c.if-not-follow.ensures (problem_of i) c.args.given
-    (at_root i sound c.requires.bits c.in-Ok.root c.in-Ok.ensures (length-replicate {A = Snapshot} 90 c.blank-snapshots.result) c.path_branches.ensures) in
+    let i = c.args.valid.instance in
+    let sound = valid-sound i c.args.valid.is_valid (search (length_mapped, c.well_formed)) in
+    let (here, held) = c.if-not-follow.ensures (problem_of i) c.args.path.branches
+    (at_root i sound c.args.path.bits c.in-Ok.root c.in-Ok.ensures (length-replicate {A = Snapshot} 90 c.blank-snapshots.result) c.path_branches.ensures) in
     record {
-      path = path_of c.args.length c.args.given;
+      path = path_of c.args.path.length c.args.path.branches;
       at = record { sound = sound; count = refl; here = here };
       past = past_start here.stands.forks held;
     }
@@ -74,7 +74,7 @@ loop-steps-init c =
 pub go_on-requires : goal.go_on-requires
 go_on-requires c =
     let l = c.loop-steps.invariant in
-    (problem_of c.args.instance, l.path, at_fork l.at (c.in-Fork.ensures _ l.path _ l.at) (past_small l.past c.loop-steps.frontier.depth))
+    (problem_of c.args.valid.instance, l.path, at_fork l.at (c.in-Fork.ensures _ l.path _ l.at) (past_small l.past c.loop-steps.frontier.depth))
 
 pub returns-then-not-go_back : goal.returns-then-not-go_back
 unfolding infeasible_after
@@ -92,7 +92,7 @@ starts_of-requires c =
 pub returns-in-Complete : goal.returns-in-Complete
 unfolding packed_after
 returns-in-Complete c =
-    let p = problem_of c.args.instance in
+    let p = problem_of c.args.valid.instance in
     let l = c.loop-steps.invariant in
     let shows = c.in-Complete.ensures p l.path _ l.at in
     let ten : length c.starts_of.result ≡ 10 = search length_mapped in
@@ -101,7 +101,7 @@ returns-in-Complete c =
 
 pub loop-steps-preserved : goal.loop-steps-preserved
 loop-steps-preserved c =
-    let p = problem_of c.args.instance in
+    let p = problem_of c.args.valid.instance in
     let l = c.loop-steps.invariant in
     elim c.match-look.branch [
       | in-Fork w ↦

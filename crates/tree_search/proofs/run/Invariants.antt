@@ -16,4 +16,4 @@ pub record CallState (p : Problem) (n budget : ℕ) (start : List Branch) (steps
   pub past : PastPath p budget start steps path f.branches
 
 abbrev pub invariant-loop-steps : goal.invariant-loop-steps
-invariant-loop-steps l = CallState (problem_of l.fn.instance) l.n l.budget (path_of l.length l.fn.given) l.steps l.frontier l.snapshots
+invariant-loop-steps l = CallState (problem_of l.fn.valid.instance) l.n l.budget (path_of l.fn.path.length l.fn.path.branches) l.steps l.frontier l.snapshots

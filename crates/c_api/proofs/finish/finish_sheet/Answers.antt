@@ -20,8 +20,8 @@ returns-in_err-instance c =
     let e = finish_sheet_refused c.args.sheet.now c.in_err-instance.ensures c.args.allowance c.args.shifts.now c.args.steps.now c.args.plan.now in
     record { value = rw (p.1, p.2, e); shifts_after = rw e; steps_after = rw e; plan_after = rw e }
 
-pub finish_fits-requires : goal.finish_fits-requires
-finish_fits-requires c = read_valid c.args.sheet.now c.in_ok-instance.ensures (λ j. (c.type_inv.sheet j).fits)
+pub invariant_of-valid : goal.invariant_of-valid
+invariant_of-valid c = record { is_valid = read_valid c.args.sheet.now c.in_ok-instance.ensures (λ j. (c.type_inv.sheet j).fits) }
 
 pub returns-then-not-finish_fits : goal.returns-then-not-finish_fits
 unfolding finish_refused

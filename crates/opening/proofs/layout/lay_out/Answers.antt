@@ -12,12 +12,11 @@ pub returns-then-any_large : goal.returns-then-any_large
 returns-then-any_large c = large_item _ c.put_items.ensures.0 (rw c.if-any_large.true at c.any_large.ensures)
 
 pub shared_ref_as_front-put_lags : goal.shared_ref_as_front-put_lags
-shared_ref_as_front-put_lags c = omega (arith, (valid-says c.args.instance c.requires).precedences-few)
+shared_ref_as_front-put_lags c = omega (arith, (valid-says c.args.valid.instance c.args.valid.is_valid).precedences-few)
 
-pub put_lags-requires-clause-t_len : goal.put_lags-requires-clause-t_len
-put_lags-requires-clause-t_len c =
-    let says = valid-says c.args.instance c.requires in
-    (omega (arith, c.put_steps.ensures.long, c.put_items.ensures.0.long), allowed-wide _ says.items-few _ _ says.precedences-allowed)
+pub put_lags-requires-clause-allowed : goal.put_lags-requires-clause-allowed
+put_lags-requires-clause-allowed c =
+    let says = valid-says c.args.valid.instance c.args.valid.is_valid in allowed-wide _ says.items-few _ _ says.precedences-allowed
 
 pub put_lags-requires-clause-measures : goal.put_lags-requires-clause-measures
 put_lags-requires-clause-measures c = measures-kept c.put_steps.ensures c.put_items.ensures.1
@@ -25,10 +24,10 @@ put_lags-requires-clause-measures c = measures-kept c.put_steps.ensures c.put_it
 pub invariant_of-result : goal.invariant_of-result
 invariant_of-result c =
     let (out, m) = c.put_items.ensures in
-    let (laid, fits) = all-fits c.args.instance out m (rw c.if-any_large.false at c.any_large.ensures) c.put_steps.ensures c.put_lags.ensures in
-    record { tabled = root_tabled (valid-sound c.args.instance c.requires (search length_mapped)) laid fits }
+    let (laid, fits) = all-fits c.args.valid.instance out m (rw c.if-any_large.false at c.any_large.ensures) c.put_steps.ensures c.put_lags.ensures in
+    record { tabled = root_tabled (valid-sound c.args.valid.instance c.args.valid.is_valid (search length_mapped)) laid fits }
 
 pub returns : goal.returns
 returns c =
     let (out, m) = c.put_items.ensures in
-    all-fits c.args.instance out m (rw c.if-any_large.false at c.any_large.ensures) c.put_steps.ensures c.put_lags.ensures
+    all-fits c.args.valid.instance out m (rw c.if-any_large.false at c.any_large.ensures) c.put_steps.ensures c.put_lags.ensures

@@ -4,4 +4,4 @@ use Rattle.opening.proofs.Layouts.{first-items}
 use Rattle.opening.proofs.layout.put_items.Given as goal
 
 abbrev pub invariant-loop-u : goal.invariant-loop-u
-invariant-loop-u l = LaidOut (first-items l.instance.items l.walkway l.initial.t l.u) l.t × Measures l.t
+invariant-loop-u l = LaidOut (first-items l.fn.valid.instance.items l.walkway l.initial.t l.u) l.t × Measures l.t

@@ -10,9 +10,8 @@ use Rattle.opening.proofs.layout.put_lags.Goals as goal
 
 pub put_lag-requires : goal.put_lag-requires
 put_lag-requires c =
-    let p = allowed_at c.args.precedences.now c.requires.t_len.1 c.loop-o.o-index c.loop-o-test.true in
+    let p = allowed_at c.args.precedences.now c.requires.allowed c.loop-o.o-index c.loop-o-test.true in
     let kept = c.loop-o.invariant.1 in (
-      c.loop-o.invariant.0,
       omega (arith, p.item_u),
       omega (arith, p.item_v),
       omega (arith, p.item_u, kept (80 + c.from-u.result), c.requires.measures (80 + c.from-u.result)),
@@ -22,7 +21,7 @@ put_lag-requires c =
 pub loop-o-preserved : goal.loop-o-preserved
 loop-o-preserved c =
     let (long, kept, laid) = c.loop-o.invariant in
-    let p = allowed_at c.args.precedences.now c.requires.t_len.1 c.loop-o.o-index c.loop-o-test.true in
+    let p = allowed_at c.args.precedences.now c.requires.allowed c.loop-o.o-index c.loop-o-test.true in
     let most : (u : ℕ) → u < 10 → measure_at c.loop-o.t 2 u ≤ max_spaced = λ u h. omega (arith, kept (80 + u) (omega arith), c.requires.measures (80 + u)) in
     let (is, lag) = c.put_lag.ensures in
     let o = get_or c.args.precedences.now c.loop-o.o-index no_precedence in

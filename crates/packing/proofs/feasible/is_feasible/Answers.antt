@@ -2,15 +2,8 @@
 use Rattle.std.proofs.Common.{sym, ◌∙◌}
 use Rattle.model.proofs.Below.{clash}
 use Rattle.model.specs.Problem.{feasible}
-use Rattle.instance.proofs.Sheets.{valid-says}
 use Rattle.packing.proofs.feasible.is_feasible.Goals as goal
 use Rattle.packing.proofs.feasible.is_feasible.Goals.{then-inside, else-inside}
-
-pub inside-requires : goal.inside-requires
-inside-requires c = (valid-says _ c.requires).items-few
-
-pub apart-requires : goal.apart-requires
-apart-requires c = (valid-says _ c.requires).items-few
 
 pub returns-then-apart : goal.returns-then-apart
 unfolding feasible

@@ -1,5 +1,9 @@
+use Rattle.instance.proofs.Sheets.{valid-says}
 use Rattle.search.specs.Results.{packed_after, spent_after}
 use Rattle.search.proofs.choices.answer_in.Goals as goal
+
+pub marks_of-marks-requires : goal.marks_of-marks-requires
+marks_of-marks-requires c = (valid-says _ c.args.valid.is_valid).items-few
 
 pub returns-in-Packed : goal.returns-in-Packed
 unfolding packed_after

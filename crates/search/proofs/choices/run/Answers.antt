@@ -5,7 +5,7 @@ use Rattle.model.specs.Turning.{choice_problem, last_choice}
 use Rattle.instance.proofs.Sheets.{valid-says}
 use Rattle.instance.specs.declared.Instance.{Instance}
 use Rattle.turning.specs.Turned.{turnable_of}
-use Rattle.tree_paths.specs.Checkpoints.{Bits, path_of, value_path, all_branches}
+use Rattle.tree_paths.specs.Checkpoints.{Bits, path_of, all_branches}
 use Rattle.tree_search.specs.Results.{tree_result}
 use Rattle.tree_search.specs.declared.outcome.Outcome.TheVariants.{Infeasible}
 use Rattle.tree_search.specs.declared.outcome.TreeResult.{TreeResult}
@@ -25,39 +25,42 @@ unfolding all_branches
 no_bits β = record { within = omega arith; bits = refl }
 
 pub last_choice-last-requires : goal.last_choice-last-requires
-last_choice-last-requires c = (valid-says _ c.requires.0).items-few
+last_choice-last-requires c = (valid-says _ c.args.valid.is_valid).items-few
 
 pub loop-choice-init : goal.loop-choice-init
 loop-choice-init c =
     let a = c.args in
     let all : a.budget - a.budget ≡ 0 = omega arith in
-    let start = stage a.checkpoint.choice (S.open_at (value_path a.checkpoint)) in
-    record { bits = c.requires.1; afford = omega arith; same = rw all (from_start (turnable_of a.instance) a.checkpoint a.budget start) }
+    let start = stage a.checkpoint.choice (S.open_at (path_of a.path.length a.path.branches)) in
+    record { bits = c.args.path.bits; afford = omega arith; same = rw all (from_start (turnable_of a.valid.instance) a.checkpoint a.budget start) }
+
+pub invariant_of-ahead : goal.invariant_of-ahead
+invariant_of-ahead c = record { bits = c.loop-choice.invariant.bits }
 
 pub answer_in-requires : goal.answer_in-requires
 answer_in-requires c =
     let l = c.loop-choice in
-    let taken = taken-within c.args.instance l.choice l.left l.length c.args.checkpoint.branches c.try_choice-tried.ensures in
-    ((valid-says _ c.requires.0).items-few, omega (arith, taken, l.invariant.afford))
+    let taken = taken-within c.args.valid.instance l.choice l.left l.ahead.1.0 l.ahead.0 c.try_choice-tried.ensures in
+    omega (arith, taken, l.invariant.afford)
 
 pub returns-then-not-matches : goal.returns-then-not-matches
 returns-then-not-matches c =
     let a = c.args in
     let l = c.loop-choice in
-    let t = turnable_of a.instance in
+    let t = turnable_of a.valid.instance in
     let not : c.try_choice-tried.result.outcome ≡ Infeasible → ⊥ = elim c.match-matches.branch [
       | in-Infeasible w ↦ λ o. cc
       | in_default w ↦ w.in_default.not-Infeasible
     ] in
     let within : l.choice ≤ last_choice t = omega (arith, c.loop-choice-test.true, c.last_choice-last.ensures.0) in
     c.answer_in.ensures
-    ∙ (ends_in t a.checkpoint l.choice (a.budget - l.left) l.left (S.open_at (path_of l.length a.checkpoint.branches)) c.try_choice-tried.ensures within refl
-    (λ o. absurd (not o)) (choice-listed a.instance l.choice) ∙ l.invariant.same)
+    ∙ (ends_in t a.checkpoint l.choice (a.budget - l.left) l.left (S.open_at (path_of l.ahead.1.0 l.ahead.0)) c.try_choice-tried.ensures within refl
+    (λ o. absurd (not o)) (choice-listed a.valid.instance l.choice) ∙ l.invariant.same)
 
 pub overflow_sub-left : goal.overflow_sub-left
 overflow_sub-left c =
     let l = c.loop-choice in
-    taken-within c.args.instance l.choice l.left l.length c.args.checkpoint.branches c.try_choice-tried.ensures
+    taken-within c.args.valid.instance l.choice l.left l.ahead.1.0 l.ahead.0 c.try_choice-tried.ensures
 
 pub loop-choice-preserved : goal.loop-choice-preserved
 loop-choice-preserved c =
@@ -65,8 +68,8 @@ loop-choice-preserved c =
     let l = c.loop-choice in
     let r = c.try_choice-tried.result in
     let none : r.outcome ≡ Infeasible = elim c.match-matches.branch [ in-Infeasible w ↦ w.in-Infeasible.is | in_default w ↦ cc ] in
-    let next : l.choice < last_choice (turnable_of a.instance) = omega (arith, c.loop-choice-test.true, c.last_choice-last.ensures.0) in
-    let (w, e) = goes_on (turnable_of a.instance) a.checkpoint l.choice (a.budget - l.left) l.left (path_of l.length a.checkpoint.branches)
+    let next : l.choice < last_choice (turnable_of a.valid.instance) = omega (arith, c.loop-choice-test.true, c.last_choice-last.ensures.0) in
+    let (w, e) = goes_on (turnable_of a.valid.instance) a.checkpoint l.choice (a.budget - l.left) l.left (path_of l.ahead.1.0 l.ahead.0)
     c.try_choice-tried.ensures none next in
     let more : a.budget - (l.left - r.steps) ≡ a.budget - l.left + r.steps = omega (arith, l.invariant.afford) in
     record { bits = no_bits l.invariant.bits; afford = omega (arith, l.invariant.afford); same = rw (more, add-one) (sym e ∙ l.invariant.same) }
@@ -74,17 +77,17 @@ loop-choice-preserved c =
 pub answer_in-requires-2 : goal.answer_in-requires-2
 answer_in-requires-2 c =
     let l = c.loop-choice in
-    let taken = taken-within c.args.instance c.last_choice-last.result l.left l.length c.args.checkpoint.branches c.try_choice-tried-2.ensures in
-    ((valid-says _ c.requires.0).items-few, omega (arith, taken, l.invariant.afford))
+    let taken = taken-within c.args.valid.instance c.last_choice-last.result l.left l.ahead.1.0 l.ahead.0 c.try_choice-tried-2.ensures in
+    omega (arith, taken, l.invariant.afford)
 
 pub returns : goal.returns
 returns c =
     let a = c.args in
     let l = c.loop-choice in
-    let t = turnable_of a.instance in
+    let t = turnable_of a.valid.instance in
     let last = c.last_choice-last.result in
-    let there : l.choice ≡ last = omega (arith, c.loop-choice-test.false, l.auto.choice-end, c.requires.2, c.last_choice-last.ensures.0) in
+    let there : l.choice ≡ last = omega (arith, c.loop-choice-test.false, l.auto.choice-end, c.requires, c.last_choice-last.ensures.0) in
     let most : last ≡ last_choice t = c.last_choice-last.ensures.0 in
     c.answer_in-2.ensures
-    ∙ (ends_in t a.checkpoint last (a.budget - l.left) l.left (S.open_at (path_of l.length a.checkpoint.branches)) c.try_choice-tried-2.ensures (omega arith) refl
-    (λ o. omega arith) (choice-listed a.instance last) ∙ rw there at l.invariant.same)
+    ∙ (ends_in t a.checkpoint last (a.budget - l.left) l.left (S.open_at (path_of l.ahead.1.0 l.ahead.0)) c.try_choice-tried-2.ensures (omega arith) refl
+    (λ o. omega arith) (choice-listed a.valid.instance last) ∙ rw there at l.invariant.same)

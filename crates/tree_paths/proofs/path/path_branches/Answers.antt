@@ -12,8 +12,8 @@ loop-i-init c = path_in_root
 pub loop-i-preserved : goal.loop-i-preserved
 loop-i-preserved c =
     let l = c.loop-i in
-    let h = path_in_next (branch_of (get_or c.args.given l.i 0)) l.invariant in
-    rw path_next (rw (bits-next l.i c.requires (omega arith)) at h)
+    let h = path_in_next (branch_of (get_or c.args.path.branches l.i 0)) l.invariant in
+    rw path_next (rw (bits-next l.i c.args.path.bits (omega arith)) at h)
 
 pub returns : goal.returns
-returns c = let e : c.loop-i.i ≡ c.args.length = omega arith in rw (← e) c.loop-i.invariant.entries
+returns c = let e : c.loop-i.i ≡ c.args.path.length = omega arith in rw (← e) c.loop-i.invariant.entries

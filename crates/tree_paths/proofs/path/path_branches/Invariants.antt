@@ -3,4 +3,4 @@ use Rattle.tree_paths.specs.Checkpoints.{path_of, PathIn}
 use Rattle.tree_paths.proofs.path.path_branches.Given as goal
 
 abbrev pub invariant-loop-i : goal.invariant-loop-i
-invariant-loop-i l = PathIn (path_of l.i l.given) l.branches l.i
+invariant-loop-i l = PathIn (path_of l.i l.path.branches) l.branches l.i
