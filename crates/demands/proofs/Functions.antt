@@ -5,6 +5,7 @@ use Rattle.c_api.proofs.hallplan_pieces.Met as Pieces
 use Rattle.c_api.proofs.hallplan_search.Met as SearchBytes
 use Rattle.c_api.proofs.finish.hallplan_finish.Met as FinishBytes
 use Rattle.instance.proofs.Instance.is_valid.Met as IsValid
+use Rattle.instance.proofs.Instance.validated.Met as ValidatedValue
 use Rattle.instance.proofs.Instance.opening.Met as Opening
 use Rattle.instance.proofs.Instance.read.Met as Read
 use Rattle.writer.proofs.write.Met as Write
@@ -24,6 +25,7 @@ functions M = record {
   refusal_number = record { runs = Number.met; asks_nothing = λ κs a. tt; promises = λ κs a r s p. p };
   refusal_place = record { runs = Place.met; asks_nothing = λ κs a. tt; promises = λ κs a r s p. p };
   instance_is_valid = record { runs = IsValid.met; asks_nothing = λ κs a. tt; promises = λ κs a r s p. p };
+  instance_validated = record { runs = ValidatedValue.met; asks_nothing = λ κs a. tt; promises = λ κs a r s p. p };
   instance_opening = record { runs = Opening.met; asks_nothing = λ κs a. tt; promises = λ κs a r s p. p };
   packing_origin = record { runs = Origin.met; asks_nothing = λ κs a. tt; promises = λ κs a r s p. p };
   instance_read = record { runs = Read.met; asks_nothing = λ κs a. tt; promises = λ κs a r s p. p };

@@ -9,6 +9,7 @@ use Rattle.writer.specs.Answers.{write_answer, written_room}
 use Rattle.instance.specs.Reads.{Full}
 use Rattle.item_record.specs.Record.{item_record, item_record_code}
 use Rattle.instance.specs.Valid.{valid}
+use Rattle.instance.specs.Validated.{Validated}
 use Rattle.instance.specs.Values.{opening_checkpoint, origin_packing}
 use Rattle.packing.specs.Check.{check_answer}
 use Rattle.packing.specs.Clearance.{clearance_answer}
@@ -22,6 +23,8 @@ use Rattle.refusal.proofs.Refusal.place.Reads as Place
 use Rattle.refusal.proofs.Refusal.place.Statement as PlaceRuns
 use Rattle.instance.proofs.Instance.is_valid.Reads as IsValid
 use Rattle.instance.proofs.Instance.is_valid.Statement as IsValidRuns
+use Rattle.instance.proofs.Instance.validated.Reads as ValidatedValue
+use Rattle.instance.proofs.Instance.validated.Statement as ValidatedRuns
 use Rattle.instance.proofs.Instance.opening.Reads as Opening
 use Rattle.instance.proofs.Instance.opening.Statement as OpeningRuns
 use Rattle.instance.proofs.Instance.read.Reads as Read
@@ -74,8 +77,9 @@ pub record Functions (M : Type 1) : Type 2 where
   -- `Refusal::number`, `Refusal::place`
   pub refusal_number : Promise (NumberRuns.statement M) Number.Asked Number.Learnt (λ κs a r s. r ≡ number_of a.0)
   pub refusal_place : Promise (PlaceRuns.statement M) Place.Asked Place.Learnt (λ κs a r s. r ≡ place_of a.0)
-  -- `Instance::is_valid`, `Instance::opening`, `Packing::origin`
+  -- `Instance::is_valid`, `Instance::validated`, `Instance::opening`, `Packing::origin`
   pub instance_is_valid : Promise (IsValidRuns.statement M) IsValid.Asked IsValid.Learnt (λ κs a r s. r ≡ valid a.0)
+  pub instance_validated : Promise (ValidatedRuns.statement M) ValidatedValue.Asked ValidatedValue.Learnt (λ κs a r s. Validated a.0 r)
   pub instance_opening : Promise (OpeningRuns.statement M) Opening.Asked Opening.Learnt (λ κs a r s. r ≡ opening_checkpoint)
   pub packing_origin : Promise (OriginRuns.statement M) Origin.Asked Origin.Learnt (λ κs a r s. r ≡ origin_packing)
   -- `Instance::read`

@@ -1,13 +1,14 @@
 // Removing relations, from domains and rows alike. A removal that would leave nothing of a pair is a conflict.
 ghost use Rattle.std.specs.Prelude.{◌≡◌, ◌<◌};
 ghost use Rattle.model.specs.Relations as R;
-ghost use Rattle.domains.specs.Narrowed.{Removes, RemovesIf, One, Spare, Each, Spares, All, Askable, Left};
+ghost use Rattle.domains.specs.Queue.{Good};
+ghost use Rattle.domains.specs.Narrowed.{RemovedOnly, Removes, RemovesIf, One, Spare, Each, Spares, All, Askable, Left};
 
 use crate::access::{remove_before, remove_overlap};
 use crate::bits::{ITEMS, ROW, bit, emptied, members_of};
-use crate::queue::push;
+use crate::queue::{MAX_QUEUE, push};
 use crate::store::{Conflict, Store};
-use crate::{DOMAINS, Line, Place};
+use crate::{DOMAINS, Line, Place, ROWS};
 
 // The same relation seen from the other item. Relations are numbers, 0 overlap, 1 before, 2 after: each is the place x * 10 + v of a bit in a row, and an enum
 // would be turned to that number wherever it is used.
@@ -30,17 +31,32 @@ fn remove_from(k: &mut [u8; DOMAINS], x: usize, place: Place)
     }
 }
 
+// Removes a relation, from its domain and from both rows; the pair goes on the queue. Over the arrays of a `Store`, for callers that have them alone.
+pub fn remove_relation(
+    domains: &mut [u8; DOMAINS],
+    rows: &mut [u32; ROWS],
+    queue: &mut [u16; MAX_QUEUE],
+    x: usize,
+    place: Place,
+)
+    requires good { Good domains.old rows.old queue.old }
+    requires spare { (x < 3) × Spare domains.old x place.axis place.u place.v }
+    ensures { RemovedOnly (One x place.axis place.u place.v) domains.old queue.old domains.new rows.new queue.new }
+{
+    let Place { axis: a, u, v } = place;
+    remove_from(domains, x, place);
+    rows[a * 10 + u] |= bit(x * 10 + v);
+    rows[a * 10 + v] |= bit(converse(x) * 10 + u);
+    push(queue, place);
+}
+
 impl Store {
-    // Removes a relation, from its domain and from both rows; the pair goes on the queue.
+    // The same of a store.
     fn remove_one(&mut self, x: usize, place: Place)
         requires { (x < 3) × Spare self.old.domains x place.axis place.u place.v }
         ensures { Removes (One x place.axis place.u place.v) self.old self.new }
     {
-        let Place { axis: a, u, v } = place;
-        remove_from(&mut self.domains, x, place);
-        self.rows[a * 10 + u] |= bit(x * 10 + v);
-        self.rows[a * 10 + v] |= bit(converse(x) * 10 + u);
-        push(&mut self.queue, place);
+        remove_relation(&mut self.domains, &mut self.rows, &mut self.queue, x, place);
     }
 
     // Removes a relation of an item with each of a set.

@@ -1,33 +1,39 @@
--- Some relations of one pair are removed: what that leaves is the domains without them. A branch leaves the pair a relation.
-use Rattle.std.specs.Prelude.{◌&&◌, ◌||◌, ◌⊎◌, ◌≢◌, ◌≡◌, ◌+◌, ◌*◌, ◌^◌, ◌<◌, Result, Ok, Err, is_ok}
+-- Some relations of one pair are removed: what that leaves is the domains without them. What a branch removes is left, and so is another.
+use Rattle.std.specs.Prelude.{◌&&◌, ◌||◌, ◌⊎◌, ◌≡◌, ◌+◌, ◌*◌, ◌^◌, ◌≤◌, ◌<◌, Result, Ok, Err}
 use Rattle.prelude.specs.Names.{Bool, true, false, not, false≢true, not-eq-not, not-not, List, inl, inr, refl, sym}
-use Rattle.prelude.specs.Names.{◌∙◌, ap, ℕ, arith, bit_or, or_lt, eqb-true, eq-eqb}
+use Rattle.prelude.specs.Names.{◌∙◌, ap, ℕ, ℕ_discrete, arith, bit_or, or_lt, eqb-true, eq-eqb}
 use Rattle.model.specs.Domains.{Domains, may_overlap, may_before, fix_overlap}
-use Rattle.model.specs.Branching.{undecided, Branch, first, second, branch_at}
+use Rattle.model.specs.Branching.{undecided, branch_at}
 use Rattle.model.specs.Order.{Proper, WellFormed, ◌⊑◌}
 use Rattle.model.specs.Relations.{gone, without, Filled}
 use Rattle.model.specs.Facts.{nothing, says}
-use Rattle.model.proofs.Below.{clash, or_case, or_left, or_right}
+use Rattle.model.proofs.Below.{and_both, clash, or_case, or_left, or_right}
 use Rattle.model.proofs.Facts.{gone_mono, says_mono}
 use Rattle.model.proofs.Order.{below_trans, below_eq}
 use Rattle.model.proofs.Without.{without-less, without-above, without-well_formed, without_gone}
 use Rattle.domains.specs.Bits.{bit_at}
 use Rattle.domains.specs.Rows.{row_at, Laid}
-use Rattle.domains.specs.Queue.{no_changes}
+use Rattle.domains.specs.Queue.{queue_end, no_changes}
 use Rattle.domains.specs.declared.store.Conflict.{Conflict}
-use Rattle.domains.specs.Narrowed.{Grown, NarrowedIf, All, Asked, Askable}
+use Rattle.domains.specs.Narrowed.{Grown, NarrowedIf, RemovedOnly, One, Spare, All, Asked, Askable}
 use Rattle.nodes.specs.Choice.{branch_by, Branchable, Branched, Removed, SetOf}
 use Rattle.domains.specs.declared.Place.{Place}
 use Rattle.domains.proofs.BitLaws.{bit-or, bit_power}
 use Rattle.domains.proofs.Mirror.{parts_same, row_first}
-use Rattle.domains.proofs.RemoveOne.{still_gone, filled-without}
+use Rattle.domains.proofs.Narrowed.{narrowed-then, narrowed_as}
+use Rattle.domains.proofs.RemoveItems.{still_left}
+use Rattle.domains.proofs.RemoveOne.{still_gone}
 
--- e is what is left of k where of u and v on the axis a the relations of P are removed
+-- of u and v on the axis a the relations of P are removed
+abbrev pub Lost : ℕ → ℕ → ℕ → (ℕ → Type 0) → Domains → Type 0
+Lost a u v P f = (x : ℕ) → P x → gone f x a u v ≡ true
+
+-- e is what is left of k where they are
 pub record Taken (k : Domains) (a u v : ℕ) (P : ℕ → Type 0) (e : Domains) : Type 0 where
   pub well_formed : WellFormed e
   pub less : e ⊑ k
-  pub all : (x : ℕ) → P x → gone e x a u v ≡ true
-  pub above : (f : Domains) → f ⊑ k → ((x : ℕ) → P x → gone f x a u v ≡ true) → f ⊑ e
+  pub all : Lost a u v P e
+  pub above : (f : Domains) → f ⊑ k → Lost a u v P f → f ⊑ e
 
 module _ {k : Domains} {a u v : ℕ} (w : Proper 10 a u v) where
   pub taken_one : WellFormed k → (x : ℕ) → Taken k a u v (λ y. y ≡ x) (without k x a u v)
@@ -100,33 +106,57 @@ module _ {k e : Domains} {a u v s : ℕ} {P : ℕ → Type 0} (w : Proper 10 a u
       (below_eq j e n.grown.good.laid.well_formed t.well_formed up (n.low e (asked full) t.less), n.grown)
   exact q j rows r (Err _) none = λ f. none e (asked f) t.less
 
--- A branch of a pair with more than one relation left
-branch_filled : {k : Domains} {a u v : ℕ} → WellFormed k → Filled k → Proper 10 a u v → undecided k a u v ≡ true
-    → (o : Bool) → may_overlap k a u v ≡ o → (b : Branch) → Filled (branch_at o b k a u v)
-unfolding undecided without fix_overlap gone
-branch_filled {k} {a} {u} {v} f full w h o e b = go o (may_before k a u v) (may_before k a v u) e refl refl (rw e at h) b
-  where
-    without_one : (x y : ℕ) → (x < 3) × (y < 3) × (y ≢ x) → gone k y a u v ≡ false → Filled (without k x a u v)
-    without_one x y (hx, hy, d) = filled-without f x a u v hx w full y hy d
+-- A removal of one relation, and of one more, as a removal of those of P
+module _ (c : Place) {k : Domains} {q : List ℕ} {j : Domains} {rows r : List ℕ} where
+  pub lost_one : {x : ℕ} → RemovedOnly (One x c.axis c.u c.v) k q j rows r → RemovedOnly (Lost c.axis c.u c.v (λ y. y ≡ x)) k q j rows r
+  lost_one {x} n = narrowed_as (λ f h b. h x refl) (λ _ h y e. rw e h) n
 
-    go : (o x y : Bool) → may_overlap k a u v ≡ o → may_before k a u v ≡ x → may_before k a v u ≡ y → (o && (x || y) || x && y) ≡ true
-        → (b : Branch) → Filled (branch_at o b k a u v)
-    go true true y eo ex ey h first = without_one 0 1 (omega arith) (ap not ex)
-    go true false true eo ex ey h first = without_one 0 2 (omega arith) (ap not ey)
-    go true false false eo ex ey h first = absurd (false≢true h)
-    go true x y eo ex ey h second =
-        filled-without (without-well_formed k 2 a u v f) 1 a u v (omega arith) w (without_one 2 0 (omega arith) (ap not eo)) 0 (omega arith) (omega arith)
-        (still_gone f 2 a u v (omega arith) w 0 (omega arith) (omega arith) ∙ ap not eo)
-    go false true true eo ex ey h first = without_one 2 1 (omega arith) (ap not ex)
-    go false true true eo ex ey h second = without_one 1 2 (omega arith) (ap not ey)
-    go false true false eo ex ey h b = absurd (false≢true h)
-    go false false y eo ex ey h b = absurd (false≢true h)
+  pub lost_more : (P : ℕ → Type 0) {x : ℕ} {l : Domains} {rows' s : List ℕ} → 1 ≤ queue_end q → RemovedOnly (Lost c.axis c.u c.v P) k q j rows r
+      → RemovedOnly (One x c.axis c.u c.v) j r l rows' s → RemovedOnly (Lost c.axis c.u c.v (λ y. (y ≡ x) ⊎ P y)) k q l rows' s
+  lost_more P {x} {l} least n m =
+      narrowed-then {D = Lost c.axis c.u c.v P} {E = One x c.axis c.u c.v} least
+      (narrowed_as (λ f h b y p. h y (inr p)) (λ _ h. h) n) (narrowed_as (λ f h b. h x (inl refl)) (λ _ h. h) m)
+      (λ b old new y h. elim h [ inl e ↦ rw e new | inr p ↦ gone_mono l j b y c.axis c.u c.v (old y p) ])
 
-module _ {k : Domains} {rows : List ℕ} (laid : Laid k rows) {c : Place} (g : Branchable k c) where
-  -- the row tells whether overlap is left
-  overlap_row : bit_at (row_at rows c.axis c.u) c.v ≡ gone k 0 c.axis c.u c.v
-  overlap_row = row_first laid.mirror c.proper.axis c.proper.item_u c.proper.item_v
+  -- it leaves the domains without them
+  lost-is : (P : ℕ → Type 0) {e : Domains} → Taken k c.axis c.u c.v P e → RemovedOnly (Lost c.axis c.u c.v P) k q j rows r → j ≡ e
+  lost-is P {e} t n = below_eq j e n.grown.good.laid.well_formed t.well_formed (t.above j n.grown.less n.done) (n.low e t.all t.less)
 
+  -- overlap stays where an order is removed
+  pub overlap-stays : WellFormed k → {x : ℕ} → (1 ≤ x) × (x < 3) → RemovedOnly (One x c.axis c.u c.v) k q j rows r
+      → may_overlap k c.axis c.u c.v ≡ true → may_overlap j c.axis c.u c.v ≡ true
+  unfolding gone
+  overlap-stays f {x} (low, hx) n o =
+      let rest = without k x c.axis c.u c.v in
+      let kept : gone rest 0 c.axis c.u c.v ≡ false = still_gone f x c.axis c.u c.v hx c.proper 0 (omega arith) (omega arith) ∙ ap not o in
+      sym (not-not _) ∙ ap not (still_left n rest (without_gone k x f c.proper) (without-less k x c.axis c.u c.v) 0 c.axis c.u c.v kept)
+
+-- Of a pair with more than one relation left, overlap is left and an order, or both orders are
+module _ {k : Domains} {c : Place} (g : Branchable k c) where
+  pub spare_overlap : may_overlap k c.axis c.u c.v ≡ true → Spare k 0 c.axis c.u c.v
+  unfolding undecided gone
+  spare_overlap o = go (may_before k c.axis c.u c.v) (may_before k c.axis c.v c.u) refl refl (rw o at g.several_left)
+    where
+      go : (x y : Bool) → may_before k c.axis c.u c.v ≡ x → may_before k c.axis c.v c.u ≡ y → (true && (x || y) || x && y) ≡ true
+          → Spare k 0 c.axis c.u c.v
+      go true y ex ey e = record { left = ap not o; other = (1, omega arith, omega arith, ap not ex) }
+      go false true ex ey e = record { left = ap not o; other = (2, omega arith, omega arith, ap not ey) }
+      go false false ex ey e = absurd (false≢true e)
+
+  both_orders : may_overlap k c.axis c.u c.v ≡ false → (gone k 1 c.axis c.u c.v ≡ false) × (gone k 2 c.axis c.u c.v ≡ false)
+  unfolding undecided gone
+  both_orders o =
+      let (p, q) = and_both (may_before k c.axis c.u c.v) (may_before k c.axis c.v c.u) (rw o at g.several_left) in (ap not p, ap not q)
+
+  pub spare_order : may_overlap k c.axis c.u c.v ≡ false → {x : ℕ} → (1 ≤ x) × (x < 3) → Spare k x c.axis c.u c.v
+  spare_order o {x} (low, high) =
+      let (p, q) = both_orders o in
+      elim (ℕ_discrete x 1) [
+        | yes e ↦ rw e (record { left = p; other = (2, omega arith, omega arith, q) })
+        | no d ↦ let e : x ≡ 2 = omega arith in rw e (record { left = q; other = (1, omega arith, omega arith, p) })
+      ]
+
+module _ {k : Domains} {rows : List ℕ} (laid : Laid k rows) (c : Place) where
   take_one : (x : ℕ) → Taken k c.axis c.u c.v (λ y. y ≡ x) (without k x c.axis c.u c.v)
   take_one x = taken_one c.proper laid.well_formed x
 
@@ -138,23 +168,12 @@ module _ {k : Domains} {rows : List ℕ} (laid : Laid k rows) {c : Place} (g : B
   branch_taken false true = taken_more c.proper (take_one 2) 1
   branch_taken false false = take_one 0
 
-  -- a set of what the branch removes, by whether the row has overlap removed; it leaves every pair a relation
-  module _ (apart b : Bool) (is : apart ≡ bit_at (row_at rows c.axis c.u) c.v) {s : ℕ} (h : SetOf s c.v (Removed apart b)) where
-    overlap : may_overlap k c.axis c.u c.v ≡ not apart
+  -- by whether the row has overlap removed
+  module _ (apart : Bool) (is : apart ≡ bit_at (row_at rows c.axis c.u) c.v) where
+    pub overlap-is : may_overlap k c.axis c.u c.v ≡ not apart
     unfolding gone
-    overlap = sym (not-not _) ∙ ap not (sym (is ∙ overlap_row))
+    overlap-is = sym (not-not _) ∙ ap not (sym (is ∙ row_first laid.mirror c.proper.axis c.proper.item_u c.proper.item_v))
 
-    full : Filled (branch_at (not apart) (branch_by b) k c.axis c.u c.v)
-    full = branch_filled laid.well_formed laid.filled c.proper g.several_left (not apart) overlap (branch_by b)
-
-    pub branch_ok : (q : List ℕ) (j : Domains) (rows' r : List ℕ) (o : Result (Unit {0}) Conflict)
-        → NarrowedIf (Asked c.axis c.u s) (All c.axis c.u s) k (no_changes q) j rows' r o → is_ok o ≡ true
-    branch_ok q j rows' r (Ok _) n = refl
-    branch_ok q j rows' r (Err e) n = absurd (exact c.proper (branch_taken apart b) h (no_changes q) j rows' r (Err e) n full)
-
-    pub branched : (q : List ℕ) (j : Domains) (rows' r : List ℕ) (o : Result (Unit {0}) Conflict)
-        → NarrowedIf (Asked c.axis c.u s) (All c.axis c.u s) k (no_changes q) j rows' r o → Branched k q c b j rows' r
-    branched q j rows' r (Ok x) n =
-        let (e, grown) = exact c.proper (branch_taken apart b) h (no_changes q) j rows' r (Ok x) n in
-        record { left = rw overlap e; grown = grown }
-    branched q j rows' r (Err e) n = absurd (exact c.proper (branch_taken apart b) h (no_changes q) j rows' r (Err e) n full)
+    pub branched : (b : Bool) {q : List ℕ} {j : Domains} {rows' r : List ℕ}
+        → RemovedOnly (Lost c.axis c.u c.v (Removed apart b)) k (no_changes q) j rows' r → Branched k q c b j rows' r
+    branched b n = record { left = rw overlap-is (lost-is c (Removed apart b) (branch_taken apart b) n); grown = n.grown }

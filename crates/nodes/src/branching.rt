@@ -1,12 +1,17 @@
 // Where the search branches, and what a branch removes.
-ghost use Rattle.std.specs.Prelude.{◌≡◌, ◌<◌, ◌≤◌};
+ghost use Rattle.std.specs.Prelude.{◌≡◌, true, ◌<◌, ◌≤◌};
+ghost use Rattle.model.specs.Domains.{may_overlap};
 ghost use Rattle.model.specs.Order.{WellFormed};
 ghost use Rattle.model.specs.FirstBranches.{Passed};
-ghost use Rattle.nodes.specs.Choice.{separates, several, separated_at, Chosen, Branchable, Branches, Removed, SetOf};
+ghost use Rattle.domains.specs.Rows.{Laid};
+ghost use Rattle.domains.specs.Queue.{Good};
+ghost use Rattle.domains.specs.Narrowed.{RemovedOnly, One};
+ghost use Rattle.nodes.specs.Choice.{separates, several, separated_at, Chosen, Branchable, Branched};
 
-use domains::bits::{bit, has};
-use domains::store::Store;
-use domains::{DOMAINS, Place};
+use domains::bits::has;
+use domains::queue::MAX_QUEUE;
+use domains::removal::remove_relation;
+use domains::{DOMAINS, Place, ROWS};
 use pairs::{pair_count, pair_of};
 
 // The domains in which "before" is known, one way or the other: 0, 2 and 4, as a set of bits.
@@ -69,26 +74,45 @@ pub fn choose(domains: &[u8; DOMAINS], n: usize, from: usize) -> Option<Place>
     place
 }
 
-// What a branch removes, as in the row of u: by whether overlap with v is removed already, and whether the branch is the second.
-fn branch_set(apart: bool, second: bool, v: usize) -> u32
-    requires { v < 10 }
-    ensures { SetOf result v (Removed apart second) }
+// Removes an order of a pair if it is left; that the two overlap is left, too.
+fn remove_order(
+    domains: &mut [u8; DOMAINS],
+    rows: &mut [u32; ROWS],
+    queue: &mut [u16; MAX_QUEUE],
+    x: usize,
+    place: Place,
+)
+    requires good { Good domains.old rows.old queue.old }
+    requires order { (1 ≤ x) × (x < 3) }
+    requires overlap { may_overlap domains.old place.axis place.u place.v ≡ true }
+    ensures { RemovedOnly (One x place.axis place.u place.v) domains.old queue.old domains.new rows.new queue.new }
 {
-    match (apart, second) {
-        (true, true) => bit(10 + v),
-        (true, false) => bit(20 + v),
-        (false, true) => bit(10 + v) | bit(20 + v),
-        (false, false) => bit(v),
+    if !has(rows[place.axis * 10 + place.u], x * 10 + place.v) {
+        remove_relation(domains, rows, queue, x, place);
     }
 }
 
-// The first or the second branch at a place: what it removes is all that is on the queue.
-pub fn apply_branch(store: &mut Store, place: Place, second: bool)
-    requires { Branchable store.old.domains place }
-    ensures { Branches store.old place second store.new }
+// The first or the second branch at a place: what it removes is all that is on the queue. It takes arrays, and no `Store`: a queue of any content will do.
+pub fn apply_branch(
+    domains: &mut [u8; DOMAINS],
+    rows: &mut [u32; ROWS],
+    queue: &mut [u16; MAX_QUEUE],
+    place: Place,
+    second: bool,
+)
+    requires laid { Laid domains.old rows.old }
+    requires branchable { Branchable domains.old place }
+    ensures { Branched domains.old queue.old place second domains.new rows.new queue.new }
 {
-    let apart = has(store.row(place.axis, place.u), place.v);
-    let set = branch_set(apart, second, place.v);
-    store.clear_queue();
-    store.remove(place.axis, place.u, set).unwrap()
+    let apart = has(rows[place.axis * 10 + place.u], place.v);
+    queue[0] = 1;
+    match (apart, second) {
+        (true, true) => remove_relation(domains, rows, queue, 1, place),
+        (true, false) => remove_relation(domains, rows, queue, 2, place),
+        (false, true) => {
+            remove_order(domains, rows, queue, 1, place);
+            remove_order(domains, rows, queue, 2, place);
+        }
+        (false, false) => remove_relation(domains, rows, queue, 0, place),
+    }
 }

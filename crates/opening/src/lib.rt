@@ -47,7 +47,8 @@ fn cut_pairs(store: &mut Store, totals: &Totals) -> Result<(), Conflict>
     Ok(())
 }
 
-// The root of the search; or that the opening domains are inconsistent.
+// The root of the search; or that the opening domains are inconsistent. Not inlined, so that what it takes of the stack is free again.
+#[inline(never)]
 pub fn root_of(valid: ValidInstance) -> Result<Root, Conflict>
     ensures { RootedIf (problem_of valid.instance) result }
 {

@@ -30,19 +30,19 @@ fn inside(valid: ValidInstance, packing: Packing) -> bool
 }
 
 // Two items are apart on some axis: on x and y by the walkway.
-fn apart_on_some_axis(instance: Instance, packing: Packing, u: usize, v: usize) -> bool
+fn apart_on_some_axis(instance: &Instance, packing: &Packing, u: usize, v: usize) -> bool
     requires { (u < max_items) × (v < max_items) }
-    ensures { result ≡ apart_on_some_axis (problem_of instance) (positions_of packing) u v }
+    ensures { result ≡ apart_on_some_axis (problem_of instance.now) (positions_of packing.now) u v }
 {
-    let first = Placed::new(&instance, &packing, u);
-    let second = Placed::new(&instance, &packing, v);
+    let first = Placed::new(instance, packing, u);
+    let second = Placed::new(instance, packing, v);
     Axis::ALL.iter().any(|axis| first.is_apart_from(second, *axis, instance.walkway))
 }
 
 // An item is apart from every item of a lower number.
-fn apart_from_lower_items(instance: Instance, packing: Packing, u: usize) -> bool
+fn apart_from_lower_items(instance: &Instance, packing: &Packing, u: usize) -> bool
     requires { u < max_items }
-    ensures { result ≡ apart_from_lower (problem_of instance) (positions_of packing) u }
+    ensures { result ≡ apart_from_lower (problem_of instance.now) (positions_of packing.now) u }
 {
     (0..u).all(|v| apart_on_some_axis(instance, packing, u, v))
 }
@@ -52,16 +52,16 @@ fn apart(valid: ValidInstance, packing: Packing) -> bool
     ensures { result ≡ apart_test (problem_of valid.instance) (positions_of packing) }
 {
     let instance = valid.instance;
-    (0..instance.item_count).all(|u| apart_from_lower_items(instance, packing, u))
+    (0..instance.item_count).all(|u| apart_from_lower_items(&instance, &packing, u))
 }
 
 // A precedence is kept on t, with its lag.
-fn is_kept(instance: Instance, packing: Packing, o: Precedence) -> bool
+fn is_kept(instance: &Instance, packing: &Packing, o: Precedence) -> bool
     requires { (o.predecessor < max_items) × (o.successor < max_items) }
-    ensures { result ≡ precedence_kept instance.items packing.positions o }
+    ensures { result ≡ precedence_kept instance.now.items packing.now.positions o }
 {
-    let first = Placed::new(&instance, &packing, usize::from(o.predecessor));
-    let second = Placed::new(&instance, &packing, usize::from(o.successor));
+    let first = Placed::new(instance, packing, usize::from(o.predecessor));
+    let second = Placed::new(instance, packing, usize::from(o.successor));
     first.ends_ahead(second, Axis::T, o.lag)
 }
 
@@ -74,7 +74,7 @@ fn ordered(valid: ValidInstance, packing: Packing) -> bool
         .precedences
         .iter()
         .take(instance.precedence_count)
-        .all(|o| is_kept(instance, packing, *o))
+        .all(|o| is_kept(&instance, &packing, *o))
 }
 
 // All three.

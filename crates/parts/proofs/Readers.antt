@@ -1,9 +1,9 @@
 -- What the parts' readings give, by how many bytes are left: the equations that the readers' proofs cite.
-use Rattle.std.specs.Prelude.{◌≡◌, ◌||◌, ◌∷◌, ◌+◌, ◌-◌, ◌*◌, ◌<◌, Option}
+use Rattle.std.specs.Prelude.{◌≡◌, ◌||◌, ◌∷◌, ◌+◌, ◌-◌, ◌*◌, ◌<◌, ◌≤◌, Option}
 use Rattle.prelude.specs.Names.{refl, ◌∙◌, Bool, true, false, cond, not, List, [], ℕ, arith, eqb, leb, ltb, length, get_or}
 use Rattle.prelude.specs.Names.{take, drop, replicate}
 use Rattle.refusal.specs.declared.Refusal.TheVariants.{EndsEarly, UnknownBit, WrittenDefault, BadCount, BadItem, NotRising, TrailingBytes, NoLag, TooLarge}
-use Rattle.formats.specs.Reading.{done, end, got, refused, run, read_as}
+use Rattle.formats.specs.Reading.{done, end, got, refused, run, read_as, ◌>>=◌}
 use Rattle.formats.specs.Formats.{Format, Test, byte, word, presence, pair, converted, testing, tested, keyed, count, count_tests}
 use Rattle.formats.specs.Fields.{optional_reading, is_set, fields_reading, fields, map_byte, with_map}
 use Rattle.formats.proofs.Run.{after, after_after, cond_after, run-then, read_as_after, read_as-cond}
@@ -26,10 +26,24 @@ unfolding byte run
 byte-next at [] h = absurd (omega arith)
 byte-next at (x ∷ rest) h = rw rest_of
 
+-- two are read where both are there
+pub two-none : (at : ℕ) (rest : List ℕ) → length rest < 2 → run (pair byte byte).reading at rest ≡ refused (EndsEarly (at + length rest))
+unfolding pair byte run ◌>>=◌
+two-none at [] h = let e : at + 0 ≡ at = omega arith in rw e
+two-none at (x ∷ []) h = refl
+two-none at (x ∷ y ∷ rest) h = absurd (omega arith)
+
+pub two-next : (at : ℕ) (rest : List ℕ) → 2 ≤ length rest
+    → run (pair byte byte).reading at rest ≡ got (get_or rest 0 0, get_or rest 1 0) (at + 2) (take (length rest - 2) (drop 2 rest))
+unfolding pair byte run ◌>>=◌
+two-next at [] h = absurd (omega arith)
+two-next at (x ∷ []) h = absurd (omega arith)
+two-next at (x ∷ y ∷ rest) h = let e : at + 1 + 1 ≡ at + 2 = omega arith in rw (rest_of, e)
+
 -- low byte first
 pub word-run : (at : ℕ) (rest : List ℕ) → run word.reading at rest
-    ≡ after (run byte.reading at rest) λ low at₁ rest₁. after (run byte.reading at₁ rest₁) λ high at₂ rest₂. got (low + 256 * high) at₂ rest₂
-unfolding word byte run
+    ≡ after (run (pair byte byte).reading at rest) λ p at₂ rest₂. got (p.0 + 256 * p.1) at₂ rest₂
+unfolding word pair byte run ◌>>=◌
 word-run at [] = refl
 word-run at (x ∷ []) = refl
 word-run at (x ∷ y ∷ rest) = refl
@@ -98,10 +112,10 @@ item-run at rest = simp (run-then, tested-run, after_after, cond_after, turn_run
 
 pub precedence-run : (n : ℕ) (last : Option Precedence) (at : ℕ) (rest : List ℕ)
     → read_as unlagged (run (tested precedence (precedence_tests n last)).reading at rest)
-    ≡ after (run byte.reading at rest) λ u at₁ rest₁. after (run byte.reading at₁ rest₁) λ v at₂ rest₂.
-    let a : Arc = record { predecessor = u; successor = v } in
+    ≡ after (run (pair byte byte).reading at rest) λ p at₂ rest₂.
+    let a : Arc = record { predecessor = p.0; successor = p.1 } in
     cond (not (names_items n a)) (refused (BadItem at)) (cond (not (rises last a)) (refused (NotRising at)) (got (unlagged a) at₂ rest₂))
-unfolding precedence converted pair testing run
+unfolding precedence converted testing run
 precedence-run n last at rest = simp (tested-run, run-then, after_after, read_as_after, read_as-cond)
 
 -- the lags are tested once they are all read
@@ -129,6 +143,8 @@ end-more x at (b ∷ rest) h = refl
 pub ruleset readings = (
   byte-none,
   byte-next,
+  two-none,
+  two-next,
   word-run,
   number-run,
   number-left_out,

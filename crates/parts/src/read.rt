@@ -37,7 +37,7 @@ pub fn read_byte(bytes: &[u8], at: usize, present: bool) -> Result<(u8, usize), 
 
 impl<'a> Rest<'a> {
     ghost use Rattle.formats.specs.Reading.{done, end, read_as};
-    ghost use Rattle.formats.specs.Formats.{byte, word, tested};
+    ghost use Rattle.formats.specs.Formats.{byte, word, pair, tested};
     ghost use Rattle.formats.specs.Fields.{fields_reading};
     ghost use Rattle.parts.specs.Precedences.{unlagged};
     ghost use Rattle.parts.specs.Parts.{number, measure, count_field, size_fields, item, precedence, precedence_tests};
@@ -65,12 +65,25 @@ impl<'a> Rest<'a> {
         Ok((self.bytes[0], rest))
     }
 
+    // The next two.
+    fn two_bytes(self) -> Result<((u8, u8), Rest<'a>), Refusal>
+        ensures { read_from (pair byte byte).reading self.entry ≡ answer result }
+    {
+        if self.bytes.len() < 2 {
+            return Err(Refusal::EndsEarly(self.at + self.bytes.len()));
+        }
+        let rest = Rest {
+            bytes: &self.bytes[2..],
+            at: self.at + 2,
+        };
+        Ok(((self.bytes[0], self.bytes[1]), rest))
+    }
+
     // The next two, low byte first.
     fn word(self) -> Result<(u16, Rest<'a>), Refusal>
         ensures { read_from word.reading self.entry ≡ answer result }
     {
-        let (low, rest) = self.byte()?;
-        let (high, rest) = rest.byte()?;
+        let ((low, high), rest) = self.two_bytes()?;
         Ok((u16::from(low) + 256 * u16::from(high), rest))
     }
 
@@ -162,8 +175,7 @@ impl<'a> Rest<'a> {
     ) -> Result<(Precedence, Rest<'a>), Refusal>
         ensures { read_as unlagged (read_from (tested precedence (precedence_tests n last)).reading self.entry) ≡ answer result }
     {
-        let (predecessor, rest) = self.byte()?;
-        let (successor, rest) = rest.byte()?;
+        let ((predecessor, successor), rest) = self.two_bytes()?;
         let o = Precedence {
             predecessor,
             successor,

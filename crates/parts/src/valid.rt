@@ -28,11 +28,12 @@ pub fn both_items(o: Precedence, n: usize) -> bool
     usize::from(o.predecessor) < n && usize::from(o.successor) < n && o.predecessor != o.successor
 }
 
-// o is above p, by predecessor, then successor.
+// o is above p, by predecessor, then successor: each pair compares as one number, which costs least for each order of a sheet.
 pub fn is_above(p: Precedence, o: Precedence) -> bool
     ensures { result ≡ above (arc_of p) (arc_of o) }
 {
-    (p.predecessor, p.successor) < (o.predecessor, o.successor)
+    let before = 256 * u16::from(p.predecessor) + u16::from(p.successor);
+    before < 256 * u16::from(o.predecessor) + u16::from(o.successor)
 }
 
 // The precedence is above the one before.

@@ -114,6 +114,8 @@ pub fn repeat_infeasible(valid: ValidInstance, checkpoint: Checkpoint) -> Search
 }
 
 // The call on a packed checkpoint: its path must be packed in its choice.
+// Not inlined, so that what it takes of the stack isn't there where an open one is searched.
+#[inline(never)]
 pub fn repeat_packed(valid: ValidInstance, checkpoint: Checkpoint, path: Path) -> SearchResult
     requires { checkpoint.choice ≤ last_choice (turnable_of valid.instance) }
     ensures { (budget : ℕ)

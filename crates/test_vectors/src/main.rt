@@ -168,7 +168,8 @@ fn report_all<W: Write>(out: &mut W, cases: &[u8]) -> io::Result<()> {
 }
 
 fn main(rt: HostRuntime) -> io::Result<()> {
-    let mut cases = Vec::new(rt.alloc());
+    // Room for all of it and a byte to meet the end with: grown as the cases came, it would be got twice over.
+    let mut cases = Vec::with_capacity(rt.alloc(), MOST_INPUT as usize + 1)?;
     rt.stdin().take(MOST_INPUT).read_to_end(&mut cases)?;
     let mut out = BufWriter::new(rt.alloc(), io::writer(&rt))?;
     report_all(&mut out, &cases)?;

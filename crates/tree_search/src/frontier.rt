@@ -50,7 +50,13 @@ impl Frontier {
         self.kept = self.kept + 1 - usize::from(branch);
         self.depth += 1;
         self.from = pair_number(place.u, place.v);
-        apply_branch(&mut self.store, place, branch != 0);
+        apply_branch(
+            &mut self.store.domains,
+            &mut self.store.rows,
+            &mut self.store.queue,
+            place,
+            branch != 0,
+        );
     }
 
     // Goes back to the last branching point at which the path takes the first branch, and takes the second; or there is no such point.
@@ -67,7 +73,13 @@ impl Frontier {
         let place = snapshot.place;
         snapshot.load(&mut self.store, &mut self.totals);
         self.from = pair_number(place.u, place.v);
-        apply_branch(&mut self.store, place, true);
+        apply_branch(
+            &mut self.store.domains,
+            &mut self.store.rows,
+            &mut self.store.queue,
+            place,
+            true,
+        );
         true
     }
 

@@ -6,6 +6,7 @@ ghost use Rattle.model.specs.Problem.{Problem};
 ghost use Rattle.model.specs.Run as R;
 ghost use Rattle.model.specs.Search as S;
 ghost use Rattle.instance.specs.Meaning.{problem_of};
+ghost use Rattle.nodes.specs.Nodes.{At};
 ghost use Rattle.tree_paths.specs.Checkpoints.{path_of};
 ghost use Rattle.tree_search.specs.Results.{tree_result};
 
@@ -14,6 +15,7 @@ use crate::outcome::{Outcome, TreeResult};
 use instance::valid::ValidInstance;
 use nodes::snapshots::{MAX_LEVELS, Snapshot};
 use nodes::starts::starts_of;
+use opening::Root;
 use tree_paths::outlook::Outlook;
 use tree_paths::path::{Path, path_branches};
 
@@ -33,14 +35,25 @@ fn dead_end(length: usize, budget: u32) -> TreeResult
     TreeResult::of(Outcome::Infeasible, 1)
 }
 
-// The call on an open path: from the root along it, and then the steps, while the budget lasts. The frontier's branches are those to take at each
-// branching point: the path's, and past it 0, the first.
+// The call on an open path: from the root along it, and then the steps, while the budget lasts.
+// Not inlined, so that a root stands on the stack once, whoever calls.
+#[inline(never)]
 pub fn run(valid: ValidInstance, path: Path, budget: u32) -> TreeResult
     ensures { result ≡ tree_result (problem_of valid.instance) budget (S.open_at (path_of path.length path.branches)) }
 {
     let Ok(root) = opening::root_of(valid) else {
         return dead_end(path.length, budget);
     };
+    run_from(&root, valid, path, budget)
+}
+
+// The same from the root. The frontier's branches are those to take at each branching point: the path's, and past it 0, the first.
+// Not inlined: the snapshots take most of the stack, and what it takes to make the root is free again here.
+#[inline(never)]
+fn run_from(root: &Root, valid: ValidInstance, path: Path, budget: u32) -> TreeResult
+    requires { At (problem_of valid.instance) root.now.store.domains root.now.store.rows root.now.store.queue root.now.totals.numbers [] }
+    ensures { result ≡ tree_result (problem_of valid.instance) budget (S.open_at (path_of path.length path.branches)) }
+{
     let n = valid.instance.item_count;
     let mut snapshots = [Snapshot::blank(); MAX_LEVELS];
     let mut frontier = Frontier {

@@ -1,3 +1,5 @@
+-- By bisection. Invariant: the lengths up to `low` have inconsistent opening domains, and the one past `high` has not; `shortened` is the instance but for its
+-- shifts. Measure: `high - low`.
 use Rattle.std.specs.Prelude.{◌-◌}
 use Rattle.makespan.proofs.Bisection.{Between}
 use Rattle.makespan.proofs.conflicts.Given as goal

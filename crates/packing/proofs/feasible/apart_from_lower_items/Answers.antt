@@ -10,5 +10,5 @@ pub returns : goal.returns
 unfolding apart_from_lower
 returns c =
     let a = c.args in
-    all_range _ (apart_on_some_axis (problem_of a.instance) (positions_of a.packing) a.u) a.u _ c.all.new.self _ _ refl
+    all_range _ (apart_on_some_axis (problem_of a.instance.now) (positions_of a.packing.now) a.u) a.u _ c.all.new.self _ _ refl
     (λ x b q h. search (rules, tests)) c.all.ensures.ran

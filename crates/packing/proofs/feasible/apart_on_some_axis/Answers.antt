@@ -11,7 +11,7 @@ use Rattle.packing.proofs.feasible.apart_on_some_axis.Goals as goal
 pub returns : goal.returns
 returns c =
     let a = c.args in
-    let apart : ℕ → Bool = λ axis. apart_on a.instance.walkway axis c.new-first.result c.new-second.result in
+    let apart : ℕ → Bool = λ axis. apart_on a.instance.now.walkway axis c.new-first.result c.new-second.result in
     let answer = cases_from_any c.any.new.self _ c.any.result (λ axis. apart (axis_number axis) ≡ true) (λ axis. apart (axis_number axis) ≡ false) c.any.ensures.ran
     (YieldsList-from_slice (X ∷ Y ∷ T ∷ []) cc) (λ x q k. search (rules, tests)) (λ x q k. search (rules, tests)) in
     any_answer (λ axis. apart (axis_number axis)) _ 3 (X ∷ Y ∷ T ∷ []) X _ answer refl (numbered apart)

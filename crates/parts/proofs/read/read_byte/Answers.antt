@@ -8,5 +8,5 @@ use Rattle.parts.proofs.read.read_byte.Goals as goal
 pub returns : goal.returns
 returns c =
     let h : 0 < length c.args.bytes.now = grind arith in
-    let v : 0 < get_or c.args.bytes.now 0 0 = omega (arith, c.if-bytes-eq0.false) in
+    let v : 0 < get_or c.args.bytes.now 0 0 = omega arith in
     rw c.if-not-present.false (byte_number-run c.args.at c.args.bytes.now ∙ rw (byte-next c.args.at c.args.bytes.now h, rest_of) (rw (lt-leb _ 0 v) refl))

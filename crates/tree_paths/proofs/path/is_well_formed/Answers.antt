@@ -13,7 +13,7 @@ returns-then-length_allowed c = elim c.if-checkpoint-le-MAX_BRANCHES.branch [
     ← w.length_allowed.ensures,
     sym w.value-is ∙ c.if-length_allowed.true,
   ) c.all_branches.ensures
-  | else-checkpoint-le-MAX_BRANCHES w ↦ let e : true ≡ false = sym c.if-length_allowed.true ∙ (w.value-is ∙ lt-leb c.args.checkpoint.length 270 (omega arith)) in absurd (true≢false e)
+  | else-checkpoint-le-MAX_BRANCHES w ↦ let e : true ≡ false = sym c.if-length_allowed.true ∙ (w.value-is ∙ lt-leb _ 270 (omega arith)) in absurd (true≢false e)
 ]
 
 pub returns-else-length_allowed : goal.returns-else-length_allowed

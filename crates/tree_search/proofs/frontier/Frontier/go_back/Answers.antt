@@ -30,11 +30,14 @@ load-requires-clause-tabled c = last_tabled c.requires.2 c.back-self.ensures c.i
 pub pair_number-self-requires : goal.pair_number-self-requires
 pair_number-self-requires c = last_rises c.requires.2 c.back-self.ensures c.if-self-eq0.false c.index-snapshots-self.result
 
-pub apply_branch-requires : goal.apply_branch-requires
-apply_branch-requires c =
+pub apply_branch-requires-clause-laid : goal.apply_branch-requires-clause-laid
+apply_branch-requires-clause-laid c = c.load.new.store.good.laid
+
+pub apply_branch-requires-clause-branchable : goal.apply_branch-requires-clause-branchable
+apply_branch-requires-clause-branchable c =
     rw c.load.ensures.domains (last_branchable c.requires.2 c.back-self.ensures c.if-self-eq0.false c.index-snapshots-self.result)
 
 pub returns : goal.returns
 returns c = λ p path h.
-    went_back h c.back-self.ensures c.if-self-eq0.false c.index-snapshots-self.result c.load.new.store c.apply_branch.new.store c.load.new.totals
+    went_back h c.back-self.ensures c.if-self-eq0.false c.index-snapshots-self.result c.load.new.store _ c.load.new.totals
     c.load.ensures.domains c.load.ensures.totals c.apply_branch.ensures c.pair_number-self.ensures

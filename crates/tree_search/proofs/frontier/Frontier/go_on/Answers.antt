@@ -24,10 +24,13 @@ overflow_add-self-2 c = omega (arith, (fork_room c.requires.2).0)
 pub pair_number-self-requires : goal.pair_number-self-requires
 pair_number-self-requires c = fork_rises c.requires.2
 
-pub apply_branch-requires : goal.apply_branch-requires
-apply_branch-requires c = fork_branchable c.requires.2
+pub apply_branch-requires-clause-laid : goal.apply_branch-requires-clause-laid
+apply_branch-requires-clause-laid c = c.args.self.now.store.good.laid
+
+pub apply_branch-requires-clause-branchable : goal.apply_branch-requires-clause-branchable
+apply_branch-requires-clause-branchable c = fork_branchable c.requires.2
 
 pub returns : goal.returns
 returns c = λ p path h.
     let e = c.save.ensures in
-    rw c.from.ensures (went_on h c.save.new.self e.domains e.rows e.totals e.place c.apply_branch.new.store c.apply_branch.ensures c.pair_number-self.ensures)
+    rw c.from.ensures (went_on h c.save.new.self e.domains e.rows e.totals e.place _ c.apply_branch.ensures c.pair_number-self.ensures)

@@ -19,8 +19,8 @@ use Rattle.tree_search.proofs.Frontiers.{same_branches, at_conflict, at_fork}
 use Rattle.tree_search.proofs.Outcomes.{result_unfollowed}
 use Rattle.tree_search.proofs.Stepping.{past_start, past_small, past_fork, past_back, result_infeasible, result_packed, result_spent}
 use Rattle.model.specs.Search as S
-use Rattle.tree_search.proofs.run.Goals as goal
-use Rattle.tree_search.proofs.run.Goals.{in-Fork, in-Conflict+else-not-go_back}
+use Rattle.tree_search.proofs.run_from.Goals as goal
+use Rattle.tree_search.proofs.run_from.Goals.{in-Fork, in-Conflict+else-not-go_back}
 
 -- the root of an instance, with no snapshots yet
 at_root : (i : Instance) {n : ℕ} {given : List ℕ} → Sound (problem_of i) → Bits n given → (root : Root)
@@ -47,7 +47,7 @@ pub follow-requires : goal.follow-requires
 follow-requires c =
     let i = c.args.valid.instance in
     let sound = valid-sound i c.args.valid.is_valid (search (length_mapped, c.well_formed)) in
-    (problem_of i, c.args.path.branches, at_root i sound c.args.path.bits c.in-Ok.root c.in-Ok.ensures (length-replicate {A = Snapshot} 90 c.blank-snapshots.result) c.path_branches.ensures)
+    (problem_of i, c.args.path.branches, at_root i sound c.args.path.bits c.args.root.now c.requires (length-replicate {A = Snapshot} 90 c.blank-snapshots.result) c.path_branches.ensures)
 
 pub returns-then-not-follow : goal.returns-then-not-follow
 unfolding not_following
@@ -56,7 +56,7 @@ returns-then-not-follow c =
     let sound = valid-sound i c.args.valid.is_valid (search (length_mapped, c.well_formed)) in
     c.of.ensures ∙ result_unfollowed (problem_of i) c.args.budget (S.open_at (path_of c.args.path.length c.args.path.branches))
     (c.if-not-follow.ensures (problem_of i) c.args.path.branches
-    (at_root i sound c.args.path.bits c.in-Ok.root c.in-Ok.ensures (length-replicate {A = Snapshot} 90 c.blank-snapshots.result) c.path_branches.ensures))
+    (at_root i sound c.args.path.bits c.args.root.now c.requires (length-replicate {A = Snapshot} 90 c.blank-snapshots.result) c.path_branches.ensures))
 
 pub loop-steps-init : goal.loop-steps-init
 unfolding problem_of
@@ -64,7 +64,7 @@ loop-steps-init c =
     let i = c.args.valid.instance in
     let sound = valid-sound i c.args.valid.is_valid (search (length_mapped, c.well_formed)) in
     let (here, held) = c.if-not-follow.ensures (problem_of i) c.args.path.branches
-    (at_root i sound c.args.path.bits c.in-Ok.root c.in-Ok.ensures (length-replicate {A = Snapshot} 90 c.blank-snapshots.result) c.path_branches.ensures) in
+    (at_root i sound c.args.path.bits c.args.root.now c.requires (length-replicate {A = Snapshot} 90 c.blank-snapshots.result) c.path_branches.ensures) in
     record {
       path = path_of c.args.path.length c.args.path.branches;
       at = record { sound = sound; count = refl; here = here };

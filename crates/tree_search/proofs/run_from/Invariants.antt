@@ -8,7 +8,7 @@ use Rattle.tree_paths.specs.Checkpoints.{path_of}
 use Rattle.tree_search.specs.Frontiers.{AtPath}
 use Rattle.tree_search.specs.declared.frontier.Frontier.{Frontier}
 use Rattle.tree_search.proofs.Stepping.{PastPath}
-use Rattle.tree_search.proofs.run.Given as goal
+use Rattle.tree_search.proofs.run_from.Given as goal
 
 pub record CallState (p : Problem) (n budget : ℕ) (start : List Branch) (steps : ℕ) (f : Frontier) (s : List Snapshot) : Type 0 where
   pub path : List Branch
