@@ -1,23 +1,24 @@
 // Snapshots of branching points.
 ghost use Rattle.std.specs.Prelude.{◌≡◌, ◌++◌, take, drop, replicate};
 ghost use Rattle.domains.specs.Rows.{Laid};
-ghost use Rattle.domains.specs.Queue.{no_changes};
+ghost use Rattle.domains.specs.Queue.{no_changes, pair_code};
 ghost use Rattle.chains.specs.Totals.{Tabled};
 
 use chains::totals::{NUMBERS, SIZES, Totals};
+use domains::queue::code;
 use domains::store::Store;
 use domains::{DOMAINS, Place, ROWS};
 
 // A pair takes the first branch at most twice, and there are 45 pairs.
 pub const MAX_LEVELS: usize = 90;
 
-// What is kept of a branching point at which the first branch is taken: its domains, rows and totals, and the place to branch at.
+// What is kept of a branching point at which the first branch is taken: its domains, rows and totals, and the number of the place to branch at.
 #[derive(Clone, Copy)]
 pub struct Snapshot {
     pub domains: [u8; DOMAINS],
     pub rows: [u32; ROWS],
     pub totals: [u16; SIZES],
-    pub place: Place,
+    pub code: u16,
 }
 
 // Totals alone are put back: the measures behind them stay.
@@ -33,17 +34,13 @@ impl Snapshot {
         ensures domains { result.domains ≡ replicate 135 0 }
         ensures rows { result.rows ≡ replicate 30 0 }
         ensures totals { result.totals ≡ replicate 60 0 }
-        ensures place { (result.place.axis ≡ 0) × (result.place.u ≡ 0) × (result.place.v ≡ 1) }
+        ensures code { result.code ≡ 0 }
     {
         Snapshot {
             domains: [0; DOMAINS],
             rows: [0; ROWS],
             totals: [0; SIZES],
-            place: Place {
-                axis: 0,
-                u: 0,
-                v: 1,
-            },
+            code: 0,
         }
     }
 
@@ -51,12 +48,12 @@ impl Snapshot {
         ensures domains { self.new.domains ≡ store.now.domains }
         ensures rows { self.new.rows ≡ store.now.rows }
         ensures totals { self.new.totals ≡ take 60 totals.now.numbers }
-        ensures place { self.new.place ≡ place }
+        ensures code { self.new.code ≡ pair_code place.axis place.u place.v }
     {
         self.domains = store.domains;
         self.rows = store.rows;
         self.totals.copy_from_slice(&totals.numbers[..SIZES]);
-        self.place = place;
+        self.code = code(place);
     }
 
     pub fn load(&self, store: &mut Store, totals: &mut Totals)

@@ -1,5 +1,5 @@
 -- The state of a search between two looks: a path, its domains ready to be looked at, and the snapshots to go back to.
-use Rattle.std.specs.Prelude.{◌∷◌, ◌++◌, ◌⊎◌, ◌≢◌, ◌≡◌, ◌+◌, ◌-◌, ◌≤◌, ◌<◌}
+use Rattle.std.specs.Prelude.{◌∷◌, ◌++◌, ◌⊎◌, ◌≢◌, ◌≡◌, ◌+◌, ◌-◌, ◌/◌, ◌%◌, ◌≤◌, ◌<◌}
 use Rattle.prelude.specs.Names.{true, not, List, [], inl, inr, refl, sym, ap, ◌∙◌, subst, ℕ, zero, suc}
 use Rattle.prelude.specs.Names.{arith, eqb, eqb-suc-zero, length, get_or, set, take, drop, length-set, length-drop, ext_get_or}
 use Rattle.prelude.specs.Names.{get_or-drop, get_or-set_same, get_or-set_other, length-take-le}
@@ -21,7 +21,9 @@ use Rattle.model.specs.Run.{look}
 use Rattle.model.specs.FirstBranches.{saved, Passed}
 use Rattle.nodes.specs.Choice.{branch_by, Branchable, Branched}
 use Rattle.domains.specs.Queue.{max_queue}
-use Rattle.nodes.specs.Nodes.{slot_of, At, Seen}
+use Rattle.nodes.specs.Nodes.{slot_of, slot_coded, At, Seen}
+use Rattle.domains.specs.Queue.{Coded, pair_code}
+use Rattle.model.proofs.Slots.{proper-up}
 use Rattle.nodes.specs.declared.snapshots.Snapshot.{Snapshot}
 use Rattle.tree_paths.specs.States.{Kept, Stacked, Standing}
 use Rattle.tree_paths.specs.Checkpoints.{branch_of, PathIn, Backed, some_left, none_left}
@@ -44,6 +46,14 @@ same_behind {t} {s} m =
 pub side_of : (m : ℕ) → branch_by (not (eqb m 0)) ≡ branch_of m
 side_of zero = refl
 side_of (suc m) = rw (eqb-suc-zero m)
+
+-- a place and its number
+pub place_coded : (c : Place) {x : ℕ} → x ≡ pair_code c.axis c.u c.v → slot_coded x ≡ slot_of c
+place_coded c {x} e =
+    let a : x / 256 ≡ c.axis = omega (arith, e, c.proper.item_u, c.proper.item_v) in
+    let u : x / 16 % 16 ≡ c.u = omega (arith, e, c.proper.item_u, c.proper.item_v) in
+    let v : x % 16 ≡ c.v = omega (arith, e, c.proper.item_u, c.proper.item_v) in
+    λ i. record { axis = a i; u = u i; v = v i }
 
 module _ (p : Problem) (sound : Sound p) (path : List Branch) (fork : look p path ≡ S.fork) where
   -- a branching point's place
@@ -73,7 +83,7 @@ module _ {p : Problem} (sound : Sound p) {m : List ℕ} {s : List Snapshot} {kep
 
     module _ {k : Domains} {rows t : List ℕ} (behind : drop 60 t ≡ m) (κ : Seen p k rows t path) (c : Place)
         (e : choice (path_domains p path) ≡ slot_of c) (x : Snapshot) (kd : x.domains ≡ k) (kr : x.rows ≡ rows) (kt : x.totals ≡ take 60 t)
-        (kc : x.place ≡ c) where
+        (kc : slot_coded x.code ≡ slot_of c) where
       abbrev next : List Snapshot
       next = set s kept x
 
@@ -98,7 +108,7 @@ module _ {p : Problem} (sound : Sound p) {m : List ℕ} {s : List Snapshot} {kep
         there = get_or-set_same s kept x x (omega (arith, fork_level, σ.room));
         long = rw kt (length-take-le 60 t (omega (arith, κ.rested.tabled.long)));
         seen = rw (kd, kr, kt, ← behind, take-append-drop) κ;
-        place = rw kc e;
+        place = e ∙ sym kc;
       }
 
       -- b is the number of the branch
@@ -175,33 +185,45 @@ module _ {p : Problem} (sound : Sound p) {m : List ℕ} {s : List Snapshot} {kep
     x_is : x ≡ last_level.snapshot
     x_is = get_or_default s (kept - 1) d last_level.snapshot (omega (arith, back_below, σ.room)) ∙ last_level.there
 
-    pub back-place : choice (path_domains p τ.to) ≡ slot_of x.place
-    back-place = rw x_is last_level.place
+    back-code : choice (path_domains p τ.to) ≡ slot_coded x.code
+    back-code = rw x_is last_level.place
+
+    -- the number stands for two items
+    pub back-coded : Coded x.code
+    back-coded =
+        let (i, u) = look_fork p τ.to τ.forks.0 in
+        let r = subst (λ (s : Slot). Rising p.items s.axis s.u s.v) back-code (path_fork p sound τ.to i u).place in
+        proper-up (record { axis = r.axis; rising = r.rising; item = omega (arith, r.item, sound.limited) })
 
     pub back-seen : Seen p x.domains x.rows (x.totals ++ m) τ.to
     back-seen = rw x_is last_level.seen
-
-    pub back-pair : (x.place.u < x.place.v) × (x.place.v < 10)
-    back-pair = fork_pair p sound τ.to τ.forks.0 x.place back-place
 
     -- the measures stay behind the totals that are loaded
     pub back-behind : drop 60 (x.totals ++ m) ≡ m
     back-behind = let long : length x.totals ≡ 60 = rw x_is last_level.long in rw long at (drop-append_seam x.totals m)
 
-    pub back_branchable : Branchable x.domains x.place
-    back_branchable = branchable p sound τ.to τ.forks.1 τ.forks.0 back-seen x.place back-place
+    -- the place of that number
+    module _ (c : Place) (is : slot_coded x.code ≡ slot_of c) where
+      back-place : choice (path_domains p τ.to) ≡ slot_of c
+      back-place = back-code ∙ is
 
-    pub standing-back : {from' : ℕ} → from' ≡ pair_number x.place.u x.place.v → {left : ℕ} → left ≡ length (second ∷ τ.to)
-        → Standing p m s (kept - 1) left from' (second ∷ τ.to)
-    standing-back f deep = record {
-      forks = τ.forks;
-      passed = rw f (fork_passed p sound τ.to τ.forks.0 x.place back-place second);
-      deep = deep;
-      many = omega (arith, back_level);
-      room = σ.room;
-      stacked = (subst (Stacked p s m) τ.saves σ.stacked).1;
-    }
+      pub back-pair : (c.u < c.v) × (c.v < 10)
+      back-pair = fork_pair p sound τ.to τ.forks.0 c back-place
 
-    pub at-back : {q rows' r : List ℕ} {j : Domains} → length q ≡ max_queue → Branched x.domains q x.place true j rows' r
-        → At p j rows' r (x.totals ++ m) (second ∷ τ.to)
-    at-back l β = branch_at_path p sound τ.to τ.forks.1 τ.forks.0 back-seen x.place back-place l β
+      pub back_branchable : Branchable x.domains c
+      back_branchable = branchable p sound τ.to τ.forks.1 τ.forks.0 back-seen c back-place
+
+      pub standing-back : {from' : ℕ} → from' ≡ pair_number c.u c.v → {left : ℕ} → left ≡ length (second ∷ τ.to)
+          → Standing p m s (kept - 1) left from' (second ∷ τ.to)
+      standing-back f deep = record {
+        forks = τ.forks;
+        passed = rw f (fork_passed p sound τ.to τ.forks.0 c back-place second);
+        deep = deep;
+        many = omega (arith, back_level);
+        room = σ.room;
+        stacked = (subst (Stacked p s m) τ.saves σ.stacked).1;
+      }
+
+      pub at-back : {q rows' r : List ℕ} {j : Domains} → length q ≡ max_queue → Branched x.domains q c true j rows' r
+          → At p j rows' r (x.totals ++ m) (second ∷ τ.to)
+      at-back l β = branch_at_path p sound τ.to τ.forks.1 τ.forks.0 back-seen c back-place l β

@@ -5,7 +5,7 @@ use Rattle.model.specs.Branching.{Branch, choice, path_domains}
 use Rattle.model.specs.FirstBranches.{saved, Passed}
 use Rattle.model.specs.Problem.{Problem}
 use Rattle.model.specs.Run.{look}
-use Rattle.nodes.specs.Nodes.{slot_of, Seen}
+use Rattle.nodes.specs.Nodes.{slot_coded, Seen}
 use Rattle.nodes.specs.declared.snapshots.Snapshot.{Snapshot}
 use Rattle.model.specs.Search as S
 
@@ -15,7 +15,7 @@ pub record Kept (p : Problem) (s : List Snapshot) (m : List ℕ) (i : ℕ) (path
   pub there : get_or s i snapshot ≡ snapshot
   pub long : length snapshot.totals ≡ 60
   pub seen : Seen p snapshot.domains snapshot.rows (snapshot.totals ++ m) path
-  pub place : choice (path_domains p path) ≡ slot_of snapshot.place
+  pub place : choice (path_domains p path) ≡ slot_coded snapshot.code
 
 -- all that are kept, the last one first
 abbrev pub Stacked : Problem → List Snapshot → List ℕ → List (List Branch) → Type 0

@@ -8,11 +8,13 @@ use Rattle.model.specs.Pairs.{pair_number}
 use Rattle.model.specs.Problem.{Problem}
 use Rattle.model.specs.Run.{look}
 use Rattle.domains.specs.Rows.{Laid}
+use Rattle.domains.specs.Queue.{Coded}
 use Rattle.domains.specs.declared.Place.{Place}
 use Rattle.domains.specs.declared.store.Store.{Store}
 use Rattle.chains.specs.Totals.{Tabled, SameMeasures}
 use Rattle.chains.specs.declared.totals.Totals.{Totals}
 use Rattle.nodes.specs.Choice.{Branchable, Branches}
+use Rattle.nodes.specs.Nodes.{slot_of, slot_coded}
 use Rattle.nodes.specs.declared.snapshots.Snapshot.{Snapshot}
 use Rattle.nodes.proofs.Branches.{branchable}
 use Rattle.tree_paths.specs.Checkpoints.{path_of, branches_of, PathIn, Backed}
@@ -21,7 +23,7 @@ use Rattle.tree_paths.specs.declared.outlook.Outlook.{Outlook}
 use Rattle.tree_paths.specs.declared.outlook.Outlook.TheVariants.{Conflict, Complete, Fork}
 use Rattle.tree_paths.proofs.Checkpoints.{branches_length, branches_small, path_length}
 use Rattle.tree_paths.proofs.SearchState.{same_behind, fork_pair, fork_level, fork_depth, standing-next, at-next, BackTo, back_branches, back-infeasible}
-use Rattle.tree_paths.proofs.SearchState.{back_exists, back_level, back_below, back-seen, back-pair, back-behind, back_branchable, standing-back, at-back}
+use Rattle.tree_paths.proofs.SearchState.{back_exists, back_level, back_below, back-seen, back-pair, back-behind, back-coded, back_branchable, standing-back, at-back}
 use Rattle.tree_search.specs.Frontiers.{Stands, Open, AtPath, seen_by, Shows, AtFork, WentOn, AtConflict, WentBack, AtRoot}
 use Rattle.tree_search.specs.declared.frontier.Frontier.{Frontier}
 use Rattle.tree_search.proofs.Stepping.{given_next}
@@ -42,7 +44,7 @@ module _ {p : Problem} {path : List Branch} {f : Frontier} {ss : List Snapshot} 
   pub fork_branchable : Branchable f.store.domains c
   fork_branchable = branchable p h.sound path h.stands.forks h.fork h.seen c h.place
 
-  pub went_on : (x : Snapshot) → x.domains ≡ f.store.domains → x.rows ≡ f.store.rows → x.totals ≡ take 60 f.totals.numbers → x.place ≡ c
+  pub went_on : (x : Snapshot) → x.domains ≡ f.store.domains → x.rows ≡ f.store.rows → x.totals ≡ take 60 f.totals.numbers → slot_coded x.code ≡ slot_of c
       → (s : Store) → Branches f.store c (not (eqb (get_or f.branches f.depth 0) 0)) s → {from : ℕ} → from ≡ pair_number c.u c.v
       → WentOn p path f (record {
         store = s;
@@ -87,32 +89,37 @@ module _ {p : Problem} {path : List Branch} {f : Frontier} {ss : List Snapshot} 
         pub last_tabled : Tabled (x.totals ++ drop 60 f.totals.numbers)
         last_tabled = (back-seen h.sound h.stands τ d).rested.tabled
 
-        pub last_rises : (x.place.u < x.place.v) × (x.place.v < 10)
-        last_rises = back-pair h.sound h.stands τ d
+        pub last_coded : Coded x.code
+        last_coded = back-coded h.sound h.stands τ d
 
-        pub last_branchable : Branchable x.domains x.place
-        last_branchable = back_branchable h.sound h.stands τ d
+        -- the place of its number
+        module _ (c : Place) (is : slot_coded x.code ≡ slot_of c) where
+          pub last_rises : (c.u < c.v) × (c.v < 10)
+          last_rises = back-pair h.sound h.stands τ d c is
 
-        pub went_back : (l s : Store) (t : Totals) → l.domains ≡ x.domains → t.numbers ≡ x.totals ++ drop 60 f.totals.numbers → Branches l x.place true s
-            → {from : ℕ} → from ≡ pair_number x.place.u x.place.v
-            → WentBack p path (record {
-              store = s;
-              totals = t;
-              kept = f.kept - 1;
-              branches = bs;
-              depth = left;
-              from = from;
-            }) ss true
-        went_back l s t ld lt β e =
-            let held = back_branches p path h.stands.forks (δ path h.held) τ in (
-              τ.to,
-              τ.back,
-              record {
-                stands = rw (lt, back-behind h.sound h.stands τ d) (standing-back h.sound h.stands τ d e held.many);
-                at = rw lt (at-back h.sound h.stands τ d l.good.long (rw ld at β));
-              },
-              held,
-            )
+          pub last_branchable : Branchable x.domains c
+          last_branchable = back_branchable h.sound h.stands τ d c is
+
+          pub went_back : (l s : Store) (t : Totals) → l.domains ≡ x.domains → t.numbers ≡ x.totals ++ drop 60 f.totals.numbers → Branches l c true s
+              → {from : ℕ} → from ≡ pair_number c.u c.v
+              → WentBack p path (record {
+                store = s;
+                totals = t;
+                kept = f.kept - 1;
+                branches = bs;
+                depth = left;
+                from = from;
+              }) ss true
+          went_back l s t ld lt β e =
+              let held = back_branches p path h.stands.forks (δ path h.held) τ in (
+                τ.to,
+                τ.back,
+                record {
+                  stands = rw (lt, back-behind h.sound h.stands τ d) (standing-back h.sound h.stands τ d c is e held.many);
+                  at = rw lt (at-back h.sound h.stands τ d c is l.good.long (rw ld at β));
+                },
+                held,
+              )
 
 -- What a look at a frontier shows
 module _ {p : Problem} {n : ℕ} {f : Frontier} {ss : List Snapshot} {path : List Branch} (h : AtPath p n f ss path) where

@@ -9,6 +9,7 @@ ghost use Rattle.tree_search.specs.Results.{ended};
 use crate::outcome::{Outcome, TreeResult};
 use chains::totals::Totals;
 use domains::Place;
+use domains::queue::place_of;
 use domains::store::Store;
 use instance::Instance;
 use nodes::branching::apply_branch;
@@ -70,7 +71,7 @@ impl Frontier {
         }
         self.kept -= 1;
         let snapshot = &snapshots[self.kept];
-        let place = snapshot.place;
+        let place = place_of(snapshot.code);
         snapshot.load(&mut self.store, &mut self.totals);
         self.from = pair_number(place.u, place.v);
         apply_branch(

@@ -1,5 +1,6 @@
 -- A branching point has a level and a branch to spare; what it shows is kept, and the branch taken.
 use Rattle.prelude.specs.Names.{arith}
+use Rattle.tree_paths.proofs.SearchState.{place_coded}
 use Rattle.tree_search.proofs.Frontiers.{fork_room, fork_rises, fork_branchable, went_on}
 use Rattle.tree_search.proofs.frontier.Frontier.go_on.Goals as goal
 
@@ -8,9 +9,6 @@ bounds-self-self c = (fork_room c.requires.2).0
 
 pub offset_bounds-snapshots-self : goal.offset_bounds-snapshots-self
 offset_bounds-snapshots-self c = omega (arith, (fork_room c.requires.2).1)
-
-pub listed : goal.listed
-listed c = omega (arith, (fork_room c.requires.2).1, c.requires.2.stands.room)
 
 pub bounds-snapshots-self : goal.bounds-snapshots-self
 bounds-snapshots-self c = (fork_room c.requires.2).1
@@ -33,4 +31,4 @@ apply_branch-requires-clause-branchable c = fork_branchable c.requires.2
 pub returns : goal.returns
 returns c = λ p path h.
     let e = c.save.ensures in
-    rw c.from.ensures (went_on h c.save.new.self e.domains e.rows e.totals e.place _ c.apply_branch.ensures c.pair_number-self.ensures)
+    rw c.from.ensures (went_on h c.save.new.self e.domains e.rows e.totals (place_coded c.args.place e.code) _ c.apply_branch.ensures c.pair_number-self.ensures)
