@@ -9,6 +9,7 @@ ghost use Rattle.formats.specs.Reading.{Bytes};
 ghost use Rattle.search.specs.Results.{answer_number};
 ghost use Rattle.c_api.specs.Calls.{check_code, pieces_code, search_code, note_after, steps_after, plan_after};
 ghost use Rattle.c_api.specs.Calls.{code_of, outputs_fit, lengths_fit};
+ghost use Rattle.c_api.specs.Calls.{instance_code, instance_note, instance_steps, instance_plan};
 ghost use Rattle.c_api.specs.Calls.{PathFits, when_packed, note_left, steps_left, plan_left};
 
 use buffers::{checkpoints, plans, words};
@@ -111,7 +112,23 @@ fn search_sheet(
     ensures plan_after { plan.new ≡ plan_after sheet.now note.old allowance steps.old plan.old }
 {
     let instance = Instance::read(sheet)?;
-    let valid = ValidInstance { instance };
+    search_instance(ValidInstance { instance }, note, allowance, steps, plan)
+}
+
+// The same on the instance that its sheet reads as. It is a function of its own, so that nothing of what a search needs is cleared for a sheet that is refused.
+fn search_instance(
+    valid: ValidInstance,
+    note: &mut [u8],
+    allowance: u32,
+    steps: &mut [u8],
+    plan: &mut [u8],
+) -> Result<u32, Refusal>
+    ensures value { code_of result ≡ instance_code valid.instance note.old allowance steps.old plan.old }
+    ensures note_after { note.new ≡ instance_note valid.instance note.old allowance steps.old plan.old }
+    ensures steps_after { steps.new ≡ instance_steps valid.instance note.old allowance steps.old plan.old }
+    ensures plan_after { plan.new ≡ instance_plan valid.instance note.old allowance steps.old plan.old }
+{
+    let instance = valid.instance;
     if !lengths_fit(valid, note.len(), steps.len(), plan.len()) {
         return Err(Refusal::BadArgument);
     }

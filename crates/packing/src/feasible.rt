@@ -12,17 +12,17 @@ use instance::{Instance, Packing};
 use parts::Precedence;
 
 // On one axis every item ends within the container.
-fn inside_on_axis(valid: ValidInstance, packing: Packing, axis: Axis) -> bool
-    ensures { result ≡ inside_on (problem_of valid.instance) (positions_of packing) (axis_number axis) }
+fn inside_on_axis(valid: &ValidInstance, packing: &Packing, axis: Axis) -> bool
+    ensures { result ≡ inside_on (problem_of valid.now.instance) (positions_of packing.now) (axis_number axis) }
 {
-    let instance = valid.instance;
+    let instance = &valid.instance;
     let limit = u32::from(axis.measure_of(instance.container));
-    (0..instance.item_count).all(|u| Placed::new(&instance, &packing, u).end(axis) <= limit)
+    (0..instance.item_count).all(|u| Placed::new(instance, packing, u).end(axis) <= limit)
 }
 
 // On every axis every item ends within the container.
-fn inside(valid: ValidInstance, packing: Packing) -> bool
-    ensures { result ≡ inside_test (problem_of valid.instance) (positions_of packing) }
+fn inside(valid: &ValidInstance, packing: &Packing) -> bool
+    ensures { result ≡ inside_test (problem_of valid.now.instance) (positions_of packing.now) }
 {
     Axis::ALL
         .iter()
@@ -48,11 +48,11 @@ fn apart_from_lower_items(instance: &Instance, packing: &Packing, u: usize) -> b
 }
 
 // Each two items are apart on some axis.
-fn apart(valid: ValidInstance, packing: Packing) -> bool
-    ensures { result ≡ apart_test (problem_of valid.instance) (positions_of packing) }
+fn apart(valid: &ValidInstance, packing: &Packing) -> bool
+    ensures { result ≡ apart_test (problem_of valid.now.instance) (positions_of packing.now) }
 {
-    let instance = valid.instance;
-    (0..instance.item_count).all(|u| apart_from_lower_items(&instance, &packing, u))
+    let instance = &valid.instance;
+    (0..instance.item_count).all(|u| apart_from_lower_items(instance, packing, u))
 }
 
 // A precedence is kept on t, with its lag.
@@ -66,20 +66,20 @@ fn is_kept(instance: &Instance, packing: &Packing, o: Precedence) -> bool
 }
 
 // Each precedence is kept on t, with its lag.
-fn ordered(valid: ValidInstance, packing: Packing) -> bool
-    ensures { result ≡ ordered_test (problem_of valid.instance) (positions_of packing) }
+fn ordered(valid: &ValidInstance, packing: &Packing) -> bool
+    ensures { result ≡ ordered_test (problem_of valid.now.instance) (positions_of packing.now) }
 {
-    let instance = valid.instance;
+    let instance = &valid.instance;
     instance
         .precedences
         .iter()
         .take(instance.precedence_count)
-        .all(|o| is_kept(&instance, &packing, *o))
+        .all(|o| is_kept(instance, packing, *o))
 }
 
 // All three.
-pub fn is_feasible(valid: ValidInstance, packing: Packing) -> bool
-    ensures { result ≡ feasible (problem_of valid.instance) (positions_of packing) }
+pub fn is_feasible(valid: &ValidInstance, packing: &Packing) -> bool
+    ensures { result ≡ feasible (problem_of valid.now.instance) (positions_of packing.now) }
 {
     inside(valid, packing) && apart(valid, packing) && ordered(valid, packing)
 }

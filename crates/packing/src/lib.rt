@@ -15,8 +15,8 @@ mod feasible;
 mod signed;
 
 // The instance with the items turned that the packing marks.
-fn turned_by(valid: ValidInstance, packing: Packing) -> Result<ValidInstance, Refusal>
-    ensures { TurnsMarked valid.instance packing.marks result }
+fn turned_by(valid: ValidInstance, packing: &Packing) -> Result<ValidInstance, Refusal>
+    ensures { TurnsMarked valid.instance packing.now.marks result }
 {
     if !turning::marks_allowed(valid.instance, packing.marks) {
         return Err(Refusal::BadMark);
@@ -30,9 +30,12 @@ pub fn check(instance: Instance, packing: Packing) -> Result<bool, Refusal>
     ensures value { result ≡ check_answer instance packing }
     ensures decides { Decides instance packing result }
 {
-    let valid = instance.validated()?;
-    let turned = turned_by(valid, packing)?;
-    Ok(feasible::is_feasible(turned, packing))
+    if !instance.is_valid() {
+        return Err(Refusal::InvalidInstance);
+    }
+    let valid = ValidInstance { instance };
+    let turned = turned_by(valid, &packing)?;
+    Ok(feasible::is_feasible(&turned, &packing))
 }
 
 // The clearance of the items u and v on an axis in modules, with the marked items turned: above 0 a gap, 0 touching, below 0 the overlap.
@@ -51,6 +54,6 @@ pub fn clearance(
         return Err(Refusal::BadItem(0));
     }
     let axis = Axis::try_from(axis)?;
-    let turned = turned_by(valid, packing)?;
+    let turned = turned_by(valid, &packing)?;
     Ok(signed::clearance_on(turned.instance, packing, u, v, axis))
 }

@@ -204,7 +204,7 @@ module _ {p : Problem} (sound : Sound p) {m : List ℕ} {s : List Snapshot} {kep
 
     -- the place of that number
     module _ (c : Place) (is : slot_coded x.code ≡ slot_of c) where
-      back-place : choice (path_domains p τ.to) ≡ slot_of c
+      pub back-place : choice (path_domains p τ.to) ≡ slot_of c
       back-place = back-code ∙ is
 
       pub back-pair : (c.u < c.v) × (c.v < 10)

@@ -8,12 +8,12 @@ use Rattle.packing.proofs.Loops.{within_limit, inside_by}
 use Rattle.packing.proofs.feasible.inside_on_axis.Goals as goal
 
 pub all-requires-clause-callable : goal.all-requires-clause-callable
-all-requires-clause-callable c = let few = items-few _ c.args.valid.is_valid in grind (serving, arith)
+all-requires-clause-callable c = let few = items-few _ c.args.valid.now.is_valid in grind (serving, arith)
 
 pub returns : goal.returns
 unfolding within_limit
 returns c =
     let a = c.args in
-    all_range _ (within_limit a.valid.instance.items a.packing.positions (axis_number a.axis) c.from-limit.result) a.valid.instance.item_count _ c.all.new.self _ _ refl
+    all_range _ (within_limit a.valid.now.instance.items a.packing.now.positions (axis_number a.axis) c.from-limit.result) a.valid.now.instance.item_count _ c.all.new.self _ _ refl
     (λ x b q h. search (rules, tests)) c.all.ensures.ran
     ∙ sym (inside_by _ _ _ (c.from-limit.ensures ∙ c.measure_of.ensures))

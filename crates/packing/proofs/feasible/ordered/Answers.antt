@@ -15,17 +15,17 @@ use Rattle.packing.proofs.feasible.ordered.Goals as goal
 
 pub all-requires-clause-callable : goal.all-requires-clause-callable
 all-requires-clause-callable c =
-    let i = c.args.valid.instance in
+    let i = c.args.valid.now.instance in
     serves_from_places (YieldsList-from_take i.precedence_count (YieldsList-from_slice i.precedences cc) cc) (λ x q k. search rules) (λ x k l e.
-    let named_items = named-taken 10 i.precedence_count i.precedences (named i c.args.valid.is_valid) x.now k l e in search rules)
+    let named_items = named-taken 10 i.precedence_count i.precedences (named i c.args.valid.now.is_valid) x.now k l e in search rules)
 
 pub returns : goal.returns
 returns c =
-    let i = c.args.valid.instance in
+    let i = c.args.valid.now.instance in
     let m = i.precedence_count in
     let long : length i.precedences ≡ 90 = search rules in
-    let few = (valid-says _ c.args.valid.is_valid).precedences-few in
-    let kept : Precedence → Bool = precedence_kept i.items c.args.packing.positions in
+    let few = (valid-says _ c.args.valid.now.is_valid).precedences-few in
+    let kept : Precedence → Bool = precedence_kept i.items c.args.packing.now.positions in
     let answer = cases_from_all c.all.new.self _ c.all.result (λ o. kept o ≡ true) (λ o. kept o ≡ false) c.all.ensures.ran
     (YieldsList-from_take m (YieldsList-from_slice i.precedences cc) cc) (λ x q k. search (rules, tests)) (λ x q k. search (rules, tests)) in
     all_answer kept _ m (precedences_of i) no_precedence _ answer (length-take-le m i.precedences (omega arith)) (λ k l. rw (get_or-take m i.precedences k no_precedence l))
