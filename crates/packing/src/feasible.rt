@@ -1,7 +1,7 @@
-// Whether a packing is feasible, by its three conditions.
+// The three conditions of a feasible packing.
 ghost use Rattle.sheet.specs.Sheet.{max_items};
 ghost use Rattle.std.specs.Prelude.{◌≡◌, ◌<◌};
-ghost use Rattle.model.specs.Problem.{inside_test, apart_on_some_axis, apart_test, ordered_test, feasible};
+ghost use Rattle.model.specs.Problem.{inside_test, apart_on_some_axis, apart_test, ordered_test};
 ghost use Rattle.instance.specs.Meaning.{problem_of, positions_of};
 ghost use Rattle.packing.specs.Axes.{axis_number};
 ghost use Rattle.packing.specs.Parts.{inside_on, apart_from_lower, precedence_kept};
@@ -21,7 +21,7 @@ fn inside_on_axis(valid: &ValidInstance, packing: &Packing, axis: Axis) -> bool
 }
 
 // On every axis every item ends within the container.
-fn inside(valid: &ValidInstance, packing: &Packing) -> bool
+pub fn inside(valid: &ValidInstance, packing: &Packing) -> bool
     ensures { result ≡ inside_test (problem_of valid.now.instance) (positions_of packing.now) }
 {
     Axis::ALL
@@ -48,7 +48,7 @@ fn apart_from_lower_items(instance: &Instance, packing: &Packing, u: usize) -> b
 }
 
 // Each two items are apart on some axis.
-fn apart(valid: &ValidInstance, packing: &Packing) -> bool
+pub fn apart(valid: &ValidInstance, packing: &Packing) -> bool
     ensures { result ≡ apart_test (problem_of valid.now.instance) (positions_of packing.now) }
 {
     let instance = &valid.instance;
@@ -66,7 +66,7 @@ fn is_kept(instance: &Instance, packing: &Packing, o: Precedence) -> bool
 }
 
 // Each precedence is kept on t, with its lag.
-fn ordered(valid: &ValidInstance, packing: &Packing) -> bool
+pub fn ordered(valid: &ValidInstance, packing: &Packing) -> bool
     ensures { result ≡ ordered_test (problem_of valid.now.instance) (positions_of packing.now) }
 {
     let instance = &valid.instance;
@@ -75,11 +75,4 @@ fn ordered(valid: &ValidInstance, packing: &Packing) -> bool
         .iter()
         .take(instance.precedence_count)
         .all(|o| is_kept(instance, packing, *o))
-}
-
-// All three.
-pub fn is_feasible(valid: &ValidInstance, packing: &Packing) -> bool
-    ensures { result ≡ feasible (problem_of valid.now.instance) (positions_of packing.now) }
-{
-    inside(valid, packing) && apart(valid, packing) && ordered(valid, packing)
 }

@@ -35,7 +35,10 @@ pub fn check(instance: Instance, packing: Packing) -> Result<bool, Refusal>
     }
     let valid = ValidInstance { instance };
     let turned = turned_by(valid, &packing)?;
-    Ok(feasible::is_feasible(&turned, &packing))
+    let fits = feasible::inside(&turned, &packing)
+        && feasible::apart(&turned, &packing)
+        && feasible::ordered(&turned, &packing);
+    Ok(fits)
 }
 
 // The clearance of the items u and v on an axis in modules, with the marked items turned: above 0 a gap, 0 touching, below 0 the overlap.
