@@ -39,9 +39,9 @@ returns-in_err-turned-clause-decides c = decides_by _ _ _ (returns-in_err-turned
 -- what the three conditions of the turned instance come to is the answer
 module _ (i : Instance) (q : Packing) (long : length i.items ≡ 10) (v : valid i ≡ true) {t : Instance}
     (marked : marks_allowed i q.marks ≡ true) (is : t ≡ turned_instance i q.marks) where
-  answered : {b : Bool} → b ≡ feasible (problem_of t) (positions_of q) → Ok b ≡ check_answer i q
+  by_conditions : {b : Bool} → b ≡ feasible (problem_of t) (positions_of q) → Ok b ≡ check_answer i q
   unfolding check_answer
-  answered e =
+  by_conditions e =
       let p : problem_of t ≡ turned_by i q = rw is (problem-turned _ long _) in
       rw (v, marked) (ap Ok (e ∙ rw p))
 
@@ -50,7 +50,7 @@ unfolding feasible
 returns-then-apart-clause-value c =
     let long : length c.args.instance.items ≡ 10 = search (length_mapped, c.well_formed) in
     let (marked, is) = c.in_ok-turned.ensures in
-    answered _ _ long (sym c.is_valid.ensures ∙ c.if-not-is_valid.false) marked is elim c.if-inside.branch [
+    by_conditions _ _ long (sym c.is_valid.ensures ∙ c.if-not-is_valid.false) marked is elim c.if-inside.branch [
       | then-inside w ↦ rw (← c.inside.ensures, ← w.apart.ensures, w.if-inside.true, sym w.value-is ∙ c.if-apart.true) c.ordered-fits.ensures
       | else-inside w ↦ absurd (clash c.if-apart.true (w.value-is ∙ w.if-inside.false))
     ]
@@ -63,7 +63,7 @@ unfolding feasible
 returns-else-apart-clause-value c =
     let long : length c.args.instance.items ≡ 10 = search (length_mapped, c.well_formed) in
     let (marked, is) = c.in_ok-turned.ensures in
-    answered _ _ long (sym c.is_valid.ensures ∙ c.if-not-is_valid.false) marked is elim c.if-inside.branch [
+    by_conditions _ _ long (sym c.is_valid.ensures ∙ c.if-not-is_valid.false) marked is elim c.if-inside.branch [
       | then-inside w ↦ rw (← c.inside.ensures, ← w.apart.ensures, w.if-inside.true, sym w.value-is ∙ c.if-apart.false) c.if-apart.false
       | else-inside w ↦ rw (← c.inside.ensures, w.if-inside.false) c.if-apart.false
     ]
