@@ -48,7 +48,7 @@ side_of zero = refl
 side_of (suc m) = rw (eqb-suc-zero m)
 
 -- a place and its number
-pub place_coded : (c : Place) {x : ℕ} → x ≡ pair_code c.axis c.u c.v → slot_coded x ≡ slot_of c
+pub place_coded : (c : Place) {x : ℕ} → pair_code c.axis c.u c.v ≡ x → slot_coded x ≡ slot_of c
 place_coded c {x} e =
     let a : x / 256 ≡ c.axis = omega (arith, e, c.proper.item_u, c.proper.item_v) in
     let u : x / 16 % 16 ≡ c.u = omega (arith, e, c.proper.item_u, c.proper.item_v) in

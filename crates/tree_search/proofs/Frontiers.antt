@@ -23,7 +23,8 @@ use Rattle.tree_paths.specs.declared.outlook.Outlook.{Outlook}
 use Rattle.tree_paths.specs.declared.outlook.Outlook.TheVariants.{Conflict, Complete, Fork}
 use Rattle.tree_paths.proofs.Checkpoints.{branches_length, branches_small, path_length}
 use Rattle.tree_paths.proofs.SearchState.{same_behind, fork_pair, fork_level, fork_depth, standing-next, at-next, BackTo, back_branches, back-infeasible}
-use Rattle.tree_paths.proofs.SearchState.{back_exists, back_level, back_below, back-seen, back-pair, back-behind, back-coded, back_branchable, standing-back, at-back}
+use Rattle.tree_paths.proofs.SearchState.{back_exists, back_level, back_below, back-seen, back-pair, back-behind, back-coded}
+use Rattle.tree_paths.proofs.SearchState.{back_branchable, standing-back, at-back}
 use Rattle.tree_search.specs.Frontiers.{Stands, Open, AtPath, seen_by, Shows, AtFork, WentOn, AtConflict, WentBack, AtRoot}
 use Rattle.tree_search.specs.declared.frontier.Frontier.{Frontier}
 use Rattle.tree_search.proofs.Stepping.{given_next}

@@ -47,7 +47,8 @@ pub follow-requires : goal.follow-requires
 follow-requires c =
     let i = c.args.valid.instance in
     let sound = valid-sound i c.args.valid.is_valid (search (length_mapped, c.well_formed)) in
-    (problem_of i, c.args.path.branches, at_root i sound c.args.path.bits c.args.root.now c.requires (length-replicate {A = Snapshot} 90 c.blank-snapshots.result) c.path_branches.ensures)
+    let long = length-replicate {A = Snapshot} 90 c.blank-snapshots.result in
+    (problem_of i, c.args.path.branches, at_root i sound c.args.path.bits c.args.root.now c.requires long c.path_branches.ensures)
 
 pub returns-then-not-follow : goal.returns-then-not-follow
 unfolding not_following

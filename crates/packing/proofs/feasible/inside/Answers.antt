@@ -16,4 +16,5 @@ returns c =
     let test : Axis → Bool = λ axis. inside_on (problem_of a.valid.now.instance) (positions_of a.packing.now) (axis_number axis) in
     let answer = cases_from_all c.all.new.self _ c.all.result (λ axis. test axis ≡ true) (λ axis. test axis ≡ false) c.all.ensures.ran
     (YieldsList-from_slice (X ∷ Y ∷ T ∷ []) cc) (λ x q k. search (rules, tests)) (λ x q k. search (rules, tests)) in
-    all_answer test _ 3 (X ∷ Y ∷ T ∷ []) X _ answer refl (numbered (inside_on (problem_of a.valid.now.instance) (positions_of a.packing.now))) ∙ sym (inside_loop _ _)
+    all_answer test _ 3 (X ∷ Y ∷ T ∷ []) X _ answer refl (numbered (inside_on (problem_of a.valid.now.instance) (positions_of a.packing.now)))
+    ∙ sym (inside_loop _ _)

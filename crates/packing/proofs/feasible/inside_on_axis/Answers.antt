@@ -14,6 +14,7 @@ pub returns : goal.returns
 unfolding within_limit
 returns c =
     let a = c.args in
-    all_range _ (within_limit a.valid.now.instance.items a.packing.now.positions (axis_number a.axis) c.from-limit.result) a.valid.now.instance.item_count _ c.all.new.self _ _ refl
+    let i = a.valid.now.instance in
+    all_range _ (within_limit i.items a.packing.now.positions (axis_number a.axis) c.from-limit.result) i.item_count _ c.all.new.self _ _ refl
     (λ x b q h. search (rules, tests)) c.all.ensures.ran
     ∙ sym (inside_by _ _ _ (c.from-limit.ensures ∙ c.measure_of.ensures))

@@ -1,6 +1,5 @@
 -- Where a branch is left, there is a snapshot to go back to; it is loaded, and the second branch taken.
 use Rattle.prelude.specs.Names.{arith}
-use Rattle.prelude.specs.Names.{sym}
 use Rattle.tree_paths.proofs.SearchState.{place_coded}
 use Rattle.tree_search.proofs.Frontiers.{branches_held, none_left, last_level, last_laid, last_tabled, last_coded, last_rises, last_branchable, went_back}
 use Rattle.tree_search.proofs.frontier.Frontier.go_back.Goals as goal
@@ -30,16 +29,20 @@ pub place_of-place-requires : goal.place_of-place-requires
 place_of-place-requires c = last_coded c.requires.2 c.back-self.ensures c.if-self-eq0.false _
 
 pub pair_number-self-requires : goal.pair_number-self-requires
-pair_number-self-requires c = last_rises c.requires.2 c.back-self.ensures c.if-self-eq0.false _ c.place_of-place.result (place_coded c.place_of-place.result (sym c.place_of-place.ensures))
+pair_number-self-requires c =
+    let p = c.place_of-place in
+    last_rises c.requires.2 c.back-self.ensures c.if-self-eq0.false _ p.result (place_coded p.result p.ensures)
 
 pub apply_branch-requires-clause-laid : goal.apply_branch-requires-clause-laid
 apply_branch-requires-clause-laid c = c.load.new.store.good.laid
 
 pub apply_branch-requires-clause-branchable : goal.apply_branch-requires-clause-branchable
 apply_branch-requires-clause-branchable c =
-    rw c.load.ensures.domains (last_branchable c.requires.2 c.back-self.ensures c.if-self-eq0.false _ c.place_of-place.result (place_coded c.place_of-place.result (sym c.place_of-place.ensures)))
+    let p = c.place_of-place in
+    rw c.load.ensures.domains (last_branchable c.requires.2 c.back-self.ensures c.if-self-eq0.false _ p.result (place_coded p.result p.ensures))
 
 pub returns : goal.returns
 returns c = λ p path h.
-    went_back h c.back-self.ensures c.if-self-eq0.false _ c.place_of-place.result (place_coded c.place_of-place.result (sym c.place_of-place.ensures)) c.load.new.store _ c.load.new.totals
+    let at = c.place_of-place in
+    went_back h c.back-self.ensures c.if-self-eq0.false _ at.result (place_coded at.result at.ensures) c.load.new.store _ c.load.new.totals
     c.load.ensures.domains c.load.ensures.totals c.apply_branch.ensures c.pair_number-self.ensures

@@ -1,5 +1,5 @@
 -- A branching point has a level and a branch to spare; what it shows is kept, and the branch taken.
-use Rattle.prelude.specs.Names.{arith}
+use Rattle.prelude.specs.Names.{arith, sym}
 use Rattle.tree_paths.proofs.SearchState.{place_coded}
 use Rattle.tree_search.proofs.Frontiers.{fork_room, fork_rises, fork_branchable, went_on}
 use Rattle.tree_search.proofs.frontier.Frontier.go_on.Goals as goal
@@ -31,4 +31,5 @@ apply_branch-requires-clause-branchable c = fork_branchable c.requires.2
 pub returns : goal.returns
 returns c = λ p path h.
     let e = c.save.ensures in
-    rw c.from.ensures (went_on h c.save.new.self e.domains e.rows e.totals (place_coded c.args.place e.code) _ c.apply_branch.ensures c.pair_number-self.ensures)
+    let coded = place_coded c.args.place (sym e.code) in
+    rw c.from.ensures (went_on h c.save.new.self e.domains e.rows e.totals coded _ c.apply_branch.ensures c.pair_number-self.ensures)
