@@ -10,6 +10,7 @@ use Rattle.instance.proofs.Readings.{was_read, was_refused}
 use Rattle.instance.proofs.RoundTrips as RoundTrips
 use Rattle.instance.proofs.Sheets.{valid-says}
 use Rattle.instance.specs.Answers.{read_result}
+use Rattle.instance.specs.Reads.{Full}
 use Rattle.instance.specs.Sheets.{decode}
 use Rattle.instance.specs.Valid.{valid}
 use Rattle.instance.specs.declared.Instance.{Instance}
@@ -33,6 +34,9 @@ yes_or_no true = refl
 module _ (s : List ℕ) {i : Instance} (e : Ok i ≡ read_result (decode s)) where
   pub read_valid : Bytes s → valid i ≡ true
   read_valid b = RoundTrips.read_valid s (was_read (decode s) (Ok i) e refl).was b
+
+  pub read_full : Bytes s → Full i
+  read_full b = RoundTrips.read_full s (was_read (decode s) (Ok i) e refl).was b
 
   pub read_few : Bytes s → i.item_count ≤ max_items
   read_few b = few_items i (read_valid b)

@@ -1,9 +1,9 @@
 -- Some relations of one pair are removed: what that leaves is the domains without them. What a branch removes is left, and so is another.
-use Rattle.std.specs.Prelude.{◌&&◌, ◌||◌, ◌⊎◌, ◌≡◌, ◌+◌, ◌*◌, ◌^◌, ◌≤◌, ◌<◌, Result, Ok, Err}
+use Rattle.std.specs.Prelude.{◌&&◌, ◌||◌, ◌⊎◌, ◌≢◌, ◌≡◌, ◌+◌, ◌*◌, ◌^◌, ◌≤◌, ◌<◌, Result, Ok, Err, is_ok}
 use Rattle.prelude.specs.Names.{Bool, true, false, not, false≢true, not-eq-not, not-not, List, inl, inr, refl, sym}
 use Rattle.prelude.specs.Names.{◌∙◌, ap, ℕ, ℕ_discrete, arith, bit_or, or_lt, eqb-true, eq-eqb}
 use Rattle.model.specs.Domains.{Domains, may_overlap, may_before, fix_overlap}
-use Rattle.model.specs.Branching.{undecided, branch_at}
+use Rattle.model.specs.Branching.{undecided, Branch, first, second, branch_at}
 use Rattle.model.specs.Order.{Proper, WellFormed, ◌⊑◌}
 use Rattle.model.specs.Relations.{gone, without, Filled}
 use Rattle.model.specs.Facts.{nothing, says}
@@ -22,7 +22,7 @@ use Rattle.domains.proofs.BitLaws.{bit-or, bit_power}
 use Rattle.domains.proofs.Mirror.{parts_same, row_first}
 use Rattle.domains.proofs.Narrowed.{narrowed-then, narrowed_as}
 use Rattle.domains.proofs.RemoveItems.{still_left}
-use Rattle.domains.proofs.RemoveOne.{still_gone}
+use Rattle.domains.proofs.RemoveOne.{still_gone, filled-without}
 
 -- of u and v on the axis a the relations of P are removed
 abbrev pub Lost : ℕ → ℕ → ℕ → (ℕ → Type 0) → Domains → Type 0
@@ -174,6 +174,50 @@ module _ {k : Domains} {rows : List ℕ} (laid : Laid k rows) (c : Place) where
     unfolding gone
     overlap-is = sym (not-not _) ∙ ap not (sym (is ∙ row_first laid.mirror c.proper.axis c.proper.item_u c.proper.item_v))
 
-    pub branched : (b : Bool) {q : List ℕ} {j : Domains} {rows' r : List ℕ}
+    pub branched-only : (b : Bool) {q : List ℕ} {j : Domains} {rows' r : List ℕ}
         → RemovedOnly (Lost c.axis c.u c.v (Removed apart b)) k (no_changes q) j rows' r → Branched k q c b j rows' r
-    branched b n = record { left = rw overlap-is (lost-is c (Removed apart b) (branch_taken apart b) n); grown = n.grown }
+    branched-only b n = record { left = rw overlap-is (lost-is c (Removed apart b) (branch_taken apart b) n); grown = n.grown }
+
+-- A branch of a pair with more than one relation left leaves every pair one
+branch_filled : {k : Domains} {a u v : ℕ} → WellFormed k → Filled k → Proper 10 a u v → undecided k a u v ≡ true
+    → (o : Bool) → may_overlap k a u v ≡ o → (b : Branch) → Filled (branch_at o b k a u v)
+unfolding undecided without fix_overlap gone
+branch_filled {k} {a} {u} {v} f full w h o e b = go o (may_before k a u v) (may_before k a v u) e refl refl (rw e at h) b
+  where
+    without_one : (x y : ℕ) → (x < 3) × (y < 3) × (y ≢ x) → gone k y a u v ≡ false → Filled (without k x a u v)
+    without_one x y (hx, hy, d) = filled-without f x a u v hx w full y hy d
+
+    go : (o x y : Bool) → may_overlap k a u v ≡ o → may_before k a u v ≡ x → may_before k a v u ≡ y → (o && (x || y) || x && y) ≡ true
+        → (b : Branch) → Filled (branch_at o b k a u v)
+    go true true y eo ex ey h first = without_one 0 1 (omega arith) (ap not ex)
+    go true false true eo ex ey h first = without_one 0 2 (omega arith) (ap not ey)
+    go true false false eo ex ey h first = absurd (false≢true h)
+    go true x y eo ex ey h second =
+        filled-without (without-well_formed k 2 a u v f) 1 a u v (omega arith) w (without_one 2 0 (omega arith) (ap not eo)) 0 (omega arith) (omega arith)
+        (still_gone f 2 a u v (omega arith) w 0 (omega arith) (omega arith) ∙ ap not eo)
+    go false true true eo ex ey h first = without_one 2 1 (omega arith) (ap not ex)
+    go false true true eo ex ey h second = without_one 1 2 (omega arith) (ap not ey)
+    go false true false eo ex ey h b = absurd (false≢true h)
+    go false false y eo ex ey h b = absurd (false≢true h)
+
+-- A branch whose relations are removed as one set: that is no conflict, and leaves what the branch does
+module _ {k : Domains} {rows : List ℕ} (laid : Laid k rows) {c : Place} (g : Branchable k c) where
+  -- the set, by whether the row has overlap removed
+  module _ (apart b : Bool) (is : apart ≡ bit_at (row_at rows c.axis c.u) c.v) {s : ℕ} (h : SetOf s c.v (Removed apart b)) where
+    overlap : may_overlap k c.axis c.u c.v ≡ not apart
+    overlap = overlap-is laid c apart is
+
+    full : Filled (branch_at (not apart) (branch_by b) k c.axis c.u c.v)
+    full = branch_filled laid.well_formed laid.filled c.proper g.several_left (not apart) overlap (branch_by b)
+
+    pub branch_ok : (q : List ℕ) (j : Domains) (rows' r : List ℕ) (o : Result (Unit {0}) Conflict)
+        → NarrowedIf (Asked c.axis c.u s) (All c.axis c.u s) k (no_changes q) j rows' r o → is_ok o ≡ true
+    branch_ok q j rows' r (Ok _) n = refl
+    branch_ok q j rows' r (Err e) n = absurd (exact c.proper (branch_taken laid c apart b) h (no_changes q) j rows' r (Err e) n full)
+
+    pub branched : (q : List ℕ) (j : Domains) (rows' r : List ℕ) (o : Result (Unit {0}) Conflict)
+        → NarrowedIf (Asked c.axis c.u s) (All c.axis c.u s) k (no_changes q) j rows' r o → Branched k q c b j rows' r
+    branched q j rows' r (Ok x) n =
+        let (e, grown) = exact c.proper (branch_taken laid c apart b) h (no_changes q) j rows' r (Ok x) n in
+        record { left = rw overlap e; grown = grown }
+    branched q j rows' r (Err e) n = absurd (exact c.proper (branch_taken laid c apart b) h (no_changes q) j rows' r (Err e) n full)

@@ -40,13 +40,21 @@ two-next at [] h = absurd (omega arith)
 two-next at (x ∷ []) h = absurd (omega arith)
 two-next at (x ∷ y ∷ rest) h = let e : at + 1 + 1 ≡ at + 2 = omega arith in rw (rest_of, e)
 
--- low byte first
+-- low byte first, one byte after the other
 pub word-run : (at : ℕ) (rest : List ℕ) → run word.reading at rest
-    ≡ after (run (pair byte byte).reading at rest) λ p at₂ rest₂. got (p.0 + 256 * p.1) at₂ rest₂
-unfolding word pair byte run ◌>>=◌
+    ≡ after (run byte.reading at rest) λ low at₁ rest₁. after (run byte.reading at₁ rest₁) λ high at₂ rest₂. got (low + 256 * high) at₂ rest₂
+unfolding word byte run
 word-run at [] = refl
 word-run at (x ∷ []) = refl
 word-run at (x ∷ y ∷ rest) = refl
+
+-- and both bytes at once
+pub word-two : (at : ℕ) (rest : List ℕ) → run word.reading at rest
+    ≡ after (run (pair byte byte).reading at rest) λ p at₂ rest₂. got (p.0 + 256 * p.1) at₂ rest₂
+unfolding word pair byte run ◌>>=◌
+word-two at [] = refl
+word-two at (x ∷ []) = refl
+word-two at (x ∷ y ∷ rest) = refl
 
 -- a value and its tests
 tested-run : {A : Type 0} (f : Format A) (tests : A → List Test) (at : ℕ) (rest : List ℕ) → run (tested f tests).reading at rest
@@ -110,13 +118,23 @@ pub item-run : (at : ℕ) (rest : List ℕ) → run item.reading at rest
 unfolding item item_fields measures with_map map_byte keyed testing fields fields_reading size_fields run
 item-run at rest = simp (run-then, tested-run, after_after, cond_after, turn_run)
 
+-- the two items one byte after the other
 pub precedence-run : (n : ℕ) (last : Option Precedence) (at : ℕ) (rest : List ℕ)
+    → read_as unlagged (run (tested precedence (precedence_tests n last)).reading at rest)
+    ≡ after (run byte.reading at rest) λ u at₁ rest₁. after (run byte.reading at₁ rest₁) λ v at₂ rest₂.
+    let a : Arc = record { predecessor = u; successor = v } in
+    cond (not (names_items n a)) (refused (BadItem at)) (cond (not (rises last a)) (refused (NotRising at)) (got (unlagged a) at₂ rest₂))
+unfolding precedence converted pair testing run
+precedence-run n last at rest = simp (tested-run, run-then, after_after, read_as_after, read_as-cond)
+
+-- and both at once
+pub precedence-two : (n : ℕ) (last : Option Precedence) (at : ℕ) (rest : List ℕ)
     → read_as unlagged (run (tested precedence (precedence_tests n last)).reading at rest)
     ≡ after (run (pair byte byte).reading at rest) λ p at₂ rest₂.
     let a : Arc = record { predecessor = p.0; successor = p.1 } in
     cond (not (names_items n a)) (refused (BadItem at)) (cond (not (rises last a)) (refused (NotRising at)) (got (unlagged a) at₂ rest₂))
 unfolding precedence converted testing run
-precedence-run n last at rest = simp (tested-run, run-then, after_after, read_as_after, read_as-cond)
+precedence-two n last at rest = simp (tested-run, run-then, after_after, read_as_after, read_as-cond)
 
 -- the lags are tested once they are all read
 pub lags-run : (m at : ℕ) (rest : List ℕ) → run (optional_reading (lag_list m) true) at rest
@@ -145,7 +163,7 @@ pub ruleset readings = (
   byte-next,
   two-none,
   two-next,
-  word-run,
+  word-two,
   number-run,
   number-left_out,
   byte_number-run,
@@ -155,7 +173,7 @@ pub ruleset readings = (
   measure-run,
   size-run,
   item-run,
-  precedence-run,
+  precedence-two,
   end-none,
   end-more,
 )

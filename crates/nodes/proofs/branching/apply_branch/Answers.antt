@@ -3,7 +3,7 @@ use Rattle.std.specs.Prelude.{◌≡◌}
 use Rattle.prelude.specs.Names.{true, false, arith}
 use Rattle.domains.specs.Queue.{no_changes, Good}
 use Rattle.domains.proofs.Rooms.{good_emptied}
-use Rattle.nodes.proofs.BranchRemovals.{lost_one, lost_more, overlap-stays, spare_overlap, spare_order, overlap-is, branched}
+use Rattle.nodes.proofs.BranchRemovals.{lost_one, lost_more, overlap-stays, spare_overlap, spare_order, overlap-is, branched-only}
 use Rattle.nodes.proofs.branching.apply_branch.Goals as goal
 use Rattle.nodes.proofs.branching.apply_branch.Goals.{After-has-apart}
 
@@ -48,21 +48,21 @@ remove_relation-requires-in-false-false c = record {
 
 pub returns-in-true-true : goal.returns-in-true-true
 returns-in-true-true c =
-    rw c.in-true-true.is-1 (branched c.requires.laid c.args.place true c.in-true-true.ensures true (lost_one c.args.place c.remove_relation.ensures))
+    rw c.in-true-true.is-1 (branched-only c.requires.laid c.args.place true c.in-true-true.ensures true (lost_one c.args.place c.remove_relation.ensures))
 
 pub returns-in-true-false : goal.returns-in-true-false
 returns-in-true-false c =
     rw c.in-true-false.is-1
-    (branched c.requires.laid c.args.place true c.in-true-false.ensures false (lost_one c.args.place c.remove_relation-in-true-false.ensures))
+    (branched-only c.requires.laid c.args.place true c.in-true-false.ensures false (lost_one c.args.place c.remove_relation-in-true-false.ensures))
 
 pub returns-in-false-true : goal.returns-in-false-true
 returns-in-false-true c =
     let good = emptied (goal.at.returns-in-false-true c).After-has-apart in
     rw c.in-false-true.is-1
-    (branched c.requires.laid c.args.place false c.in-false-true.ensures true
+    (branched-only c.requires.laid c.args.place false c.in-false-true.ensures true
     (lost_more c.args.place (λ y. y ≡ 1) good.least (lost_one c.args.place c.remove_order.ensures) c.remove_order-in-false-true.ensures))
 
 pub returns-in-false-false : goal.returns-in-false-false
 returns-in-false-false c =
     rw c.in-false-false.is-1
-    (branched c.requires.laid c.args.place false c.in-false-false.ensures false (lost_one c.args.place c.remove_relation-in-false-false.ensures))
+    (branched-only c.requires.laid c.args.place false c.in-false-false.ensures false (lost_one c.args.place c.remove_relation-in-false-false.ensures))
