@@ -1,5 +1,5 @@
 -- Some relations of one pair are removed: what that leaves is the domains without them. What a branch removes is left, and so is another.
-use Rattle.std.specs.Prelude.{◌&&◌, ◌||◌, ◌⊎◌, ◌≢◌, ◌≡◌, ◌+◌, ◌*◌, ◌^◌, ◌≤◌, ◌<◌, Result, Ok, Err, is_ok}
+use Rattle.std.specs.Prelude.{◌&&◌, ◌||◌, ◌⊎◌, ◌≡◌, ◌+◌, ◌*◌, ◌^◌, ◌≤◌, ◌<◌, Result, Ok, Err, is_ok}
 use Rattle.prelude.specs.Names.{Bool, true, false, not, false≢true, not-eq-not, not-not, List, inl, inr, refl, sym}
 use Rattle.prelude.specs.Names.{◌∙◌, ap, ℕ, ℕ_discrete, arith, bit_or, or_lt, eqb-true, eq-eqb}
 use Rattle.model.specs.Domains.{Domains, may_overlap, may_before, fix_overlap}
@@ -132,29 +132,31 @@ module _ (c : Place) {k : Domains} {q : List ℕ} {j : Domains} {rows r : List �
       sym (not-not _) ∙ ap not (still_left n rest (without_gone k x f c.proper) (without-less k x c.axis c.u c.v) 0 c.axis c.u c.v kept)
 
 -- Of a pair with more than one relation left, overlap is left and an order, or both orders are
-module _ {k : Domains} {c : Place} (g : Branchable k c) where
-  pub spare_overlap : may_overlap k c.axis c.u c.v ≡ true → Spare k 0 c.axis c.u c.v
+module _ {k : Domains} {a u v : ℕ} (several : undecided k a u v ≡ true) where
+  several_overlap : may_overlap k a u v ≡ true → Spare k 0 a u v
   unfolding undecided gone
-  spare_overlap o = go (may_before k c.axis c.u c.v) (may_before k c.axis c.v c.u) refl refl (rw o at g.several_left)
+  several_overlap o = go (may_before k a u v) (may_before k a v u) refl refl (rw o at several)
     where
-      go : (x y : Bool) → may_before k c.axis c.u c.v ≡ x → may_before k c.axis c.v c.u ≡ y → (true && (x || y) || x && y) ≡ true
-          → Spare k 0 c.axis c.u c.v
+      go : (x y : Bool) → may_before k a u v ≡ x → may_before k a v u ≡ y → (true && (x || y) || x && y) ≡ true → Spare k 0 a u v
       go true y ex ey e = record { left = ap not o; other = (1, omega arith, omega arith, ap not ex) }
       go false true ex ey e = record { left = ap not o; other = (2, omega arith, omega arith, ap not ey) }
       go false false ex ey e = absurd (false≢true e)
 
-  both_orders : may_overlap k c.axis c.u c.v ≡ false → (gone k 1 c.axis c.u c.v ≡ false) × (gone k 2 c.axis c.u c.v ≡ false)
+  several_order : may_overlap k a u v ≡ false → {x : ℕ} → (1 ≤ x) × (x < 3) → Spare k x a u v
   unfolding undecided gone
-  both_orders o =
-      let (p, q) = and_both (may_before k c.axis c.u c.v) (may_before k c.axis c.v c.u) (rw o at g.several_left) in (ap not p, ap not q)
+  several_order o {x} (low, high) =
+      let (p, q) = and_both (may_before k a u v) (may_before k a v u) (rw o at several) in
+      elim (ℕ_discrete x 1) [
+        | yes e ↦ rw e (record { left = ap not p; other = (2, omega arith, omega arith, ap not q) })
+        | no d ↦ let e : x ≡ 2 = omega arith in rw e (record { left = ap not q; other = (1, omega arith, omega arith, ap not p) })
+      ]
+
+module _ {k : Domains} {c : Place} (g : Branchable k c) where
+  pub spare_overlap : may_overlap k c.axis c.u c.v ≡ true → Spare k 0 c.axis c.u c.v
+  spare_overlap = several_overlap g.several_left
 
   pub spare_order : may_overlap k c.axis c.u c.v ≡ false → {x : ℕ} → (1 ≤ x) × (x < 3) → Spare k x c.axis c.u c.v
-  spare_order o {x} (low, high) =
-      let (p, q) = both_orders o in
-      elim (ℕ_discrete x 1) [
-        | yes e ↦ rw e (record { left = p; other = (2, omega arith, omega arith, q) })
-        | no d ↦ let e : x ≡ 2 = omega arith in rw e (record { left = q; other = (1, omega arith, omega arith, p) })
-      ]
+  spare_order = several_order g.several_left
 
 module _ {k : Domains} {rows : List ℕ} (laid : Laid k rows) (c : Place) where
   take_one : (x : ℕ) → Taken k c.axis c.u c.v (λ y. y ≡ x) (without k x c.axis c.u c.v)
@@ -181,24 +183,20 @@ module _ {k : Domains} {rows : List ℕ} (laid : Laid k rows) (c : Place) where
 -- A branch of a pair with more than one relation left leaves every pair one
 branch_filled : {k : Domains} {a u v : ℕ} → WellFormed k → Filled k → Proper 10 a u v → undecided k a u v ≡ true
     → (o : Bool) → may_overlap k a u v ≡ o → (b : Branch) → Filled (branch_at o b k a u v)
-unfolding undecided without fix_overlap gone
-branch_filled {k} {a} {u} {v} f full w h o e b = go o (may_before k a u v) (may_before k a v u) e refl refl (rw e at h) b
+unfolding without fix_overlap gone
+branch_filled {k} {a} {u} {v} f full w several o e b = go o b e
   where
-    without_one : (x y : ℕ) → (x < 3) × (y < 3) × (y ≢ x) → gone k y a u v ≡ false → Filled (without k x a u v)
-    without_one x y (hx, hy, d) = filled-without f x a u v hx w full y hy d
+    one_less : (x : ℕ) → x < 3 → Spare k x a u v → Filled (without k x a u v)
+    one_less x hx s = let (y, hy, ne, left) = s.other in filled-without f x a u v hx w full y hy ne left
 
-    go : (o x y : Bool) → may_overlap k a u v ≡ o → may_before k a u v ≡ x → may_before k a v u ≡ y → (o && (x || y) || x && y) ≡ true
-        → (b : Branch) → Filled (branch_at o b k a u v)
-    go true true y eo ex ey h first = without_one 0 1 (omega arith) (ap not ex)
-    go true false true eo ex ey h first = without_one 0 2 (omega arith) (ap not ey)
-    go true false false eo ex ey h first = absurd (false≢true h)
-    go true x y eo ex ey h second =
-        filled-without (without-well_formed k 2 a u v f) 1 a u v (omega arith) w (without_one 2 0 (omega arith) (ap not eo)) 0 (omega arith) (omega arith)
-        (still_gone f 2 a u v (omega arith) w 0 (omega arith) (omega arith) ∙ ap not eo)
-    go false true true eo ex ey h first = without_one 2 1 (omega arith) (ap not ex)
-    go false true true eo ex ey h second = without_one 1 2 (omega arith) (ap not ey)
-    go false true false eo ex ey h b = absurd (false≢true h)
-    go false false y eo ex ey h b = absurd (false≢true h)
+    go : (o : Bool) (b : Branch) → may_overlap k a u v ≡ o → Filled (branch_at o b k a u v)
+    go true first o = one_less 0 (omega arith) (several_overlap several o)
+    go true second o =
+        filled-without (without-well_formed k 2 a u v f) 1 a u v (omega arith) w
+        (filled-without f 2 a u v (omega arith) w full 0 (omega arith) (omega arith) (ap not o)) 0 (omega arith) (omega arith)
+        (still_gone f 2 a u v (omega arith) w 0 (omega arith) (omega arith) ∙ ap not o)
+    go false first o = one_less 2 (omega arith) (several_order several o (omega arith, omega arith))
+    go false second o = one_less 1 (omega arith) (several_order several o (omega arith, omega arith))
 
 -- A branch whose relations are removed as one set: that is no conflict, and leaves what the branch does
 module _ {k : Domains} {rows : List ℕ} (laid : Laid k rows) {c : Place} (g : Branchable k c) where

@@ -48,13 +48,16 @@ word-run at [] = refl
 word-run at (x ∷ []) = refl
 word-run at (x ∷ y ∷ rest) = refl
 
+-- one after the other, as a pair
+pair-run : {A B : Type 0} (f : Format A) (g : Format B) (at : ℕ) (rest : List ℕ) → run (pair f g).reading at rest
+    ≡ after (run f.reading at rest) λ x at₁ rest₁. after (run g.reading at₁ rest₁) λ y at₂ rest₂. got (x, y) at₂ rest₂
+unfolding pair run
+pair-run f g at rest = simp run-then
+
 -- and both bytes at once
 pub word-two : (at : ℕ) (rest : List ℕ) → run word.reading at rest
     ≡ after (run (pair byte byte).reading at rest) λ p at₂ rest₂. got (p.0 + 256 * p.1) at₂ rest₂
-unfolding word pair byte run ◌>>=◌
-word-two at [] = refl
-word-two at (x ∷ []) = refl
-word-two at (x ∷ y ∷ rest) = refl
+word-two at rest = word-run at rest ∙ simp (pair-run, after_after)
 
 -- a value and its tests
 tested-run : {A : Type 0} (f : Format A) (tests : A → List Test) (at : ℕ) (rest : List ℕ) → run (tested f tests).reading at rest
@@ -118,16 +121,7 @@ pub item-run : (at : ℕ) (rest : List ℕ) → run item.reading at rest
 unfolding item item_fields measures with_map map_byte keyed testing fields fields_reading size_fields run
 item-run at rest = simp (run-then, tested-run, after_after, cond_after, turn_run)
 
--- the two items one byte after the other
-pub precedence-run : (n : ℕ) (last : Option Precedence) (at : ℕ) (rest : List ℕ)
-    → read_as unlagged (run (tested precedence (precedence_tests n last)).reading at rest)
-    ≡ after (run byte.reading at rest) λ u at₁ rest₁. after (run byte.reading at₁ rest₁) λ v at₂ rest₂.
-    let a : Arc = record { predecessor = u; successor = v } in
-    cond (not (names_items n a)) (refused (BadItem at)) (cond (not (rises last a)) (refused (NotRising at)) (got (unlagged a) at₂ rest₂))
-unfolding precedence converted pair testing run
-precedence-run n last at rest = simp (tested-run, run-then, after_after, read_as_after, read_as-cond)
-
--- and both at once
+-- the two items at once
 pub precedence-two : (n : ℕ) (last : Option Precedence) (at : ℕ) (rest : List ℕ)
     → read_as unlagged (run (tested precedence (precedence_tests n last)).reading at rest)
     ≡ after (run (pair byte byte).reading at rest) λ p at₂ rest₂.
@@ -135,6 +129,14 @@ pub precedence-two : (n : ℕ) (last : Option Precedence) (at : ℕ) (rest : Lis
     cond (not (names_items n a)) (refused (BadItem at)) (cond (not (rises last a)) (refused (NotRising at)) (got (unlagged a) at₂ rest₂))
 unfolding precedence converted testing run
 precedence-two n last at rest = simp (tested-run, run-then, after_after, read_as_after, read_as-cond)
+
+-- and one byte after the other
+pub precedence-run : (n : ℕ) (last : Option Precedence) (at : ℕ) (rest : List ℕ)
+    → read_as unlagged (run (tested precedence (precedence_tests n last)).reading at rest)
+    ≡ after (run byte.reading at rest) λ u at₁ rest₁. after (run byte.reading at₁ rest₁) λ v at₂ rest₂.
+    let a : Arc = record { predecessor = u; successor = v } in
+    cond (not (names_items n a)) (refused (BadItem at)) (cond (not (rises last a)) (refused (NotRising at)) (got (unlagged a) at₂ rest₂))
+precedence-run n last at rest = precedence-two n last at rest ∙ simp (pair-run, after_after)
 
 -- the lags are tested once they are all read
 pub lags-run : (m at : ℕ) (rest : List ℕ) → run (optional_reading (lag_list m) true) at rest

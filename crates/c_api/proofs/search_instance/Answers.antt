@@ -1,6 +1,6 @@
 -- `c_api::search_instance` meets its contract.
 use Rattle.std.specs.Prelude.{◌≡◌}
-use Rattle.prelude.specs.Names.{true, sym, ap, ◌∙◌, length}
+use Rattle.prelude.specs.Names.{sym, ap, ◌∙◌, length}
 use Rattle.instance.proofs.Arrays.{length_mapped}
 use Rattle.instance.specs.declared.Checkpoint.{Checkpoint}
 use Rattle.search.specs.Results.{result_refused, search_result}
