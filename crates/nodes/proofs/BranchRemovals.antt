@@ -1,4 +1,5 @@
--- Some relations of one pair are removed: what that leaves is the domains without them. What a branch removes is left, and so is another.
+-- Some relations of one pair are removed: what that leaves is the domains without them. What a branch removes is left, and so is another:
+-- so a branch is no conflict, and leaves every pair a relation.
 use Rattle.std.specs.Prelude.{◌&&◌, ◌||◌, ◌⊎◌, ◌≡◌, ◌+◌, ◌*◌, ◌^◌, ◌≤◌, ◌<◌, Result, Ok, Err, is_ok}
 use Rattle.prelude.specs.Names.{Bool, true, false, not, false≢true, not-eq-not, not-not, List, inl, inr, refl, sym}
 use Rattle.prelude.specs.Names.{◌∙◌, ap, ℕ, ℕ_discrete, arith, bit_or, or_lt, eqb-true, eq-eqb}
@@ -151,6 +152,7 @@ module _ {k : Domains} {a u v : ℕ} (several : undecided k a u v ≡ true) wher
         | no d ↦ let e : x ≡ 2 = omega arith in rw e (record { left = ap not q; other = (1, omega arith, omega arith, ap not p) })
       ]
 
+-- .. the same at a place
 module _ {k : Domains} {c : Place} (g : Branchable k c) where
   pub spare_overlap : may_overlap k c.axis c.u c.v ≡ true → Spare k 0 c.axis c.u c.v
   spare_overlap = several_overlap g.several_left

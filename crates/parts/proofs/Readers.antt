@@ -40,7 +40,7 @@ two-next at [] h = absurd (omega arith)
 two-next at (x ∷ []) h = absurd (omega arith)
 two-next at (x ∷ y ∷ rest) h = let e : at + 1 + 1 ≡ at + 2 = omega arith in rw (rest_of, e)
 
--- low byte first, one byte after the other
+-- a word, low byte first: one byte after the other
 pub word-run : (at : ℕ) (rest : List ℕ) → run word.reading at rest
     ≡ after (run byte.reading at rest) λ low at₁ rest₁. after (run byte.reading at₁ rest₁) λ high at₂ rest₂. got (low + 256 * high) at₂ rest₂
 unfolding word byte run
@@ -48,13 +48,13 @@ word-run at [] = refl
 word-run at (x ∷ []) = refl
 word-run at (x ∷ y ∷ rest) = refl
 
--- one after the other, as a pair
+-- a pair is read one after the other
 pair-run : {A B : Type 0} (f : Format A) (g : Format B) (at : ℕ) (rest : List ℕ) → run (pair f g).reading at rest
     ≡ after (run f.reading at rest) λ x at₁ rest₁. after (run g.reading at₁ rest₁) λ y at₂ rest₂. got (x, y) at₂ rest₂
 unfolding pair run
 pair-run f g at rest = simp run-then
 
--- and both bytes at once
+-- a word again: both bytes at once
 pub word-two : (at : ℕ) (rest : List ℕ) → run word.reading at rest
     ≡ after (run (pair byte byte).reading at rest) λ p at₂ rest₂. got (p.0 + 256 * p.1) at₂ rest₂
 word-two at rest = word-run at rest ∙ simp (pair-run, after_after)
@@ -121,7 +121,7 @@ pub item-run : (at : ℕ) (rest : List ℕ) → run item.reading at rest
 unfolding item item_fields measures with_map map_byte keyed testing fields fields_reading size_fields run
 item-run at rest = simp (run-then, tested-run, after_after, cond_after, turn_run)
 
--- the two items at once
+-- a precedence: its two items at once
 pub precedence-two : (n : ℕ) (last : Option Precedence) (at : ℕ) (rest : List ℕ)
     → read_as unlagged (run (tested precedence (precedence_tests n last)).reading at rest)
     ≡ after (run (pair byte byte).reading at rest) λ p at₂ rest₂.
@@ -130,7 +130,7 @@ pub precedence-two : (n : ℕ) (last : Option Precedence) (at : ℕ) (rest : Lis
 unfolding precedence converted testing run
 precedence-two n last at rest = simp (tested-run, run-then, after_after, read_as_after, read_as-cond)
 
--- and one byte after the other
+-- a precedence again: one item after the other
 pub precedence-run : (n : ℕ) (last : Option Precedence) (at : ℕ) (rest : List ℕ)
     → read_as unlagged (run (tested precedence (precedence_tests n last)).reading at rest)
     ≡ after (run byte.reading at rest) λ u at₁ rest₁. after (run byte.reading at₁ rest₁) λ v at₂ rest₂.
